@@ -1,0 +1,91 @@
+-- What a Blob comes to: a refusal, or a reading. The answer and both lent slices at exit are functions of it.
+use Prim.Native.Nat.{ℕ}
+use mathlib.Core.Bool.{Bool, true, false, cond, not, _&&_}
+use mathlib.Core.List.{List, []}
+use mathlib.Core.Option.{Option, none, some}
+use lib.Dec.{ltb, eqb}
+use lib.ListN.{length}
+use Rattle.rules.specs.Bytes.{byte}
+use Rattle.rules.specs.Answer.{answer, refusal, noReading, tooLong, moreControls, moreProperties, badTable, longest}
+use Rattle.rules.specs.CodeTable.{layout, wellFormed}
+use Rattle.rules.specs.Tree.{Entries}
+use Rattle.rules.specs.Access2000.{Prop, streamOf}
+use Rattle.rules.specs.Reading.{Reading, properties, controlRows, propertyRows}
+use Rattle.rules.specs.Rows.{controlWidth, propertyWidth, room, written}
+use Rattle.rules.specs.Read2000.{read2000, Spot, spotsOf}
+use Rattle.rules.specs.ReadLater.{readLater}
+use Rattle.rules.specs.declared.Answer.{Answer}
+
+-- ---- which reading
+-- the later layout is "chosen when the first byte isn't the code table's layout byte, the empty stream included"
+unfoldable pub is2000 : List ℕ → List ℕ → Bool
+is2000 t s = ltb 0 (length s) && eqb (byte s 0) (layout t)
+
+abbrev pub readBy : List ℕ → List ℕ → Option (List Prop × Entries Prop) → Option Reading
+readBy t s none = none
+readBy t s (some x) = some (read2000 t s x)
+
+unfoldable pub readingOf : List ℕ → List ℕ → Option Reading
+readingOf t s = cond (is2000 t s) (readBy t s (streamOf s)) (some (readLater s))
+
+-- ---- the outcome
+pub data Outcome : Type 0 where
+  refused : Answer → Outcome
+  read : Reading → Outcome
+
+-- "controls, property rows, object's own rows"
+abbrev pub counted : ℕ → Reading → Answer
+counted number r = answer number (length (r .controls)) (length (properties r)) (length (r .own))
+
+-- 4 where there is no reading; then "more control rows needed than lent" and "more property rows needed than lent", counts "as needed"
+abbrev pub fit : ℕ → ℕ → Option Reading → Outcome
+fit controlRoom propertyRoom none = refused (refusal noReading)
+fit controlRoom propertyRoom (some r) =
+    cond (ltb controlRoom (length (r .controls))) (refused (counted moreControls r))
+    (cond (ltb propertyRoom (length (properties r))) (refused (counted moreProperties r))
+    (read r))
+
+-- "Order for a Blob: 5, 8, 4, 6, 7." Room is a number of rows
+unfoldable pub outcome : List ℕ → List ℕ → ℕ → ℕ → Outcome
+outcome t s controlRoom propertyRoom =
+    cond (ltb longest (length s)) (refused (refusal tooLong))
+    (cond (not (wellFormed t)) (refused (refusal badTable))
+    (fit controlRoom propertyRoom (readingOf t s)))
+
+-- ---- what is seen of it
+abbrev pub answerOf : Outcome → Answer
+answerOf (refused a) = a
+answerOf (read r) = counted 0 r
+
+-- "A refusal writes nothing."
+abbrev pub controlsShown : Outcome → List (List ℕ)
+controlsShown (refused a) = []
+controlsShown (read r) = controlRows r
+
+abbrev pub propertiesShown : Outcome → List (List ℕ)
+propertiesShown (refused a) = []
+propertiesShown (read r) = propertyRows r
+
+-- all that a caller sees, with the two lent slices
+pub record Exit : Type 0 where
+  pub answer : Answer
+  pub controls : List ℕ
+  pub properties : List ℕ
+
+abbrev pub exitBy : Outcome → List ℕ → List ℕ → Exit
+exitBy o controls properties = record {
+  answer = answerOf o;
+  controls = written (controlsShown o) controls;
+  properties = written (propertiesShown o) properties;
+}
+
+unfoldable pub exit : List ℕ → List ℕ → List ℕ → List ℕ → Exit
+exit t s controls properties = exitBy (outcome t s (room controlWidth controls) (room propertyWidth properties)) controls properties
+
+-- ---- which scope and stored property a property row speaks of, in an Access 2000 stream
+abbrev pub spotsIn : List ℕ → Option (List Prop × Entries Prop) → List Spot
+spotsIn s none = []
+spotsIn s (some x) = spotsOf s x
+
+unfoldable pub spots : List ℕ → List Spot
+spots s = spotsIn s (streamOf s)

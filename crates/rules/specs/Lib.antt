@@ -1,0 +1,23 @@
+-- Document 01 as definitions, a file for each of its sections.
+pub mod Lists
+pub mod Bytes
+pub mod Answer
+pub mod Utf16
+pub mod Value
+pub mod Digits
+pub mod Texts
+pub mod NameTables
+pub mod Names
+pub mod Rows
+pub mod TypeInfo
+pub mod CodeTable
+pub mod Tree
+pub mod Access2000
+pub mod Later
+pub mod Reading
+pub mod Read2000
+pub mod ReadLater
+pub mod Blob
+pub mod NamePart
+pub mod Listing
+pub mod Examples

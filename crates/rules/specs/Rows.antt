@@ -1,0 +1,28 @@
+-- Rows of numbers of 32 bits, put into lent slices.
+use Prim.Native.Nat.{ℕ, _*_, _/_}
+use mathlib.Core.List.{List}
+use lib.ListN.{length, take, drop}
+use lib.Seq.{sets}
+use Rattle.rules.specs.Lists.{concat}
+
+-- how many words a row has: "Control, six words"; "Property, six words"; "TypeInfo, four words"
+abbrev pub controlWidth : ℕ
+controlWidth = 6
+
+abbrev pub propertyWidth : ℕ
+propertyWidth = 6
+
+abbrev pub typeInfoWidth : ℕ
+typeInfoWidth = 4
+
+-- "Row room is the lent length divided by the row's words, rounded down."
+abbrev pub room : ℕ → List ℕ → ℕ
+room width lent = length lent / width
+
+-- a lent slice at exit: the rows from its start on. "rows beyond the count keep their old words"
+abbrev pub written : List (List ℕ) → List ℕ → List ℕ
+written rows old = sets old 0 (concat rows)
+
+-- row i of a slice
+abbrev pub rowAt : ℕ → ℕ → List ℕ → List ℕ
+rowAt width i words = take width (drop (i * width) words)
