@@ -1,0 +1,8 @@
+pub mod Claims
+pub mod Demand1
+pub mod Demand2
+pub mod Has
+pub mod Sound
+pub mod Complete
+pub mod Demand3
+pub mod OneResult

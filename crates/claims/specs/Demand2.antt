@@ -1,0 +1,48 @@
+-- Demand 2. With a well-formed code table and room enough, an Access 2000 stream is accepted exactly when its bytes from offset 10 are one
+-- property run and then one entry list, nothing left over, no entry deeper than level 255.
+use Prim.Native.Nat.{ℕ, _≤_}
+use mathlib.Core.Path.{_≡_}
+use mathlib.Core.Bool.{true}
+use mathlib.Core.List.{List}
+use mathlib.Core.Logic.{_↔_}
+use mathlib.Core.Option.{some}
+use lib.ListN.{length, drop}
+use Rattle.rules.specs.Bytes.{Bytes}
+use Rattle.rules.specs.Answer.{longest}
+use Rattle.rules.specs.CodeTable.{wellFormed}
+use Rattle.rules.specs.Rows.{controlWidth, propertyWidth, room}
+use Rattle.rules.specs.Reading.{Reading, properties}
+use Rattle.rules.specs.Blob.{Outcome, read, is2000, readingOf, outcome, exit}
+use Rattle.claims.specs.Grammar.{Stream, _spells_}
+use Rattle.claims.specs.Contents.{contents}
+
+-- a well-formed code table, and an Access 2000 stream of at most 16,777,216 bytes
+pub record Given (table stream : List ℕ) : Type 0 where
+  pub formed : wellFormed table ≡ true
+  pub old-layout : is2000 table stream ≡ true
+  pub not-long : length stream ≤ longest
+  pub bytes : Bytes stream
+
+-- room for whatever reading the stream has
+abbrev pub Enough : List ℕ → List ℕ → ℕ → ℕ → Type 0
+Enough table stream controlRoom propertyRoom =
+    (r : Reading) → readingOf table stream ≡ some r → (length (r .controls) ≤ controlRoom) × (length (properties r) ≤ propertyRoom)
+
+-- the bytes from offset 10 spell some run and list with no entry deeper than level 255
+abbrev pub Spelled : List ℕ → Type 0
+Spelled stream = (t : Stream) × (drop 10 stream spells t)
+
+pub record ExactlyWhen (table stream controls properties : List ℕ) : Type 0 where
+  -- answer 0 exactly when they are spelled so
+  pub accepted : (exit table stream controls properties .answer .number ≡ 0) ↔ Spelled stream
+  -- answer 4 exactly when they spell nothing
+  pub refused : (exit table stream controls properties .answer .number ≡ 4) ↔ (¬ Spelled stream)
+  -- the stream is read as what its bytes spell
+  pub read-as : (t : Stream) → (contents stream ≡ some t) ↔ (drop 10 stream spells t)
+
+pub record Demand2 : Type 0 where
+  pub exactly-when : (table stream controls properties : List ℕ) → Given table stream
+      → Enough table stream (room controlWidth controls) (room propertyWidth properties)
+      → ExactlyWhen table stream controls properties
+  -- bytes spell one tree at most
+  pub spelled-once : (a : List ℕ) (t u : Stream) → a spells t → a spells u → t ≡ u
