@@ -9,8 +9,7 @@ use Rattle.rules.specs.Reading.{Control, Reading, properties, nameWords,
 use Rattle.rules.specs.declared.Property.{Property}
 use Rattle.rules.specs.declared.Name.{Name}
 use Rattle.rules.specs.declared.Name.the-variants.{Text, Numbered, Loose}
-use Rattle.rules.proofs.ListLaws.{map-append}
-use Rattle.rules.proofs.RowsLaws.{Wide, put, put-append}
+use Rattle.rules.proofs.RowsLaws.{Wide}
 
 -- how many properties controls have together
 unfoldable pub total : List Control → ℕ
@@ -59,18 +58,3 @@ rows-append n first (c ∷ a) b =
     ap (λ l. controlRow n first c ∷ l)
     (rows-append (n + 1) (first + length (c .properties)) a b
     ∙ ap₂ (λ i j. controlRowsFrom (n + 1) (first + length (c .properties)) a ++ controlRowsFrom i j b) (omega arith) (omega arith))
-
-pub put-controls : (l : List ℕ) (n first : ℕ) (a b : List Control)
-    → put controlWidth l n (controlRowsFrom n first (a ++ b))
-    ≡ put controlWidth (put controlWidth l n (controlRowsFrom n first a)) (n + length a) (controlRowsFrom (n + length a) (first + total a) b)
-put-controls l n first a b =
-    ap (put controlWidth l n) (rows-append n first a b)
-    ∙ put-append controlWidth l n (controlRowsFrom n first a) _ (controls-wide n first a)
-    ∙ ap (λ k. put controlWidth (put controlWidth l n (controlRowsFrom n first a)) (n + k) (controlRowsFrom (n + length a) (first + total a) b)) (control-rows-many n first a)
-
-pub put-properties : (l : List ℕ) (k : ℕ) (a b : List Property)
-    → put propertyWidth l k (map propertyRow (a ++ b)) ≡ put propertyWidth (put propertyWidth l k (map propertyRow a)) (k + length a) (map propertyRow b)
-put-properties l k a b =
-    ap (put propertyWidth l k) (map-append propertyRow a b)
-    ∙ put-append propertyWidth l k (map propertyRow a) (map propertyRow b) (properties-wide a)
-    ∙ ap (λ n. put propertyWidth (put propertyWidth l k (map propertyRow a)) (k + n) (map propertyRow b)) (simp length-map)

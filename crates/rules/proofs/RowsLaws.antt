@@ -1,14 +1,13 @@
--- Rows put into a lent slice: in one go or in several, and what a reader of the slice finds there. One law for every width.
-use Prim.Native.Nat.{ℕ, zero, suc, _+_, _*_, _/_, _≤_, _<_}
+-- Rows put into a lent slice, and what a reader of the slice finds there. One law for every width.
+use Prim.Native.Nat.{ℕ, zero, suc, _+_, _*_, _≤_, _<_}
 use native.Mathlib.Omega.{arith}
-use native.Mathlib.Nat.{zero-add, zero-mul, add-comm, suc-mul, add-mul}
+use native.Mathlib.Nat.{zero-add, zero-mul, add-comm, suc-mul}
 use mathlib.Core.Path.{_≡_, refl, sym, ap, _∙_}
 use mathlib.Core.List.{List, [], _∷_, _++_, append-assoc}
 use lib.ListN.{length, getD, take, drop, length-append}
-use lib.Seq.{sets, sets-eq, length-sets, take-at, drop-at, drop-drop}
+use lib.Seq.{sets-eq, take-at, drop-at, drop-drop}
 use Rattle.rules.specs.Lists.{concat}
 use Rattle.rules.specs.Rows.{written, rowAt}
-use Rattle.rules.proofs.ListLaws.{concat-append, sets-append}
 
 -- every row has w words
 abbrev pub Wide : ℕ → List (List ℕ) → Type 0
@@ -26,31 +25,6 @@ pub words-in : (w : ℕ) (rows : List (List ℕ)) → Wide w rows → length (co
 unfolding concat
 words-in w [] h = omega arith
 words-in w (r ∷ rs) h = length-append r (concat rs) ∙ rw (h .0, words-in w rs (h .1)) (one-more (length rs) w)
-
--- ---- in several goes
--- rows of w words, put from row k on
-unfoldable pub put : ℕ → List ℕ → ℕ → List (List ℕ) → List ℕ
-put w l k rows = sets l (k * w) (concat rows)
-
-pub put-length : (w : ℕ) (l : List ℕ) (k : ℕ) (rows : List (List ℕ)) → length (put w l k rows) ≡ length l
-unfolding put
-put-length w l k rows = length-sets l (k * w) (concat rows)
-
-pub put-none : (w : ℕ) (l : List ℕ) (k : ℕ) → put w l k [] ≡ l
-unfolding put concat
-put-none w l k = refl
-
-pub put-append : (w : ℕ) (l : List ℕ) (k : ℕ) (a b : List (List ℕ)) → Wide w a → put w l k (a ++ b) ≡ put w (put w l k a) (k + length a) b
-unfolding put
-put-append w l k a b h =
-    ap (sets l (k * w)) (concat-append a b)
-    ∙ sets-append l (k * w) (concat a) (concat b)
-    ∙ ap (λ i. sets (sets l (k * w) (concat a)) i (concat b)) (ap (λ n. k * w + n) (words-in w a h) ∙ sym (add-mul k (length a) w))
-
--- all rows, from the slice's start on
-pub written-put : (w : ℕ) (l : List ℕ) (rows : List (List ℕ)) → written rows l ≡ put w l 0 rows
-unfolding put
-written-put w l rows = rw (zero-mul w)
 
 -- ---- what a reader of the slice finds
 module _ (w : ℕ) (rows : List (List ℕ)) (wide : Wide w rows) (old : List ℕ) (fits : length rows * w ≤ length old) where

@@ -1,0 +1,4 @@
+-- Laws for whoever writes rows in a loop or by recursion.
+pub mod PutLaws
+pub mod WritingLaws
+pub mod CountingLaws

@@ -1,0 +1,68 @@
+// Rows of words put into a lent slice. Every other word keeps its value.
+use rules::Property;
+ghost use mathlib.Core.Path.{_≡_};
+ghost use mathlib.Core.List.{[], _∷_};
+ghost use Prim.Native.Nat.{_+_, _*_, _≤_};
+ghost use lib.ListN.{length};
+ghost use Rattle.rules.specs.Rows.{controlWidth, propertyWidth, typeInfoWidth};
+ghost use Rattle.rules.specs.Reading.{propertyRow};
+ghost use Rattle.rows.specs.Put.{put, controlWords, infoWords};
+
+// The words of a control's row.
+pub struct ControlRow {
+    pub type_code: u32,
+    pub mark: u32,
+    pub start: u32,
+    pub size: u32,
+    pub first: u32,
+    pub count: u32,
+}
+
+// The words of a TypeInfo row.
+pub struct InfoRow {
+    pub type_code: u32,
+    pub index: u32,
+    pub start: u32,
+    pub size: u32,
+}
+
+// Writes row `at` of the control rows.
+pub fn put_control(rows: &mut [u32], at: usize, row: ControlRow)
+    requires { ⌜ at * controlWidth + controlWidth ≤ length (now rows) ⌝ }
+    ensures { λ _. ⌜ now (rows .exit) ≡ put controlWidth (now (rows .entry)) at (controlWords row ∷ []) ⌝ }
+{
+    let k = at * 6;
+    rows[k] = row.type_code;
+    rows[k + 1] = row.mark;
+    rows[k + 2] = row.start;
+    rows[k + 3] = row.size;
+    rows[k + 4] = row.first;
+    rows[k + 5] = row.count;
+}
+
+// Writes row `at` of the property rows.
+pub fn put_property(rows: &mut [u32], at: usize, p: Property)
+    requires { ⌜ at * propertyWidth + propertyWidth ≤ length (now rows) ⌝ }
+    ensures { λ _. ⌜ now (rows .exit) ≡ put propertyWidth (now (rows .entry)) at (propertyRow p ∷ []) ⌝ }
+{
+    let k = at * 6;
+    let v = p.value;
+    rows[k] = p.id;
+    rows[k + 1] = v.mark;
+    rows[k + 2] = v.low;
+    rows[k + 3] = v.high;
+    rows[k + 4] = p.start;
+    rows[k + 5] = p.size;
+}
+
+// Writes row `at` of the TypeInfo rows.
+pub fn put_info(rows: &mut [u32], at: usize, row: InfoRow)
+    requires { ⌜ at * typeInfoWidth + typeInfoWidth ≤ length (now rows) ⌝ }
+    ensures { λ _. ⌜ now (rows .exit) ≡ put typeInfoWidth (now (rows .entry)) at (infoWords row ∷ []) ⌝ }
+{
+    let k = at * 4;
+    rows[k] = row.type_code;
+    rows[k + 1] = row.index;
+    rows[k + 2] = row.start;
+    rows[k + 3] = row.size;
+}
