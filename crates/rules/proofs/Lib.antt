@@ -1,6 +1,7 @@
 -- Laws about the definitions of specs/, for the crates above.
 pub mod Open
 pub mod Examples
+pub mod Worked
 pub mod ListLaws
 pub mod CodeTableLaws
 pub mod RowsLaws
