@@ -1,0 +1,55 @@
+use mathlib.Core.Path.{_≡_, sym, ap, _∙_}
+use Prim.Native.Nat.{ℕ}
+use borrow.Author.Needs.{needs}
+use mir.Syntax.{w32}
+use mir.Val.{toZ, ofZ}
+use mir.Facts.{toZ-ofZ}
+use Rattle.rules.specs.Value.{value, integerValue, word32}
+use Rattle.leaf.proofs.Values.{missing-long, long-is}
+use Rattle.leaf.proofs.long_value.Statement.{statement}
+use Rattle.leaf.proofs.long_value.Tie as tie
+
+-- v is a number of 32 bits, so it is read back as it is
+v-is : (c : tie.After-known-told) → toZ w32 (ofZ w32 (c .before .v .given .0 .0)) ≡ c .before .v .given .0 .0
+v-is c = toZ-ofZ {w = w32} (search needs)
+
+integer-value-requires : tie.Need-integer-value-requires
+integer-value-requires c κs = search needs
+
+enum-known-v : tie.Need-enum-known-v
+enum-known-v c = search needs
+
+enum-told : tie.Need-enum-told
+enum-told c = search needs
+
+valued-requires : tie.Need-valued-requires
+valued-requires c κs = search needs
+
+returns : tie.Need-returns
+returns c = c .valued .ensures ∙ missing-long (integerValue (c .before .before .before .before .before .args .bytes .now)) (sym (c .before .before .before .integer-value .ensures) ∙ c .before .enum-told .given .1)
+
+word-of-requires : tie.Need-word-of-requires
+word-of-requires c κs = search needs
+
+valued-requires-2 : tie.Need-valued-requires-2
+valued-requires-2 c κs = search needs
+
+returns-2 : tie.Need-returns-2
+returns-2 c =
+    let z = c .before .before .before .v .given .0 .0 in
+    c .valued2 .ensures
+    ∙ ap (λ (n : ℕ). value 3 n 0) (c .before .word-of .ensures ∙ ap word32 (v-is (c .before .before)))
+    ∙ long-is (integerValue (c .before .before .before .before .before .before .before .args .bytes .now)) z (sym (c .before .before .before .before .before .integer-value .ensures) ∙ c .before .before .before .v .given .1)
+
+pub long-value-spec : {M : Type 1} → statement M
+long-value-spec =
+    tie.close
+    (tie.spec
+    integer-value-requires
+    enum-known-v
+    enum-told
+    valued-requires
+    returns
+    word-of-requires
+    valued-requires-2
+    returns-2)

@@ -1,0 +1,96 @@
+use mathlib.Core.Path.{_≡_, sym, ap, subst, _∙_}
+use Prim.Native.Nat.{_<_, ℕ}
+use native.Mathlib.Omega.{arith}
+use borrow.Author.Needs.{needs}
+use lib.Signed.{mag}
+use mir.Syntax.{w16, w32}
+use mir.Val.{SFits, toZ, ofZ}
+use mir.Facts.{toZ-ofZ}
+use Rattle.rules.specs.Value.{value, integerValue, word32}
+use Rattle.leaf.specs.Int.{shortOf}
+use Rattle.leaf.proofs.Values.{missing-short, too-long, short-fits}
+use Rattle.leaf.proofs.short_value.Statement.{statement}
+use Rattle.leaf.proofs.short_value.Tie as tie
+
+-- v is a number of 32 bits, so it is read back as it is
+v-is : (c : tie.After-known-told) → toZ w32 (ofZ w32 (c .before .v .given .0 .0)) ≡ c .before .v .given .0 .0
+v-is c = toZ-ofZ {w = w32} (search needs)
+
+n-is : (c : tie.After-known-told2) → toZ w16 (ofZ w16 (c .before .n .given .0 .0)) ≡ c .before .n .given .0 .0
+n-is c = toZ-ofZ {w = w16} (search needs)
+
+n-fits : (c : tie.After-known-told2) → SFits w32 (toZ w16 (ofZ w16 (c .before .n .given .0 .0)))
+n-fits c =
+    let h : mag (c .before .n .given .0 .0) < 32768 = search needs in
+    subst (SFits w32) (sym (n-is c)) (record { sfits = omega arith })
+
+integer-value-requires : tie.Need-integer-value-requires
+integer-value-requires c κs = search needs
+
+enum-known-v : tie.Need-enum-known-v
+enum-known-v c = search needs
+
+enum-told : tie.Need-enum-told
+enum-told c = search needs
+
+valued-requires : tie.Need-valued-requires
+valued-requires c κs = search needs
+
+returns : tie.Need-returns
+returns c = c .valued .ensures ∙ missing-short (integerValue (c .before .before .before .before .before .args .bytes .now)) (sym (c .before .before .before .integer-value .ensures) ∙ c .before .enum-told .given .1)
+
+short-of-requires : tie.Need-short-of-requires
+short-of-requires c κs = search needs
+
+enum-known-n : tie.Need-enum-known-n
+enum-known-n c = search needs
+
+enum-told-2 : tie.Need-enum-told-2
+enum-told-2 c = search needs
+
+valued-requires-2 : tie.Need-valued-requires-2
+valued-requires-2 c κs = search needs
+
+returns-2 : tie.Need-returns-2
+returns-2 c =
+    let z = c .before .before .before .before .before .v .given .0 .0 in
+    c .valued2 .ensures
+    ∙ too-long (integerValue (c .before .before .before .before .before .before .before .before .before .args .bytes .now)) z (sym (c .before .before .before .before .before .before .before .integer-value .ensures) ∙ c .before .before .before .before .before .v .given .1)
+    (ap shortOf (sym (v-is (c .before .before .before .before))) ∙ sym (c .before .before .before .short-of .ensures) ∙ c .before .enum-told2 .given .1)
+
+cast-word-of : tie.Need-cast-word-of
+cast-word-of c = n-fits c
+
+word-of-requires : tie.Need-word-of-requires
+word-of-requires c κs = search needs
+
+valued-requires-3 : tie.Need-valued-requires-3
+valued-requires-3 c κs = search needs
+
+returns-3 : tie.Need-returns-3
+returns-3 c =
+    let z = c .before .before .before .before .before .before .before .v .given .0 .0 in
+    let x = c .before .before .before .n .given .0 .0 in
+    c .valued3 .ensures
+    ∙ ap (λ (n : ℕ). value 2 n 0) (c .before .word-of .ensures ∙ ap word32 (toZ-ofZ {w = w32} (n-fits (c .before .before)) ∙ n-is (c .before .before)))
+    ∙ short-fits (integerValue (c .before .before .before .before .before .before .before .before .before .before .before .args .bytes .now)) z x (sym (c .before .before .before .before .before .before .before .before .before .integer-value .ensures) ∙ c .before .before .before .before .before .before .before .v .given .1)
+    (ap shortOf (sym (v-is (c .before .before .before .before .before .before))) ∙ sym (c .before .before .before .before .before .short-of .ensures) ∙ c .before .before .before .n .given .1)
+
+pub short-value-spec : {M : Type 1} → statement M
+short-value-spec =
+    tie.close
+    (tie.spec
+    integer-value-requires
+    enum-known-v
+    enum-told
+    valued-requires
+    returns
+    short-of-requires
+    enum-known-n
+    enum-told-2
+    valued-requires-2
+    returns-2
+    cast-word-of
+    word-of-requires
+    valued-requires-3
+    returns-3)

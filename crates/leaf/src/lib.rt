@@ -1,0 +1,338 @@
+// The leaves: numbers out of bytes, and a property's value. A read past the end is 0, so every function has an answer for every input.
+use rules::Value;
+ghost use mathlib.Core.Path.{_≡_};
+ghost use mathlib.Core.Bool.{cond};
+ghost use Prim.Native.Nat.{_+_, _*_};
+ghost use lib.Ieee.{binary32, binary64, ofBits};
+ghost use Rattle.rules.specs.Bytes.{byte, u16, u32};
+ghost use Rattle.rules.specs.Utf16.{isUtf16, isHigh, isLow};
+ghost use Rattle.rules.specs.Value.{value, signed, word32, integerValue, widened, widenedNan, textValue, longOr, shortOr, boolValue, binaryValue, yesNoValue, entryValue, storedValue, valueAs};
+ghost use Rattle.leaf.specs.Int.{intOf, shortOf};
+ghost use Rattle.leaf.specs.Wide.{wordsOf, bitsOf};
+ghost use Rattle.leaf.specs.Parts.{singleOrBinary, doubleOrBinary, guidOrBinary};
+
+// ---- bytes
+pub fn byte_at(s: &[u8], at: usize) -> u8
+    ensures { λ r. ⌜ r ≡ byte (now (s .entry)) at ⌝ }
+{
+    if at < s.len() { s[at] } else { 0 }
+}
+
+fn of_two(low: u8, high: u8) -> u16
+    ensures { λ r. ⌜ r ≡ low + 256 * high ⌝ }
+{
+    (low as u16) + 256 * (high as u16)
+}
+
+fn of_four(low: u16, high: u16) -> u32
+    ensures { λ r. ⌜ r ≡ low + 65536 * high ⌝ }
+{
+    (low as u32) + 65536 * (high as u32)
+}
+
+pub fn u16_at(s: &[u8], at: usize) -> u16
+    ensures { λ r. ⌜ r ≡ u16 (now (s .entry)) at ⌝ }
+{
+    if at < s.len() {
+        of_two(byte_at(s, at), byte_at(s, at + 1))
+    } else {
+        0
+    }
+}
+
+// The upper half is 0 where it starts past the end: only there could `at + 2` wrap.
+pub fn u32_at(s: &[u8], at: usize) -> u32
+    ensures { λ r. ⌜ r ≡ u32 (now (s .entry)) at ⌝ }
+{
+    if s.len() <= 2 {
+        return of_four(u16_at(s, at), 0);
+    }
+    if s.len() - 2 <= at {
+        return of_four(u16_at(s, at), 0);
+    }
+    of_four(u16_at(s, at), u16_at(s, at + 2))
+}
+
+// ---- whole numbers
+pub enum Int {
+    Of(i32),
+    Nothing,
+}
+
+pub enum Short {
+    Fits(i16),
+    Not,
+}
+
+pub fn signed16(n: u16) -> i32
+    ensures { λ r. ⌜ r ≡ signed 0x8000 n ⌝ }
+{
+    if n < 0x8000 {
+        n as i32
+    } else {
+        -1 - ((0xffff - n) as i32)
+    }
+}
+
+pub fn signed32(n: u32) -> i32
+    ensures { λ r. ⌜ r ≡ signed 0x80000000 n ⌝ }
+{
+    if n < 0x8000_0000 {
+        n as i32
+    } else {
+        -1 - ((0xffff_ffff - n) as i32)
+    }
+}
+
+// The 32 bits of a number, in two's complement.
+pub fn word_of(v: i32) -> u32
+    ensures { λ r. ⌜ r ≡ word32 v ⌝ }
+{
+    if v < 0 {
+        0xffff_ffff - ((-1 - v) as u32)
+    } else {
+        v as u32
+    }
+}
+
+pub fn short_of(v: i32) -> Short
+    ensures { λ r. ⌜ r ≡ shortOf v ⌝ }
+{
+    if v < -32768 {
+        return Short::Not;
+    }
+    if v > 32767 {
+        return Short::Not;
+    }
+    Short::Fits(v as i16)
+}
+
+pub fn integer_value(bytes: &[u8]) -> Int
+    ensures { λ r. ⌜ r ≡ intOf (integerValue (now (bytes .entry))) ⌝ }
+{
+    if bytes.len() == 1 {
+        return Int::Of(byte_at(bytes, 0) as i32);
+    }
+    if bytes.len() == 2 {
+        return Int::Of(signed16(u16_at(bytes, 0)));
+    }
+    if bytes.len() == 4 {
+        return Int::Of(signed32(u32_at(bytes, 0)));
+    }
+    Int::Nothing
+}
+
+// ---- fractions
+pub struct Wide {
+    pub low: u32,
+    pub high: u32,
+}
+
+// A NaN keeps its sign and fraction; the OR sets the fraction's top bit, whatever it was.
+fn widen_nan(low: u32) -> u64
+    ensures { λ r. ⌜ r ≡ widenedNan low ⌝ }
+{
+    let b = low as u64;
+    let sign = (b >> 31) << 63;
+    let fraction = ((b % 0x80_0000) << 29) | 0x8_0000_0000_0000;
+    sign + 0x7ff0_0000_0000_0000 + fraction
+}
+
+fn widen_bits(low: u32) -> u64
+    ensures { λ r. ⌜ r ≡ widened low ⌝ }
+{
+    if 0x7f80_0000 < low % 0x8000_0000 {
+        widen_nan(low)
+    } else {
+        let x = f32::from_bits(low);
+        f64::to_bits(x as f64)
+    }
+}
+
+// The double of a single: its bits, and that nothing is rounded.
+pub fn widen(low: u32) -> Wide
+    ensures { λ r. ⌜ r ≡ wordsOf (widened low) ⌝ }
+    ensures exact { λ r. ⌜ ofBits binary64 (bitsOf r) ≡ ofBits binary32 low ⌝ }
+{
+    let w = widen_bits(low);
+    Wide {
+        low: (w % 0x1_0000_0000) as u32,
+        high: (w / 0x1_0000_0000) as u32,
+    }
+}
+
+// ---- text
+fn is_high(u: u16) -> bool
+    ensures { λ r. ⌜ r ≡ isHigh u ⌝ }
+{
+    if u < 0xd800 { false } else { u < 0xdc00 }
+}
+
+fn is_low(u: u16) -> bool
+    ensures { λ r. ⌜ r ≡ isLow u ⌝ }
+{
+    if u < 0xdc00 { false } else { u < 0xe000 }
+}
+
+// Whether bytes are UTF-16: a low surrogate stands right behind a high one (`pending`), and nowhere else.
+pub fn is_utf16(bytes: &[u8]) -> bool
+    ensures { λ r. ⌜ r ≡ isUtf16 (now (bytes .entry)) ⌝ }
+{
+    let mut i = 0;
+    let mut pending = false;
+    while 1 < bytes.len() - i {
+        let u = u16_at(bytes, i);
+        if is_low(u) != pending {
+            return false;
+        }
+        pending = is_high(u);
+        i += 2;
+    }
+    if i < bytes.len() {
+        return false;
+    }
+    !pending
+}
+
+// ---- values
+fn valued(mark: u32, low: u32, high: u32) -> Value
+    ensures { λ r. ⌜ r ≡ value mark low high ⌝ }
+{
+    Value { mark, low, high }
+}
+
+fn bool_value(b: u8) -> Value
+    ensures { λ r. ⌜ r ≡ boolValue b ⌝ }
+{
+    if b == 0 {
+        valued(0, 0, 0)
+    } else {
+        valued(0, 1, 0)
+    }
+}
+
+fn long_value(bytes: &[u8]) -> Value
+    ensures { λ r. ⌜ r ≡ longOr binaryValue (integerValue (now (bytes .entry))) ⌝ }
+{
+    let Int::Of(v) = integer_value(bytes) else {
+        return valued(7, 0, 0);
+    };
+    valued(3, word_of(v), 0)
+}
+
+fn short_value(bytes: &[u8]) -> Value
+    ensures { λ r. ⌜ r ≡ shortOr binaryValue (integerValue (now (bytes .entry))) ⌝ }
+{
+    let Int::Of(v) = integer_value(bytes) else {
+        return valued(7, 0, 0);
+    };
+    let Short::Fits(n) = short_of(v) else {
+        return valued(7, 0, 0);
+    };
+    valued(2, word_of(n as i32), 0)
+}
+
+fn single_value(bytes: &[u8]) -> Value
+    ensures { λ r. ⌜ r ≡ singleOrBinary (now (bytes .entry)) ⌝ }
+{
+    if bytes.len() == 4 {
+        let w = widen(u32_at(bytes, 0));
+        valued(4, w.low, w.high)
+    } else {
+        valued(7, 0, 0)
+    }
+}
+
+fn double_value(bytes: &[u8]) -> Value
+    ensures { λ r. ⌜ r ≡ doubleOrBinary (now (bytes .entry)) ⌝ }
+{
+    if bytes.len() == 8 {
+        valued(4, u32_at(bytes, 0), u32_at(bytes, 4))
+    } else {
+        valued(7, 0, 0)
+    }
+}
+
+fn guid_value(bytes: &[u8]) -> Value
+    ensures { λ r. ⌜ r ≡ guidOrBinary (now (bytes .entry)) ⌝ }
+{
+    if bytes.len() == 16 {
+        valued(5, 0, 0)
+    } else {
+        valued(7, 0, 0)
+    }
+}
+
+// Text, or what is shown where the bytes aren't UTF-16.
+fn text_or(bytes: &[u8], other: u32) -> Value
+    ensures { λ r. ⌜ r ≡ cond (isUtf16 (now (bytes .entry))) (value 6 0 0) (value other 0 0) ⌝ }
+{
+    if is_utf16(bytes) {
+        valued(6, 0, 0)
+    } else {
+        valued(other, 0, 0)
+    }
+}
+
+// ---- the later layout
+pub fn yes_no_value(bytes: &[u8]) -> Value
+    ensures { λ r. ⌜ r ≡ yesNoValue (now (bytes .entry)) ⌝ }
+{
+    if bytes.len() == 0 {
+        return valued(1, 0, 0);
+    }
+    if bytes.len() == 1 {
+        return bool_value(byte_at(bytes, 0));
+    }
+    long_value(bytes)
+}
+
+pub fn entry_value(type_code: u32, bytes: &[u8]) -> Value
+    ensures { λ r. ⌜ r ≡ entryValue «type_code» (now (bytes .entry)) ⌝ }
+{
+    match type_code {
+        0x01 => yes_no_value(bytes),
+        0x02 => short_value(bytes),
+        0x03 => long_value(bytes),
+        0x04 => long_value(bytes),
+        0x06 => single_value(bytes),
+        0x08 => double_value(bytes),
+        0x09 => guid_value(bytes),
+        0x0a | 0x0c => text_or(bytes, 8),
+        _ => valued(7, 0, 0),
+    }
+}
+
+// ---- the Access 2000 layout
+pub fn stored_value(id: u8, bytes: &[u8]) -> Value
+    ensures { λ r. ⌜ r ≡ storedValue id (now (bytes .entry)) ⌝ }
+{
+    if id <= 0x2f {
+        return valued(1, 0, 0);
+    }
+    if id <= 0x5f {
+        return valued(2, byte_at(bytes, 0) as u32, 0);
+    }
+    if id <= 0x7f {
+        return valued(2, word_of(signed16(u16_at(bytes, 0))), 0);
+    }
+    if id <= 0xbc {
+        return valued(3, word_of(signed32(u32_at(bytes, 0))), 0);
+    }
+    valued(7, 0, 0)
+}
+
+// Bytes behind a length are read by the kind of the row that ties their id: 1 Text, 2 Guid, 3 Double.
+pub fn value_as(kind: u8, id: u8, bytes: &[u8]) -> Value
+    ensures { λ r. ⌜ r ≡ valueAs kind id (now (bytes .entry)) ⌝ }
+{
+    if id <= 0xbc {
+        return stored_value(id, bytes);
+    }
+    match kind {
+        1 => text_or(bytes, 7),
+        2 => guid_value(bytes),
+        3 => double_value(bytes),
+        _ => valued(7, 0, 0),
+    }
+}
