@@ -1,0 +1,92 @@
+use Prim.Native.Nat.{ℕ, _+_, _-_, _/_, _<_, _≤_}
+use lib.Dec.{T}
+use Rattle.rules.specs.Lists.{ascends}
+use lib.ListN.{length, getD}
+use native.Mathlib.Omega.{arith}
+use Rattle.names.proofs.Bracket.{Bracket, start, up, down, placed, nowhere}
+use Rattle.names.proofs.place_in.Statement.{statement}
+use Rattle.names.proofs.place_in.Tie as tie
+use Rattle.names.proofs.place_in.Reads as reads
+use Rattle.names.proofs.place_in.Lts as lts
+
+abbrev Inv-loop : tie.InvT-loop
+Inv-loop ids id lo₀ hi₀ lo hi = (lo ≤ hi) × (hi ≤ length ids) × (T (ascends 0 ids) → Bracket ids id lo hi)
+
+abbrev μ-loop : tie.MeasureT-loop
+μ-loop ids id lo₀ hi₀ lo hi = hi - lo
+
+abbrev mid : ℕ → ℕ → ℕ
+mid lo hi = lo + (hi - lo) / 2
+
+-- src/lib.rt:17:5
+loop-holds : tie.Need-loop-holds Inv-loop μ-loop
+loop-holds c = (omega arith, omega arith, λ a. start (c .args .ids .now) (c .args .id))
+
+-- src/lib.rt:18:25
+sub-mid : tie.Need-sub-mid Inv-loop μ-loop
+sub-mid c = omega arith
+
+-- src/lib.rt:18:19
+add-mid : tie.Need-add-mid Inv-loop μ-loop
+add-mid c = omega arith
+
+-- src/lib.rt:19:18
+mul-at : tie.Need-mul-at Inv-loop μ-loop
+mul-at c = omega (arith, c .before .before .good .0 .1)
+
+-- src/lib.rt:19:18
+shared-slice-read-at : tie.Need-shared-slice-read-at Inv-loop μ-loop
+shared-slice-read-at c = omega arith
+
+-- src/lib.rt:21:13
+returns : tie.Need-returns Inv-loop μ-loop
+returns c a =
+    let l = c .before .before .before in
+    placed (l .before .args .ids .now) (l .before .args .id) (mid (l .loop .lo) (l .loop .hi)) a (omega arith) (c .if1 .taken)
+
+-- src/lib.rt:24:18
+add-lo : tie.Need-add-lo Inv-loop μ-loop
+add-lo c = omega arith
+
+-- src/lib.rt:17:5
+loop-less : tie.Need-loop-less Inv-loop μ-loop
+loop-less c = omega arith
+
+-- src/lib.rt:17:5
+loop-again : tie.Need-loop-again Inv-loop μ-loop
+loop-again c =
+    let l = c .before .before .before .before in
+    (omega arith, omega arith, λ a. up (l .before .args .ids .now) (l .before .args .id) (mid (l .loop .lo) (l .loop .hi)) a (omega arith) (l .loop .inv .2 a) (c .if2 .taken))
+
+-- src/lib.rt:17:5
+loop-less-2 : tie.Need-loop-less-2 Inv-loop μ-loop
+loop-less-2 c = omega arith
+
+-- src/lib.rt:17:5
+loop-again-2 : tie.Need-loop-again-2 Inv-loop μ-loop
+loop-again-2 c =
+    let l = c .before .before .before .before in
+    (omega arith, omega arith, λ a. down (l .before .args .ids .now) (l .before .args .id) (mid (l .loop .lo) (l .loop .hi)) a (omega arith) (l .loop .inv .2 a) (omega arith))
+
+-- src/lib.rt:11:1
+returns-2 : tie.Need-returns-2 Inv-loop μ-loop
+returns-2 c a = let l = c .before in nowhere (l .before .args .ids .now) (l .before .args .id) (l .loop .lo) (l .loop .hi) (l .loop .inv .2 a) (c .loop-test .left)
+
+pub place-in-spec : {M : Type 1} → statement M
+place-in-spec =
+    tie.close
+    (tie.spec
+    Inv-loop
+    μ-loop
+    loop-holds
+    sub-mid
+    add-mid
+    mul-at
+    shared-slice-read-at
+    returns
+    add-lo
+    loop-less
+    loop-again
+    loop-less-2
+    loop-again-2
+    returns-2)
