@@ -145,25 +145,33 @@ fn found_in(ids: &[u16], rows: &[[u8; 26]], id: u16) -> Name
 pub fn text_name(id: u16) -> Name
     ensures { λ r. ⌜ r ≡ named (nameIn textNames id) ⌝ }
 {
-    found_in(&TEXT_IDS, &TEXT_ROWS, id)
+    let ids = tables::text_ids();
+    let rows = tables::text_rows();
+    found_in(&ids, &rows, id)
 }
 
 pub fn number_name(id: u16) -> Name
     ensures { λ r. ⌜ r ≡ named (nameIn numberNames id) ⌝ }
 {
-    found_in(&NUMBER_IDS, &NUMBER_ROWS, id)
+    let ids = tables::number_ids();
+    let rows = tables::number_rows();
+    found_in(&ids, &rows, id)
 }
 
 pub fn bytes_name(id: u16) -> Name
     ensures { λ r. ⌜ r ≡ named (nameIn bytesNames id) ⌝ }
 {
-    found_in(&BYTES_IDS, &BYTES_ROWS, id)
+    let ids = tables::bytes_ids();
+    let rows = tables::bytes_rows();
+    found_in(&ids, &rows, id)
 }
 
 pub fn control_type_name(id: u16) -> Name
     ensures { λ r. ⌜ r ≡ named (nameIn controlTypeNames id) ⌝ }
 {
-    found_in(&CONTROL_TYPE_IDS, &CONTROL_TYPE_ROWS, id)
+    let ids = tables::control_type_ids();
+    let rows = tables::control_type_rows();
+    found_in(&ids, &rows, id)
 }
 
 fn nothing() -> Name

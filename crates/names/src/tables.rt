@@ -1,4 +1,8 @@
 // jetdb's four name tables, each as its ids and its rows: a name and zeros after it, 26 bytes in all.
+// A program that looks many names up has each array once, from its function here, and lends it.
+ghost use mathlib.Core.Path.{_≡_};
+ghost use Rattle.rules.specs.NameTables.{textNames, numberNames, bytesNames, controlTypeNames};
+ghost use Rattle.names.specs.Lookup.{idsOf, rowsOf};
 
 // The ids of the text values that have names.
 pub const TEXT_IDS: [u16; 95] = [
@@ -99,6 +103,12 @@ pub const TEXT_IDS: [u16; 95] = [
     0x01bb,
 ];
 
+pub fn text_ids() -> [u16; 95]
+    ensures { λ r. ⌜ r ≡ idsOf textNames ⌝ }
+{
+    TEXT_IDS
+}
+
 // Their names, in the same order.
 pub const TEXT_ROWS: [[u8; 26]; 95] = [
     *b"Picture\0\0\0\0\0\0\0\0\0\0\0\0\0\0\0\0\0\0\0",
@@ -197,6 +207,12 @@ pub const TEXT_ROWS: [[u8; 26]; 95] = [
     *b"OnViewChange\0\0\0\0\0\0\0\0\0\0\0\0\0\0",
     *b"OnDataChange\0\0\0\0\0\0\0\0\0\0\0\0\0\0",
 ];
+
+pub fn text_rows() -> [[u8; 26]; 95]
+    ensures { λ r. ⌜ r ≡ rowsOf textNames ⌝ }
+{
+    TEXT_ROWS
+}
 
 // The ids of the number and yes/no values that have names.
 pub const NUMBER_IDS: [u16; 114] = [
@@ -316,6 +332,12 @@ pub const NUMBER_IDS: [u16; 114] = [
     0x01c4,
 ];
 
+pub fn number_ids() -> [u16; 114]
+    ensures { λ r. ⌜ r ≡ idsOf numberNames ⌝ }
+{
+    NUMBER_IDS
+}
+
 // Their names, in the same order.
 pub const NUMBER_ROWS: [[u8; 26]; 114] = [
     *b"AccessKey\0\0\0\0\0\0\0\0\0\0\0\0\0\0\0\0\0",
@@ -434,6 +456,12 @@ pub const NUMBER_ROWS: [[u8; 26]; 114] = [
     *b"FilterOnLoad\0\0\0\0\0\0\0\0\0\0\0\0\0\0",
 ];
 
+pub fn number_rows() -> [[u8; 26]; 114]
+    ensures { λ r. ⌜ r ≡ rowsOf numberNames ⌝ }
+{
+    NUMBER_ROWS
+}
+
 // The ids of the bytes and GUID values that have names.
 pub const BYTES_IDS: [u16; 9] = [
     0x0063,
@@ -447,6 +475,12 @@ pub const BYTES_IDS: [u16; 9] = [
     0x0179,
 ];
 
+pub fn bytes_ids() -> [u16; 9]
+    ensures { λ r. ⌜ r ≡ idsOf bytesNames ⌝ }
+{
+    BYTES_IDS
+}
+
 // Their names, in the same order.
 pub const BYTES_ROWS: [[u8; 26]; 9] = [
     *b"ObjectPalette\0\0\0\0\0\0\0\0\0\0\0\0\0",
@@ -459,6 +493,12 @@ pub const BYTES_ROWS: [[u8; 26]; 9] = [
     *b"GUID\0\0\0\0\0\0\0\0\0\0\0\0\0\0\0\0\0\0\0\0\0\0",
     *b"NameMap\0\0\0\0\0\0\0\0\0\0\0\0\0\0\0\0\0\0\0",
 ];
+
+pub fn bytes_rows() -> [[u8; 26]; 9]
+    ensures { λ r. ⌜ r ≡ rowsOf bytesNames ⌝ }
+{
+    BYTES_ROWS
+}
 
 // The ids of the control types that have names.
 pub const CONTROL_TYPE_IDS: [u16; 55] = [
@@ -519,6 +559,12 @@ pub const CONTROL_TYPE_IDS: [u16; 55] = [
     0x247f,
 ];
 
+pub fn control_type_ids() -> [u16; 55]
+    ensures { λ r. ⌜ r ≡ idsOf controlTypeNames ⌝ }
+{
+    CONTROL_TYPE_IDS
+}
+
 // Their names, in the same order.
 pub const CONTROL_TYPE_ROWS: [[u8; 26]; 55] = [
     *b"Label\0\0\0\0\0\0\0\0\0\0\0\0\0\0\0\0\0\0\0\0\0",
@@ -577,3 +623,9 @@ pub const CONTROL_TYPE_ROWS: [[u8; 26]; 55] = [
     *b"PageFooter\0\0\0\0\0\0\0\0\0\0\0\0\0\0\0\0",
     *b"EmptyCell\0\0\0\0\0\0\0\0\0\0\0\0\0\0\0\0\0",
 ];
+
+pub fn control_type_rows() -> [[u8; 26]; 55]
+    ensures { λ r. ⌜ r ≡ rowsOf controlTypeNames ⌝ }
+{
+    CONTROL_TYPE_ROWS
+}

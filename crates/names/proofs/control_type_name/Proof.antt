@@ -1,4 +1,3 @@
-use mathlib.Core.Path.{refl}
 use Rattle.rules.specs.NameTables.{controlTypeNames}
 use Rattle.names.proofs.InOrder.{control-types}
 use borrow.Author.Needs.{needs}
@@ -7,6 +6,14 @@ use Rattle.names.proofs.control_type_name.Tie as tie
 use Rattle.names.proofs.control_type_name.Reads as reads
 use Rattle.names.proofs.control_type_name.Lts as lts
 use Rattle.names.proofs.found_in.Reads as found-in-reads
+use Rattle.names.proofs.tables.control_type_ids.Reads as control-type-ids-reads
+use Rattle.names.proofs.tables.control_type_rows.Reads as control-type-rows-reads
+
+control-type-ids-requires : tie.Need-control-type-ids-requires
+control-type-ids-requires c κs = search needs
+
+control-type-rows-requires : tie.Need-control-type-rows-requires
+control-type-rows-requires c κs = search needs
 
 slice-aggregate-found-in : tie.Need-slice-aggregate-found-in
 slice-aggregate-found-in c = search needs
@@ -18,10 +25,17 @@ found-in-requires : tie.Need-found-in-requires
 found-in-requires c κs = search needs
 
 returns : tie.Need-returns
-unfolding controlTypeNames
-returns c = c .found-in .ensures controlTypeNames (record { in-order = control-types; ids-are = refl; rows-are = refl })
+returns c =
+    let r = c .before .before .before in
+    c .found-in .ensures controlTypeNames (record { in-order = control-types; ids-are = r .before .control-type-ids .ensures; rows-are = r .control-type-rows .ensures })
 
 pub control-type-name-spec : {M : Type 1} → statement M
 control-type-name-spec =
     tie.close
-    (tie.spec slice-aggregate-found-in slice-aggregate-found-in-2 found-in-requires returns)
+    (tie.spec
+    control-type-ids-requires
+    control-type-rows-requires
+    slice-aggregate-found-in
+    slice-aggregate-found-in-2
+    found-in-requires
+    returns)

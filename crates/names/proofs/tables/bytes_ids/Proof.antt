@@ -1,0 +1,13 @@
+use mathlib.Core.Path.{refl}
+use Rattle.rules.specs.NameTables.{bytesNames}
+use Rattle.names.proofs.tables.bytes_ids.Statement.{statement}
+use Rattle.names.proofs.tables.bytes_ids.Tie as tie
+use Rattle.names.proofs.tables.bytes_ids.Reads as reads
+use Rattle.names.proofs.tables.bytes_ids.Lts as lts
+
+returns : tie.Need-returns
+unfolding bytesNames
+returns c = refl
+
+pub bytes-ids-spec : {M : Type 1} → statement M
+bytes-ids-spec = tie.close (tie.spec returns)

@@ -1,0 +1,13 @@
+use mathlib.Core.Path.{refl}
+use Rattle.rules.specs.NameTables.{bytesNames}
+use Rattle.names.proofs.tables.bytes_rows.Statement.{statement}
+use Rattle.names.proofs.tables.bytes_rows.Tie as tie
+use Rattle.names.proofs.tables.bytes_rows.Reads as reads
+use Rattle.names.proofs.tables.bytes_rows.Lts as lts
+
+returns : tie.Need-returns
+unfolding bytesNames
+returns c = refl
+
+pub bytes-rows-spec : {M : Type 1} → statement M
+bytes-rows-spec = tie.close (tie.spec returns)

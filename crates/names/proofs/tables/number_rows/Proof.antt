@@ -1,0 +1,13 @@
+use mathlib.Core.Path.{refl}
+use Rattle.rules.specs.NameTables.{numberNames}
+use Rattle.names.proofs.tables.number_rows.Statement.{statement}
+use Rattle.names.proofs.tables.number_rows.Tie as tie
+use Rattle.names.proofs.tables.number_rows.Reads as reads
+use Rattle.names.proofs.tables.number_rows.Lts as lts
+
+returns : tie.Need-returns
+unfolding numberNames
+returns c = refl
+
+pub number-rows-spec : {M : Type 1} → statement M
+number-rows-spec = tie.close (tie.spec returns)

@@ -1,0 +1,13 @@
+use mathlib.Core.Path.{refl}
+use Rattle.rules.specs.NameTables.{textNames}
+use Rattle.names.proofs.tables.text_rows.Statement.{statement}
+use Rattle.names.proofs.tables.text_rows.Tie as tie
+use Rattle.names.proofs.tables.text_rows.Reads as reads
+use Rattle.names.proofs.tables.text_rows.Lts as lts
+
+returns : tie.Need-returns
+unfolding textNames
+returns c = refl
+
+pub text-rows-spec : {M : Type 1} → statement M
+text-rows-spec = tie.close (tie.spec returns)
