@@ -175,19 +175,21 @@ unfolding rules-open
 a-tree = refl
 
 -- behind the object's properties two bytes of no property; a name and a Short; at once a loose name and a Long whose trailer ends the group, so
--- that the Long behind it is of no group; three bytes more; a match without a property right before one with a name; a match that is cut off
+-- that the Long behind it is of no group; three bytes more; a match without a property right before one with a name and a flag, whose trailer would be
+-- a match if it weren't cut off
 abbrev scanned : List ℕ
 scanned =
     object 0 ++ (1 ∷ 2 ∷ [])
     ++ prop 0x14 0x00 0x0A (0x44 ∷ 0 ∷ []) 1 ++ prop 0x36 0x00 0x02 (0 ∷ 0x80 ∷ []) 2
     ++ prop 0x14 0x00 0x0A (0x45 ∷ []) 1 ++ prop 0x05 0x00 0x03 (0xFF ∷ []) 253 ++ prop 0x06 0x00 0x03 (1 ∷ []) 0
-    ++ (0xFF ∷ 0xFF ∷ 0xFF ∷ []) ++ (0x14 ∷ 0 ∷ 0x0A ∷ 0 ∷ 0 ∷ 0 ∷ []) ++ prop 0x14 0x00 0x0A (0x46 ∷ 0 ∷ []) 5 ++ (5 ∷ 0 ∷ 0x14 ∷ 0 ∷ 0x0A ∷ 0 ∷ [])
+    ++ (0xFF ∷ 0xFF ∷ 0xFF ∷ []) ++ (0x14 ∷ 0 ∷ 0x0A ∷ 0 ∷ 0 ∷ 0 ∷ []) ++ prop 0x14 0x00 0x0A (0x46 ∷ 0 ∷ []) 5
+    ++ (5 ∷ 0 ∷ 1 ∷ 0 ∷ 0 ∷ 0 ∷ 0xAA ∷ 0xAA ∷ 0xAA ∷ 0xAA ∷ 0 ∷ 0 ∷ 0 ∷ 0 ∷ 0x14 ∷ 0 ∷ 0x0A ∷ 0 ∷ [])
 
-pub a-scan : exit table scanned (replicate 20 old) (replicate 97 old) ≡ record {
-  answer = answer 0 3 16 11;
+pub a-scan : exit table scanned (replicate 20 old) (replicate 103 old) ≡ record {
+  answer = answer 0 3 17 11;
   controls = 0x0 ∷ 0 ∷ 273 ∷ 2 ∷ 11 ∷ 2
       ∷ 0x0 ∷ 2 ∷ 313 ∷ 1 ∷ 13 ∷ 2
-      ∷ 0x0 ∷ 0 ∷ 379 ∷ 2 ∷ 15 ∷ 1
+      ∷ 0x0 ∷ 0 ∷ 379 ∷ 2 ∷ 15 ∷ 2
       ∷ old ∷ old ∷ [];
   properties = 0x61 ∷ 0 ∷ 1 ∷ 0 ∷ 28 ∷ 1
       ∷ 0x1A ∷ 1 ∷ 0 ∷ 0 ∷ 47 ∷ 0
@@ -205,6 +207,7 @@ pub a-scan : exit table scanned (replicate 20 old) (replicate 97 old) ≡ record
       ∷ 0x14 ∷ 8 ∷ 0 ∷ 0 ∷ 313 ∷ 1
       ∷ 0x5 ∷ 3 ∷ 255 ∷ 0 ∷ 332 ∷ 1
       ∷ 0x14 ∷ 6 ∷ 0 ∷ 0 ∷ 379 ∷ 2
+      ∷ 0x5 ∷ 1 ∷ 0 ∷ 0 ∷ 399 ∷ 0
       ∷ old ∷ [];
 }
 unfolding rules-open
