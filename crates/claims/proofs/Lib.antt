@@ -1,4 +1,5 @@
 pub mod Claims
+pub mod Answers
 pub mod Demand1
 pub mod Demand2
 pub mod Has

@@ -3,19 +3,24 @@ use Prim.Native.Nat.{ℕ, _*_, _/_, _≤_}
 use native.Mathlib.Omega.{arith}
 use mathlib.Core.Path.{_≡_, refl, sym, ap, _∙_}
 use mathlib.Core.Bool.{Bool, true, false, not, cond}
-use mathlib.Core.List.{List}
+use mathlib.Core.List.{List, [], _∷_, _++_, map}
 use mathlib.Core.Option.{Option, none, some}
-use borrow.Author.Tests.{ltb-false}
+use borrow.Author.Tests.{ltb-false, eq-eqb}
 use lib.Dec.{ltb}
-use lib.ListN.{length}
+use lib.ListN.{length, drop, length-map}
 use Rattle.rules.specs.Answer.{refusal, tooLong, badTable, moreControls, moreProperties, longest}
 use Rattle.rules.specs.CodeTable.{wellFormed}
-use Rattle.rules.specs.Rows.{controlWidth, propertyWidth, room}
+use Rattle.rules.specs.Lists.{concat}
+use Rattle.rules.specs.TypeInfo.{Info, typeInfoOf, typeInfoRow, typeInfoRows, typeInfoAnswer, typeInfoExit}
+use Rattle.rules.specs.Rows.{controlWidth, propertyWidth, typeInfoWidth, room, written}
+use Rattle.rules.specs.declared.Answer.{Answer}
 use Rattle.rules.specs.Reading.{Reading, properties, controlRows, propertyRows}
 use Rattle.rules.specs.Blob.{Outcome, refused, read, counted, readingOf, fit, outcome, exitBy, exit}
 use Rattle.rules.proofs.RowsLaws.{Wide, written-is}
 use Rattle.rules.proofs.ReadingLaws.{controls-wide, properties-wide, controls-counted, properties-counted}
-use Rattle.claims.specs.OneResult.{Determined, Counted, OneResult}
+use Rattle.claims.specs.Answers.{TypeInfoAnswer}
+use Rattle.claims.specs.OneResult.{Determined, Counted, InfoCounted, OneResult}
+use Rattle.claims.proofs.Answers.{info-told}
 
 determined : {A : Type 0} (said : A) → Determined said
 determined said x y p q = p ∙ sym q
@@ -70,6 +75,38 @@ module _ (t s cs ps : List ℕ) (r : Reading) (e : outcome t s (room controlWidt
         property-words = ap (λ x. x .properties) exit-is ∙ written-is propertyWidth (propertyRows r) (properties-wide (properties r)) ps (omega arith);
       }
 
+-- ---- TypeInfo, the same
+info-wide : (is : List Info) → Wide typeInfoWidth (map typeInfoRow is)
+info-wide [] = tt
+info-wide (i ∷ is) = (refl, info-wide is)
+
+info-many : (s : List ℕ) → length (typeInfoRows s) ≡ length (typeInfoOf s)
+unfolding typeInfoRows
+info-many s = simp length-map
+
+-- what the table of answers says of answer 0
+info-room : (s rows : List ℕ) (a : Answer) → TypeInfoAnswer s rows a → a .number ≡ 0 → (a .first ≡ length (typeInfoOf s)) × (length (typeInfoOf s) ≤ room typeInfoWidth rows)
+info-room s rows _ (TypeInfoAnswer.five h) e = absurd (omega arith)
+info-room s rows _ (TypeInfoAnswer.one h) e = absurd (omega arith)
+info-room s rows _ (TypeInfoAnswer.two h k m) e = absurd (omega arith)
+info-room s rows _ (TypeInfoAnswer.three h k m l) e = absurd (omega arith)
+info-room s rows _ (TypeInfoAnswer.six n h) e = absurd (omega arith)
+info-room s rows _ (TypeInfoAnswer.zero n h) e = (refl, h)
+
+info-counts : (s rows : List ℕ) → typeInfoExit s rows .answer .number ≡ 0 → InfoCounted s rows
+unfolding typeInfoExit
+info-counts s rows e =
+    let h = info-room s rows (typeInfoAnswer s (room typeInfoWidth rows)) (info-told s rows) e in
+    let m = info-many s in
+    record {
+      first = h .0 ∙ sym m;
+      words = rw (eq-eqb (typeInfoAnswer s (room typeInfoWidth rows) .number) 0 e) (words m (h .1));
+    }
+  where
+    words : length (typeInfoRows s) ≡ length (typeInfoOf s) → length (typeInfoOf s) ≤ room typeInfoWidth rows
+        → written (typeInfoRows s) rows ≡ concat (typeInfoRows s) ++ drop (length (typeInfoRows s) * typeInfoWidth) rows
+    words m h = written-is typeInfoWidth (typeInfoRows s) (unfold typeInfoRows in info-wide (typeInfoOf s)) rows (omega arith)
+
 pub one-result : OneResult
 one-result = record {
   read-blob = λ t s cs ps. determined _;
@@ -77,8 +114,20 @@ one-result = record {
   guid-text = λ g out. determined _;
   label-text = λ n out. determined _;
   names = λ table id. determined _;
+  filled-names = λ table id. determined _;
+  names-by-mark = λ mark id. determined _;
   control-name = λ s l m a n. determined _;
   well-formed = λ t. determined _;
+  header-codes = λ t. determined _;
+  table-row = λ t k c id. determined _;
+  utf16 = λ b. determined _;
+  integer-value = λ b. determined _;
+  yes-no-value = λ b. determined _;
+  entry-value = λ t b. determined _;
+  stored-value = λ i b. determined _;
+  value-as = λ k i b. determined _;
+  single = λ b. determined _;
   formlist = λ input. determined _;
   counts = counts;
+  info-counts = info-counts;
 }

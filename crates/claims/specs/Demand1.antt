@@ -3,37 +3,34 @@
 -- (That there is always an answer is said by the definitions being functions of every list.)
 use Prim.Native.Nat.{ℕ}
 use mathlib.Core.Path.{_≡_}
-use mathlib.Core.Bool.{true}
-use mathlib.Core.List.{List, [], _∷_}
-use Rattle.rules.specs.Lists.{has}
+use mathlib.Core.List.{List}
+use mathlib.Core.Logic.{_↔_}
 use Rattle.rules.specs.Texts.{TextExit, guidExit, labelExit}
 use Rattle.rules.specs.TypeInfo.{TypeInfoExit, typeInfoExit}
 use Rattle.rules.specs.Blob.{Exit, exit}
 use Rattle.rules.specs.declared.Answer.{Answer}
-
--- the answer's number is one of these
-abbrev pub OneOf : List ℕ → Answer → Type 0
-OneOf numbers a = has (a .number) numbers ≡ true
+use Rattle.claims.specs.Answers.{BlobAnswer, TypeInfoAnswer, GuidAnswer, LabelAnswer}
 
 -- whoever isn't answered 0 is refused
 abbrev pub Refused : Answer → Type 0
 Refused a = ¬ (a .number ≡ 0)
 
 pub record Blobs (table stream controls properties : List ℕ) (e : Exit) : Type 0 where
-  pub number : OneOf (0 ∷ 4 ∷ 5 ∷ 6 ∷ 7 ∷ 8 ∷ []) (e .answer)
+  -- the answer is the one that document 01's table gives, and no other
+  pub exactly : (a : Answer) → BlobAnswer table stream controls properties a ↔ (a ≡ e .answer)
   pub controls-stay : Refused (e .answer) → e .controls ≡ controls
   pub properties-stay : Refused (e .answer) → e .properties ≡ properties
 
 pub record TypeInfos (stream rows : List ℕ) (e : TypeInfoExit) : Type 0 where
-  pub number : OneOf (0 ∷ 1 ∷ 2 ∷ 3 ∷ 5 ∷ 6 ∷ []) (e .answer)
+  pub exactly : (a : Answer) → TypeInfoAnswer stream rows a ↔ (a ≡ e .answer)
   pub rows-stay : Refused (e .answer) → e .rows ≡ rows
 
-pub record Texts (numbers out : List ℕ) (e : TextExit) : Type 0 where
-  pub number : OneOf numbers (e .answer)
+pub record Texts (Table : Answer → Type 0) (out : List ℕ) (e : TextExit) : Type 0 where
+  pub exactly : (a : Answer) → Table a ↔ (a ≡ e .answer)
   pub out-stays : Refused (e .answer) → e .out ≡ out
 
 pub record Demand1 : Type 0 where
   pub blobs : (table stream controls properties : List ℕ) → Blobs table stream controls properties (exit table stream controls properties)
   pub type-infos : (stream rows : List ℕ) → TypeInfos stream rows (typeInfoExit stream rows)
-  pub guids : (guid out : List ℕ) → Texts (0 ∷ 9 ∷ 10 ∷ []) out (guidExit guid out)
-  pub labels : (n : ℕ) (out : List ℕ) → Texts (0 ∷ 9 ∷ []) out (labelExit n out)
+  pub guids : (guid out : List ℕ) → Texts (GuidAnswer guid out) out (guidExit guid out)
+  pub labels : (n : ℕ) (out : List ℕ) → Texts (LabelAnswer n out) out (labelExit n out)

@@ -1,10 +1,10 @@
 -- Demand 2. With a well-formed code table and room enough, an Access 2000 stream is accepted exactly when its bytes from offset 10 are one
 -- property run and then one entry list, nothing left over, no entry deeper than level 255.
-use Prim.Native.Nat.{ℕ, _≤_}
+use Prim.Native.Nat.{ℕ, _+_, _≤_}
 use mathlib.Core.Path.{_≡_}
 use mathlib.Core.Bool.{true}
 use mathlib.Core.List.{List}
-use mathlib.Core.Logic.{_↔_}
+use mathlib.Core.Logic.{_↔_, _⊎_}
 use mathlib.Core.Option.{some}
 use lib.ListN.{length, drop}
 use Rattle.rules.specs.Bytes.{Bytes}
@@ -12,9 +12,11 @@ use Rattle.rules.specs.Answer.{longest}
 use Rattle.rules.specs.CodeTable.{wellFormed}
 use Rattle.rules.specs.Rows.{controlWidth, propertyWidth, room}
 use Rattle.rules.specs.Reading.{Reading, properties}
-use Rattle.rules.specs.Blob.{Outcome, read, is2000, readingOf, outcome, exit}
+use Rattle.rules.specs.Blob.{is2000, readingOf, exit}
+use Rattle.rules.specs.declared.Answer.{Answer}
 use Rattle.claims.specs.Grammar.{Stream, _spells_}
 use Rattle.claims.specs.Contents.{contents}
+use Rattle.claims.specs.Shown.{itemsIn, propertiesIn, shown}
 
 -- a well-formed code table, and an Access 2000 stream of at most 16,777,216 bytes
 pub record Given (table stream : List ℕ) : Type 0 where
@@ -32,17 +34,23 @@ Enough table stream controlRoom propertyRoom =
 abbrev pub Spelled : List ℕ → Type 0
 Spelled stream = (t : Stream) × (drop 10 stream spells t)
 
-pub record ExactlyWhen (table stream controls properties : List ℕ) : Type 0 where
-  -- answer 0 exactly when they are spelled so
-  pub accepted : (exit table stream controls properties .answer .number ≡ 0) ↔ Spelled stream
-  -- answer 4 exactly when they spell nothing
-  pub refused : (exit table stream controls properties .answer .number ≡ 4) ↔ (¬ Spelled stream)
-  -- the stream is read as what its bytes spell
-  pub read-as : (t : Stream) → (contents stream ≡ some t) ↔ (drop 10 stream spells t)
+-- for any room
+pub record Judges (table stream : List ℕ) (a : Answer) : Type 0 where
+  -- answer 4 exactly when the bytes spell nothing
+  pub refused : (a .number ≡ 4) ↔ (¬ Spelled stream)
+  -- and one of 0, 6 and 7 exactly when they spell something
+  pub taken : ((a .number ≡ 0) ⊎ ((a .number ≡ 6) ⊎ (a .number ≡ 7))) ↔ Spelled stream
+  -- the counts are then those of what is spelled: the reported items with all below them, their properties and the object's, the object's
+  pub counts : (t : Stream) → drop 10 stream spells t
+      → (a .first ≡ itemsIn (shown (t .list))) × (a .second ≡ length (t .own) + propertiesIn (shown (t .list))) × (a .third ≡ length (t .own))
 
 pub record Demand2 : Type 0 where
-  pub exactly-when : (table stream controls properties : List ℕ) → Given table stream
+  -- with room enough, answer 0 exactly when the bytes are spelled so
+  pub accepted : (table stream controls properties : List ℕ) → Given table stream
       → Enough table stream (room controlWidth controls) (room propertyWidth properties)
-      → ExactlyWhen table stream controls properties
+      → (exit table stream controls properties .answer .number ≡ 0) ↔ Spelled stream
+  pub judges : (table stream controls properties : List ℕ) → Given table stream → Judges table stream (exit table stream controls properties .answer)
+  -- a stream is read as what its bytes spell
+  pub read-as : (stream : List ℕ) → Bytes stream → (t : Stream) → (contents stream ≡ some t) ↔ (drop 10 stream spells t)
   -- bytes spell one tree at most
   pub spelled-once : (a : List ℕ) (t u : Stream) → a spells t → a spells u → t ≡ u

@@ -1,9 +1,11 @@
--- What is promised, over the definitions of `rules`.
-pub mod Claims
+-- What is promised, over the definitions of `rules` (whose Lib.antt says how to read these files).
+pub mod Claims  -- all of it
+pub mod Answers  -- the table of answer numbers
 pub mod Demand1
+pub mod Ways  -- for the grammar: ways of writing bytes
+pub mod Grammar  -- how an Access 2000 stream is written
+pub mod Shown  -- what is reported of it
+pub mod Contents  -- what a stream is read as, in the grammar's terms
 pub mod Demand2
-pub mod Ways
-pub mod Grammar
-pub mod Contents
 pub mod Demand3
 pub mod OneResult

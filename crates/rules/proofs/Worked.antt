@@ -7,21 +7,21 @@ use native.Mathlib.Omega.{arith}
 use mathlib.Core.Option.{Option, none, some}
 use borrow.Author.Tests.{lt-ltb, le-ltb}
 use lib.Dec.{eqb}
-use lib.ListN.{length, replicate}
-use Rattle.rules.specs.Lists.{_>>=_, concat, text}
+use lib.ListN.{length, take, replicate}
+use Rattle.rules.specs.Lists.{_>>=_, concat, all, ascends, text}
 use Rattle.rules.specs.Answer.{answer, refusal, longest}
 use Rattle.rules.specs.Utf16.{isUtf16}
-use Rattle.rules.specs.Value.{value, widened, entryValue}
+use Rattle.rules.specs.Value.{value, widened, entryValue, valueAs}
 use Rattle.rules.specs.Texts.{guidExit, labelExit}
 use Rattle.rules.specs.NameTables.{textNames, numberNames, bytesNames, controlTypeNames}
-use Rattle.rules.specs.Names.{nameIn, namesFor}
+use Rattle.rules.specs.Names.{nameIn, filled, namesFor}
 use Rattle.rules.specs.TypeInfo.{typeInfoAnswer, typeInfoExit}
-use Rattle.rules.specs.CodeTable.{wellFormed}
+use Rattle.rules.specs.CodeTable.{wellFormed, rowOf}
 use Rattle.rules.specs.Later.{objectGroup, childrenAt, nodesAt, treeOf}
 use Rattle.rules.specs.Blob.{readingOf, fit, outcome, exit}
-use Rattle.rules.specs.NamePart.{namePart}
-use Rattle.rules.specs.Listing.{printed, listing}
-use Rattle.rules.specs.Examples.{old, table, blob, withEntry, flag}
+use Rattle.rules.specs.NamePart.{ofStream, ofLabel, namePart}
+use Rattle.rules.specs.Listing.{valueColumn, printed, tableLength, tableIn, blobIn, listing}
+use Rattle.rules.specs.Examples.{old, table, blob, flag, typeInfo}
 use Rattle.rules.proofs.Open.{rules-open}
 
 -- ---- 1. a report
@@ -213,9 +213,58 @@ pub a-scan : exit table scanned (replicate 20 old) (replicate 103 old) ≡ recor
 unfolding rules-open
 a-scan = refl
 
+-- numbers of more than one byte: a property by the bytes of its parts
+abbrev stored : List ℕ → List ℕ → List ℕ → List ℕ → List ℕ → List ℕ
+stored id type size v trailer = id ++ type ++ replicate 4 0xAA ++ size ++ v ++ trailer
+
+abbrev none4 : List ℕ
+none4 = 0 ∷ 0 ∷ 0 ∷ 0 ∷ []
+
+-- the object: type 0x010A with trailer 252, 256 bytes with trailer 256, trailer 0x1FD, type 0x01000001; node 0x0198, and below it type 0x05
+abbrev wide : List ℕ
+wide =
+    replicate 14 0
+    ++ stored (0x14 ∷ 1 ∷ []) (0x0A ∷ 1 ∷ 0 ∷ 0 ∷ []) (2 ∷ 0 ∷ 0 ∷ 0 ∷ []) (0x41 ∷ 0 ∷ []) (252 ∷ 0 ∷ 0 ∷ 0 ∷ [])
+    ++ stored (0x14 ∷ 0 ∷ []) (0x0B ∷ 0 ∷ 0 ∷ 0 ∷ []) (0 ∷ 1 ∷ 0 ∷ 0 ∷ []) (replicate 256 0) (0 ∷ 1 ∷ 0 ∷ 0 ∷ [])
+    ++ stored (5 ∷ 0 ∷ []) (1 ∷ 0 ∷ 0 ∷ 0 ∷ []) none4 [] (0xFD ∷ 1 ∷ 0 ∷ 0 ∷ [])
+    ++ stored (6 ∷ 0 ∷ []) (1 ∷ 0 ∷ 0 ∷ 1 ∷ []) none4 [] (255 ∷ 0 ∷ 0 ∷ 0 ∷ []) ++ (1 ∷ 0 ∷ [])
+    ++ (0x98 ∷ 1 ∷ none4) ++ flag 254 ++ (0x64 ∷ 0 ∷ none4) ++ prop 0x05 0x00 0x05 (1 ∷ []) 253
+
+pub a-wide-tree : exit table wide (replicate 12 old) (replicate 36 old) ≡ record {
+  answer = answer 0 2 6 4;
+  controls = 0x198 ∷ 1 ∷ 0 ∷ 9 ∷ 4 ∷ 1
+      ∷ 0x64 ∷ 1 ∷ 1 ∷ 9 ∷ 5 ∷ 1 ∷ [];
+  properties = 0x114 ∷ 7 ∷ 0 ∷ 0 ∷ 28 ∷ 2
+      ∷ 0x14 ∷ 7 ∷ 0 ∷ 0 ∷ 48 ∷ 256
+      ∷ 5 ∷ 1 ∷ 0 ∷ 0 ∷ 322 ∷ 0
+      ∷ 6 ∷ 7 ∷ 0 ∷ 0 ∷ 340 ∷ 0
+      ∷ 5 ∷ 1 ∷ 0 ∷ 0 ∷ 366 ∷ 0
+      ∷ 5 ∷ 7 ∷ 0 ∷ 0 ∷ 390 ∷ 1 ∷ [];
+}
+unfolding rules-open
+a-wide-tree = refl
+
+-- the object's group ends by a trailer, but 0x0101 nodes aren't there: the scan finds a name, and no match in 14 00 0A 00 01 00
+abbrev unfit : List ℕ
+unfit =
+    replicate 14 0 ++ prop 0x07 0x00 0x01 (1 ∷ []) 255 ++ (1 ∷ 1 ∷ []) ++ opened 0x98 ++ prop 0x14 0x00 0x0A (0x47 ∷ 0 ∷ []) 253
+    ++ stored (0x14 ∷ 0 ∷ []) (0x0A ∷ 0 ∷ 1 ∷ 0 ∷ []) (1 ∷ 0 ∷ 0 ∷ 0 ∷ []) (1 ∷ []) none4
+
+-- and a property of which all but the trailer is there
+pub falls-to-scan :
+    (exit table unfit (replicate 6 old) (replicate 12 old) ≡ record {
+      answer = answer 0 1 2 1;
+      controls = 0 ∷ 0 ∷ 55 ∷ 2 ∷ 1 ∷ 1 ∷ [];
+      properties = 7 ∷ 0 ∷ 1 ∷ 0 ∷ 28 ∷ 1 ∷ 0x14 ∷ 6 ∷ 0 ∷ 0 ∷ 55 ∷ 2 ∷ [];
+    })
+    × (exit table (replicate 14 0 ++ stored (7 ∷ 0 ∷ []) (1 ∷ 0 ∷ 0 ∷ 0 ∷ []) none4 [] []) [] [] .answer ≡ answer 0 0 0 0)
+unfolding rules-open
+falls-to-scan = (refl, refl)
+
 -- ---- 5. the refusals of a Blob, in their order
 pub refusals :
-    (exit [] (0x2A ∷ []) [] [] ≡ record { answer = refusal 8; controls = []; properties = [] })
+    (exit (0x2A ∷ []) (0x2A ∷ []) [] [] ≡ record { answer = refusal 8; controls = []; properties = [] })
+    × (exit (0x2A ∷ []) unfit [] [] .answer ≡ refusal 8)
     × (exit table (0x2A ∷ []) (old ∷ []) (old ∷ []) ≡ record { answer = refusal 4; controls = old ∷ []; properties = old ∷ [] })
     × (exit table (blob ++ (0 ∷ [])) [] [] .answer ≡ refusal 4)
     × (exit table blob (replicate 11 old) [] ≡ record { answer = answer 6 2 3 1; controls = replicate 11 old; properties = [] })
@@ -224,7 +273,7 @@ pub refusals :
     × (exit (0 ∷ 0 ∷ 0 ∷ 0 ∷ []) [] [] [] .answer ≡ refusal 0)
     × (exit table (0x2B ∷ replicate 12 0) [] [] .answer ≡ refusal 0)
 unfolding rules-open
-refusals = (refl, refl, refl, refl, refl, refl, refl, refl)
+refusals = (refl, refl, refl, refl, refl, refl, refl, refl, refl)
 
 -- the longest stream that is read has 16,777,216 bytes
 pub too-long : (t s cs ps : List ℕ) → 16777216 < length s → exit t s cs ps .answer ≡ refusal 5
@@ -234,6 +283,12 @@ too-long t s cs ps h = rw (lt-ltb longest (length s) (omega arith))
 pub not-too-long : (t s : List ℕ) (c p : ℕ) → length s ≤ 16777216 → wellFormed t ≡ true → outcome t s c p ≡ fit c p (readingOf t s)
 unfolding outcome
 not-too-long t s c p h w = rw (le-ltb longest (length s) (omega arith), w)
+
+-- eleven sections without a name: the label of the last has ten letters
+pub eleven : exit table (0x2A ∷ replicate 9 0 ++ (0xFF ∷ 11 ∷ 0 ∷ []) ++ concat (replicate 11 (0x98 ∷ 0 ∷ 0xFD ∷ []))) (replicate 66 old) [] .controls
+    ≡ concat (map (λ n. 0x98 ∷ 1 ∷ n ∷ 9 ∷ 0 ∷ 0 ∷ []) (0 ∷ 1 ∷ 2 ∷ 3 ∷ 4 ∷ 5 ∷ 6 ∷ 7 ∷ 8 ∷ 9 ∷ [])) ++ (0x98 ∷ 1 ∷ 10 ∷ 10 ∷ 0 ∷ 0 ∷ [])
+unfolding rules-open
+eleven = refl
 
 -- ---- 6. depths: n entries, each below the one before it, then what stands in the deepest
 abbrev nested : ℕ → List ℕ → List ℕ
@@ -289,8 +344,21 @@ pub type-info-refusals :
     × (typeInfoAnswer (0xF7 ∷ 0xEA ∷ 0xCD ∷ 0xAC ∷ replicate 8 0 ++ (2 ∷ replicate 34 0)) 0 ≡ refusal 3)
     × (typeInfoAnswer (0xF7 ∷ 0xEA ∷ 0xCD ∷ 0xAC ∷ replicate 8 0 ++ (2 ∷ replicate 35 0)) 9 ≡ answer 0 1 0 0)
     × (typeInfoAnswer (0xF7 ∷ 0xEA ∷ 0xCD ∷ 0xAC ∷ replicate 28 0) 0 ≡ refusal 0)
+    × (typeInfoAnswer (0xF7 ∷ 0xEA ∷ 0xCD ∷ 0xAC ∷ replicate 8 0 ++ (0 ∷ 0 ∷ 1 ∷ replicate 17 0)) 0 ≡ refusal 3)
 unfolding rules-open
-type-info-refusals = (refl, refl, refl, refl, refl, refl)
+type-info-refusals = (refl, refl, refl, refl, refl, refl, refl)
+
+pub type-info-too-long : (s : List ℕ) (n : ℕ) → 16777216 < length s → typeInfoAnswer s n ≡ refusal 5
+unfolding typeInfoAnswer
+type-info-too-long s n h = rw (lt-ltb longest (length s) (omega arith))
+
+-- a count of 0 with room for an entry; 0x1EFF uses up a count of 1; seven bytes that remain are no entry
+pub type-info-counts :
+    (typeInfoAnswer (typeInfo 0) 9 ≡ answer 0 0 0 0)
+    × (typeInfoAnswer (take 32 (typeInfo 1) ++ (0xFF ∷ 0x1E ∷ replicate 8 0) ++ (0x64 ∷ replicate 9 0)) 9 ≡ answer 0 0 0 0)
+    × (typeInfoAnswer (take 32 (typeInfo 2) ++ (0x64 ∷ replicate 9 0) ++ replicate 7 0x64) 9 ≡ answer 0 1 0 0)
+unfolding rules-open
+type-info-counts = (refl, refl, refl)
 
 -- ---- 8. values at their limits
 pub values :
@@ -299,9 +367,18 @@ pub values :
     × (entryValue 0x03 (0 ∷ 0x80 ∷ []) ≡ value 3 0xFFFF8000 0) × (entryValue 0x03 [] ≡ value 7 0 0) × (entryValue 0x04 (0 ∷ 0 ∷ 0 ∷ 0x80 ∷ []) ≡ value 3 0x80000000 0)
     × (entryValue 0x07 (replicate 8 0) ≡ value 7 0 0) × (entryValue 0x08 (replicate 4 0) ≡ value 7 0 0) × (entryValue 0x06 (replicate 8 0) ≡ value 7 0 0)
     × (entryValue 0x09 (replicate 15 0) ≡ value 7 0 0) × (entryValue 0x0A [] ≡ value 6 0 0) × (entryValue 0x0B (65 ∷ 0 ∷ []) ≡ value 7 0 0)
-    × (entryValue 0x010A (65 ∷ 0 ∷ []) ≡ value 7 0 0) × (entryValue 0x00 (1 ∷ []) ≡ value 7 0 0)
+    × (entryValue 0x010A (65 ∷ 0 ∷ []) ≡ value 7 0 0) × (entryValue 0x00 (1 ∷ []) ≡ value 7 0 0) × (entryValue 0x05 (1 ∷ []) ≡ value 7 0 0)
+    × (entryValue 0x08 (replicate 9 0) ≡ value 7 0 0) × (entryValue 0x09 (replicate 17 0) ≡ value 7 0 0)
 unfolding rules-open
-values = (refl, refl, refl, refl, refl, refl, refl, refl, refl, refl, refl, refl, refl, refl, refl)
+values = (refl, refl, refl, refl, refl, refl, refl, refl, refl, refl, refl, refl, refl, refl, refl, refl, refl, refl)
+
+-- a kind speaks of ids above 0xBC only; kinds 0 and 4 leave bytes Binary; a Guid has 16 bytes, a Double 8
+pub kinds :
+    (valueAs 1 0xBC (65 ∷ 0 ∷ 66 ∷ 0 ∷ []) ≡ value 3 0x00420041 0) × (valueAs 1 0xBD (65 ∷ 0 ∷ 66 ∷ 0 ∷ []) ≡ value 6 0 0)
+    × (valueAs 0 0xFC (65 ∷ 0 ∷ []) ≡ value 7 0 0) × (valueAs 4 0xFC (65 ∷ 0 ∷ []) ≡ value 7 0 0)
+    × (valueAs 2 0xBD (replicate 17 0) ≡ value 7 0 0) × (valueAs 3 0xBD (replicate 9 0) ≡ value 7 0 0) × (valueAs 2 0xBD (replicate 16 0) ≡ value 5 0 0)
+unfolding rules-open
+kinds = (refl, refl, refl, refl, refl, refl, refl)
 
 -- one, the least and the largest subnormal, the largest number, an infinity, minus zero, two NaNs
 pub singles :
@@ -330,9 +407,9 @@ unfolding rules-open
 texts = (refl, refl, refl, refl, refl, refl)
 
 pub parts :
-    (namePart (1 ∷ 2 ∷ 3 ∷ []) (7 ∷ 8 ∷ []) 0 1 2 ≡ 2 ∷ 3 ∷ []) × (namePart (1 ∷ 2 ∷ 3 ∷ []) (7 ∷ 8 ∷ []) 2 0 3 ≡ 1 ∷ 2 ∷ 3 ∷ [])
-    × (namePart (1 ∷ 2 ∷ 3 ∷ []) (7 ∷ 8 ∷ []) 1 5 1 ≡ 7 ∷ []) × (namePart (1 ∷ 2 ∷ 3 ∷ []) (7 ∷ 8 ∷ []) 3 0 1 ≡ [])
-    × (namePart (1 ∷ 2 ∷ 3 ∷ []) (7 ∷ 8 ∷ []) 0 2 2 ≡ []) × (namePart (1 ∷ 2 ∷ 3 ∷ []) (7 ∷ 8 ∷ []) 1 0 3 ≡ [])
+    (namePart (1 ∷ 2 ∷ 3 ∷ []) (7 ∷ 8 ∷ []) 0 1 2 ≡ ofStream 1 2) × (namePart (1 ∷ 2 ∷ 3 ∷ []) (7 ∷ 8 ∷ []) 2 0 3 ≡ ofStream 0 3)
+    × (namePart (1 ∷ 2 ∷ 3 ∷ []) (7 ∷ 8 ∷ []) 1 5 1 ≡ ofLabel 0 1) × (namePart (1 ∷ 2 ∷ 3 ∷ []) (7 ∷ 8 ∷ []) 3 0 1 ≡ ofStream 0 0)
+    × (namePart (1 ∷ 2 ∷ 3 ∷ []) (7 ∷ 8 ∷ []) 0 2 2 ≡ ofStream 0 0) × (namePart (1 ∷ 2 ∷ 3 ∷ []) (7 ∷ 8 ∷ []) 1 0 3 ≡ ofStream 0 0)
 unfolding rules-open
 parts = (refl, refl, refl, refl, refl, refl)
 
@@ -345,6 +422,15 @@ pub names :
     × (map namesFor (0 ∷ 4 ∷ 5 ∷ 6 ∷ 7 ∷ 8 ∷ 9 ∷ []) ≡ numberNames ∷ numberNames ∷ bytesNames ∷ textNames ∷ bytesNames ∷ textNames ∷ [] ∷ [])
 unfolding rules-open
 names = (refl, refl, refl, refl, refl, refl, refl, refl, refl, refl, refl, refl)
+
+-- every name fills 26 bytes with its zeros, and the ids of every table ascend
+pub rows-of-26 : map (all (λ row. eqb (length (filled (text (row .1)))) 26)) (textNames ∷ numberNames ∷ bytesNames ∷ controlTypeNames ∷ []) ≡ replicate 4 true
+unfolding rules-open
+rows-of-26 = refl
+
+pub ids-ascend : map (λ names. ascends 0 (map (λ row. row .0) names)) (textNames ∷ numberNames ∷ bytesNames ∷ controlTypeNames ∷ []) ≡ replicate 4 true
+unfolding rules-open
+ids-ascend = refl
 
 -- ---- 11. code tables at their limits: those that are well formed, then those that aren't
 -- m scopes of the codes 1, 2, .., each without rows
@@ -364,8 +450,8 @@ last = 0xFC ∷ 0xFF ∷ 0x7F ∷ 4 ∷ []
 
 pub formed-tables :
     map wellFormed ((1 ∷ 0 ∷ 0 ∷ 0 ∷ []) ∷ (1 ∷ 4 ∷ 0 ∷ 0 ∷ 1 ∷ 0 ∷ 2 ∷ 0 ∷ 0 ∷ 1 ∷ 1 ∷ 1 ∷ []) ∷ (1 ∷ 0 ∷ 64 ∷ 0 ∷ many 1 64) ∷ two 2 7 first last ∷ two 0 0 first last ∷ two 1 0 first last
-    ∷ (1 ∷ 0 ∷ 3 ∷ 0 ∷ 0 ∷ 0 ∷ 0 ∷ 0 ∷ 0 ∷ 1 ∷ 0 ∷ 0 ∷ 0 ∷ 0 ∷ 2 ∷ 0 ∷ 0 ∷ 0 ∷ 0 ∷ []) ∷ [])
-    ≡ true ∷ true ∷ true ∷ true ∷ true ∷ true ∷ true ∷ []
+    ∷ (1 ∷ 0 ∷ 3 ∷ 0 ∷ 0 ∷ 0 ∷ 0 ∷ 0 ∷ 0 ∷ 1 ∷ 0 ∷ 0 ∷ 0 ∷ 0 ∷ 2 ∷ 0 ∷ 0 ∷ 0 ∷ 0 ∷ []) ∷ (1 ∷ 0 ∷ 2 ∷ 0 ∷ 2 ∷ 1 ∷ 0 ∷ 0 ∷ 0 ∷ 2 ∷ 0 ∷ 1 ∷ 0 ∷ 0 ∷ []) ∷ [])
+    ≡ replicate 8 true
 unfolding rules-open
 formed-tables = refl
 
@@ -373,10 +459,16 @@ pub unformed-tables :
     map wellFormed ([] ∷ (1 ∷ 0 ∷ 0 ∷ []) ∷ (1 ∷ 0 ∷ 0 ∷ 0 ∷ 0 ∷ []) ∷ (1 ∷ 5 ∷ 0 ∷ 0 ∷ 1 ∷ 0 ∷ 2 ∷ 0 ∷ 3 ∷ 0 ∷ 4 ∷ 0 ∷ 5 ∷ 0 ∷ []) ∷ (1 ∷ 2 ∷ 0 ∷ 0 ∷ 1 ∷ 0 ∷ 1 ∷ 0 ∷ []) ∷ (1 ∷ 0 ∷ 65 ∷ 0 ∷ many 1 65)
     ∷ two 3 0 first last ∷ two 0 7 first last ∷ two 1 7 first last ∷ two 2 7 last first ∷ two 2 7 first first ∷ two 2 7 first (0xFD ∷ 0 ∷ 0 ∷ 0 ∷ [])
     ∷ two 2 7 first (0xFC ∷ 0 ∷ 0x80 ∷ 0 ∷ []) ∷ two 2 7 first (0xFC ∷ 0 ∷ 0 ∷ 5 ∷ []) ∷ two 2 7 first (0xFC ∷ 0 ∷ 0 ∷ []) ∷ two 2 7 first (last ++ (0 ∷ []))
-    ∷ (1 ∷ 0 ∷ 2 ∷ 0 ∷ 2 ∷ 7 ∷ 0 ∷ 0 ∷ 0 ∷ 2 ∷ 7 ∷ 0 ∷ 0 ∷ 0 ∷ []) ∷ (1 ∷ 0 ∷ 2 ∷ 0 ∷ 2 ∷ 0 ∷ 0 ∷ 0 ∷ 0 ∷ 1 ∷ 0 ∷ 0 ∷ 0 ∷ 0 ∷ []) ∷ [])
-    ≡ replicate 18 false
+    ∷ (1 ∷ 0 ∷ 2 ∷ 0 ∷ 2 ∷ 7 ∷ 0 ∷ 0 ∷ 0 ∷ 2 ∷ 7 ∷ 0 ∷ 0 ∷ 0 ∷ []) ∷ (1 ∷ 0 ∷ 2 ∷ 0 ∷ 2 ∷ 0 ∷ 0 ∷ 0 ∷ 0 ∷ 1 ∷ 0 ∷ 0 ∷ 0 ∷ 0 ∷ [])
+    ∷ (1 ∷ 0 ∷ 2 ∷ 0 ∷ 2 ∷ 0 ∷ 1 ∷ 0 ∷ 0 ∷ 2 ∷ 1 ∷ 0 ∷ 0 ∷ 0 ∷ []) ∷ (1 ∷ 0 ∷ 0 ∷ 1 ∷ []) ∷ (1 ∷ 0 ∷ 1 ∷ 0 ∷ 2 ∷ 7 ∷ 0 ∷ 0 ∷ 1 ∷ []) ∷ [])
+    ≡ replicate 21 false
 unfolding rules-open
 unformed-tables = refl
+
+-- a scope's code has two bytes: 0x0164 isn't 0x64
+pub scope-codes : (map (λ code. rowOf (1 ∷ 0 ∷ 1 ∷ 0 ∷ 2 ∷ 0x64 ∷ 1 ∷ 1 ∷ 0 ∷ first) 2 code 0) (0x64 ∷ 0x164 ∷ [])) ≡ none ∷ some (record { id = 0; target = 0; kind = 0 }) ∷ []
+unfolding rules-open
+scope-codes = refl
 
 -- ---- 12. listings: every mark's word and value; the input's refusals
 pub listed : printed tree (outcome table tree 256 1024)
@@ -409,8 +501,15 @@ listed = refl
 pub inputs :
     (listing (0 ∷ 0 ∷ 0 ∷ []) ≡ text "answer 8 0 0 0\n") × (listing (5 ∷ 0 ∷ 0 ∷ 0 ∷ 1 ∷ 0 ∷ 0 ∷ 0 ∷ []) ≡ text "answer 8 0 0 0\n")
     × (listing (4 ∷ 0 ∷ 0 ∷ 0 ∷ 1 ∷ 0 ∷ 0 ∷ 0 ∷ []) ≡ text "answer 0 0 0 0\n") × (listing (4 ∷ 0 ∷ 0 ∷ 0 ∷ 1 ∷ 0 ∷ 0 ∷ 0 ∷ 1 ∷ []) ≡ text "answer 4 0 0 0\n")
+    × (listing (4 ∷ 1 ∷ 0 ∷ 0 ∷ 1 ∷ 0 ∷ 0 ∷ 0 ∷ []) ≡ text "answer 8 0 0 0\n") × (valueColumn 0 0 0 1 (0 ∷ []) ≡ text "no")
 unfolding rules-open
-inputs = (refl, refl, refl, refl)
+inputs = (refl, refl, refl, refl, refl, refl)
+
+-- whatever fits the buffer is listed, with room for 256 controls and 1,024 properties
+pub lists : (input : List ℕ) → length input ≤ 32768 → 4 + tableLength input ≤ length input
+    → listing input ≡ printed (blobIn input) (outcome (tableIn input) (blobIn input) 256 1024)
+unfolding listing
+lists input h k = rw (le-ltb 32768 (length input) h, le-ltb (length input) 4 (omega arith), le-ltb (length input) (4 + tableLength input) k)
 
 pub too-much : (input : List ℕ) → 32768 < length input → listing input ≡ text "answer 5 0 0 0\n"
 unfolding rules-open

@@ -60,7 +60,8 @@ runOf (suc most) s p =
 unfoldable pub runAt : List ℕ → ℕ → Option (List Prop × ℕ)
 runAt s p = runOf (length s) s p
 
--- "0xFD for no list", or what a list begins with, "0xFF and u16 count, or 0xFE for one": the number of its entries, if there is a list
+-- "0xFD for no list", or what a list begins with, "0xFF and u16 count, or 0xFE for one". The outer `none` means that no reading fits, the inner
+-- one that there is no list; otherwise it is the number of the list's entries
 unfoldable pub headAt : List ℕ → ℕ → Option (Option ℕ × ℕ)
 headAt s p = do
   b ← byteAt s p
@@ -89,7 +90,7 @@ entryAt s below p = do
 unfoldable pub entriesAt : ℕ → List ℕ → ℕ → ℕ → Option (Entries Prop × ℕ)
 entriesAt d s n p = levelsAt (entryAt s) d n p
 
--- the whole stream: the object's run at 10, the top list, and no byte more
+-- the whole stream: the object's run at 10, the top list (0xFD in its place fits no reading), and no byte more
 unfoldable pub streamOf : List ℕ → Option (List Prop × Entries Prop)
 streamOf s = do
   (own, p) ← runAt s 10

@@ -41,16 +41,16 @@ counted number r = answer number (length (r .controls)) (length (properties r)) 
 abbrev pub fit : ℕ → ℕ → Option Reading → Outcome
 fit controlRoom propertyRoom none = refused (refusal noReading)
 fit controlRoom propertyRoom (some r) =
-    cond (ltb controlRoom (length (r .controls))) (refused (counted moreControls r))
-    (cond (ltb propertyRoom (length (properties r))) (refused (counted moreProperties r))
+    cond (ltb controlRoom (length (r .controls))) (refused (counted moreControls r))  -- 6
+    (cond (ltb propertyRoom (length (properties r))) (refused (counted moreProperties r))  -- 7
     (read r))
 
 -- "Order for a Blob: 5, 8, 4, 6, 7." Room is a number of rows
 unfoldable pub outcome : List ℕ → List ℕ → ℕ → ℕ → Outcome
 outcome t s controlRoom propertyRoom =
-    cond (ltb longest (length s)) (refused (refusal tooLong))
-    (cond (not (wellFormed t)) (refused (refusal badTable))
-    (fit controlRoom propertyRoom (readingOf t s)))
+    cond (ltb longest (length s)) (refused (refusal tooLong))  -- 5
+    (cond (not (wellFormed t)) (refused (refusal badTable))  -- 8
+    (fit controlRoom propertyRoom (readingOf t s)))  -- 4, 6, 7
 
 -- ---- what is seen of it
 abbrev pub answerOf : Outcome → Answer

@@ -17,6 +17,7 @@ pub record Prop : Type 0 where
   pub size : ℕ
 
 -- ---- properties and groups
+-- a property's parts, from its start on: id at 0, type at 2, 4 bytes passed over at 6, length at 10, value at 14, trailer behind the value
 abbrev pub lengthAt : List ℕ → ℕ → ℕ
 lengthAt s p = u32 s (p + 10)
 

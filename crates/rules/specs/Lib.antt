@@ -1,23 +1,28 @@
--- Document 01 as definitions, a file for each of its sections.
-pub mod Lists
-pub mod Bytes
-pub mod Answer
-pub mod Utf16
-pub mod Value
-pub mod Digits
-pub mod Texts
-pub mod NameTables
-pub mod Names
-pub mod Rows
-pub mod TypeInfo
-pub mod CodeTable
-pub mod Tree
-pub mod Access2000
-pub mod Later
-pub mod Reading
-pub mod Read2000
-pub mod ReadLater
-pub mod Blob
-pub mod NamePart
-pub mod Listing
-pub mod Examples
+-- Document 01 as definitions. Beside each file stands the section of the document that it says.
+-- How to read them: `abbrev` and `unfoldable` begin a definition, `pub` lets other files name it. `a ∷ b ∷ []` is a list, `++` puts one list behind
+-- another, `.0` and `.1` are the first and the second of a pair. `Option A` is an A that may be missing: `none`, or `some a`; in a `do` block what
+-- follows goes on only where the line before found something. `cond test a b` is a where the test holds and b where it doesn't; `ltb`, `leb`, `eqb`
+-- test for less, at most, equal. `pos n` is the number n, `negsuc n` is -(n + 1). In the claims: `×` and, `↔` exactly when, `¬` not,
+-- `List·Memᴰ x xs` x is one of xs; a proof `refl` says that both sides compute to the same.
+pub mod Lists  -- nothing of the format
+pub mod Bytes  -- numbers of one, two and four bytes
+pub mod Answer  -- "Answer numbers"
+pub mod Utf16  -- "What is ported": well-formed UTF-16
+pub mod Value  -- "Rows": marks; the values of "Later layout" and "Access 2000 layout"
+pub mod Digits  -- "Names and listing": hex and decimal
+pub mod Texts  -- "Rows": GUID text and labels
+pub mod NameTables  -- "Names and listing": the four tables
+pub mod Names  -- "Names and listing": which table, and look-up
+pub mod Rows  -- "Rows": widths and room
+pub mod TypeInfo  -- "TypeInfo"
+pub mod CodeTable  -- "Code table"
+pub mod Tree  -- what both layouts share: entries, levels, what is reported
+pub mod Access2000  -- "Access 2000 layout", to a tree
+pub mod Later  -- "Later layout", to a tree or a scan
+pub mod Reading  -- "Rows": a reading, and its rows
+pub mod Read2000  -- "Access 2000 layout", from the tree to a reading
+pub mod ReadLater  -- "Later layout", from nodes to a reading
+pub mod Blob  -- "Answer numbers": a Blob's answer and rows
+pub mod NamePart  -- "Rows": the name as a part of a slice
+pub mod Listing  -- "Names and listing": `formlist`
+pub mod Examples  -- "Proved examples"

@@ -1,5 +1,5 @@
--- From an Access 2000 tree to a reading. Here, and only here, the code table comes in: it is asked whether a type is a header code,
--- and which row has an id in a scope.
+-- From an Access 2000 tree to a reading. Here, and only here, a code table's header codes and rows come in: it is asked whether a type is a
+-- header code, and which row has an id in a scope. (That it is well formed, and its layout byte, are asked in Blob.)
 use Prim.Native.Nat.{ℕ}
 use mathlib.Core.Bool.{Bool, cond}
 use mathlib.Core.List.{List, _++_, map}

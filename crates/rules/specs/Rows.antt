@@ -19,7 +19,7 @@ typeInfoWidth = 4
 abbrev pub room : ℕ → List ℕ → ℕ
 room width lent = length lent / width
 
--- a lent slice at exit: the rows from its start on. "rows beyond the count keep their old words"
+-- a lent slice at exit: the rows' words set from its start on. "rows beyond the count keep their old words"
 abbrev pub written : List (List ℕ) → List ℕ → List ℕ
 written rows old = sets old 0 (concat rows)
 

@@ -75,11 +75,11 @@ typeInfoRows s = map typeInfoRow (typeInfoOf s)
 -- "For TypeInfo: 5, 1, 2, 3, 6." "TypeInfo's second and third counts are 0."
 unfoldable pub typeInfoAnswer : List ℕ → ℕ → Answer
 typeInfoAnswer s rowRoom =
-    cond (ltb longest (length s)) (refusal tooLong)
-    (cond (ltb (length s) 32) (refusal tooShort)
-    (cond (not (eqb (u32 s 0) 0xACCDEAF7)) (refusal otherMagic)
-    (cond (ltb ((length s - 32) / 8) (u32 s 12)) (refusal tooManyEntries)
-    (cond (ltb rowRoom (length (typeInfoOf s))) (answer moreControls (length (typeInfoOf s)) 0 0)
+    cond (ltb longest (length s)) (refusal tooLong)  -- 5
+    (cond (ltb (length s) 32) (refusal tooShort)  -- 1
+    (cond (not (eqb (u32 s 0) 0xACCDEAF7)) (refusal otherMagic)  -- 2
+    (cond (ltb ((length s - 32) / 8) (u32 s 12)) (refusal tooManyEntries)  -- 3
+    (cond (ltb rowRoom (length (typeInfoOf s))) (answer moreControls (length (typeInfoOf s)) 0 0)  -- 6
     (answer 0 (length (typeInfoOf s)) 0 0)))))
 
 -- all that a caller sees

@@ -41,7 +41,7 @@ shortValue z = value 2 (word32 z) 0
 abbrev pub longValue : ℤ → Value
 longValue z = value 3 (word32 z) 0
 
--- from -32768 to 32767
+-- from -32768 to 32767: the magnitude of a negative number -(n + 1) is n here
 unfoldable pub fits16 : ℤ → Bool
 fits16 z = ltb (mag z) 32768
 

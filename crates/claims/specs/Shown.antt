@@ -1,0 +1,38 @@
+-- What is reported of a stream, by what its bytes spell. "Reported: top entries with type 0x98 to 0x9E, or with a list, even an empty one; then
+-- descendants in preorder."
+use Prim.Native.Nat.{ℕ, _+_}
+use mathlib.Core.Bool.{Bool, true, cond, _&&_}
+use mathlib.Core.List.{List}
+use lib.Dec.{leb}
+use lib.ListN.{length}
+use Rattle.claims.specs.Grammar.{Property, Item, leaf, branch, Items, none, one}
+
+-- how many items there are, with all below them
+abbrev mutual
+  pub itemsIn1 : Item → ℕ
+  itemsIn1 (leaf type qs) = 1
+  itemsIn1 (branch type qs is) = 1 + itemsIn is
+
+  pub itemsIn : Items → ℕ
+  itemsIn none = 0
+  itemsIn (one i is) = itemsIn1 i + itemsIn is
+
+-- and how many properties they have
+abbrev mutual
+  pub propertiesIn1 : Item → ℕ
+  propertiesIn1 (leaf type qs) = length qs
+  propertiesIn1 (branch type qs is) = length qs + propertiesIn is
+
+  pub propertiesIn : Items → ℕ
+  propertiesIn none = 0
+  propertiesIn (one i is) = propertiesIn1 i + propertiesIn is
+
+-- an item of the top list is reported by its type, or because it has a list
+abbrev pub isReported : Item → Bool
+isReported (leaf type qs) = leb 0x98 type && leb type 0x9E
+isReported (branch type qs is) = true
+
+-- the reported ones of the top list
+unfoldable pub shown : Items → Items
+shown none = none
+shown (one i is) = cond (isReported i) (one i (shown is)) (shown is)
