@@ -1,0 +1,66 @@
+//! Cases: what is read, with what is lent for it. All are made from a seed, or from none.
+
+pub mod build;
+pub mod fixed;
+pub mod leaves;
+pub mod random;
+pub mod rng;
+pub mod typeinfo;
+
+use crate::listing::{CONTROL_WORDS, PROPERTY_WORDS};
+use std::rc::Rc;
+
+/// What a case is for; the numbers are those of the batch file.
+#[derive(Debug, Clone, Copy, PartialEq, Eq, PartialOrd, Ord)]
+pub enum Kind {
+    Table = 0,
+    Blob = 1,
+    TypeInfo = 2,
+    Listing = 3,
+    Guid = 4,
+    Label = 5,
+    Names = 6,
+    NamePart = 7,
+}
+
+pub const KINDS: [Kind; 8] =
+    [Kind::Table, Kind::Blob, Kind::TypeInfo, Kind::Listing, Kind::Guid, Kind::Label, Kind::Names, Kind::NamePart];
+
+#[derive(Debug, Clone)]
+pub struct Case {
+    pub family: &'static str,
+    pub kind: Kind,
+    /// A code table that is not jetdb's own.
+    pub table: Option<Rc<[u8]>>,
+    /// What is lent, or other numbers; README.md says which for each kind.
+    pub numbers: [u32; 2],
+    pub bytes: Vec<u8>,
+}
+
+pub type Sink<'a> = &'a mut dyn FnMut(Case);
+
+impl Case {
+    pub fn blob(family: &'static str, bytes: Vec<u8>) -> Case {
+        let numbers = [CONTROL_WORDS as u32, PROPERTY_WORDS as u32];
+        Case { family, kind: Kind::Blob, table: None, numbers, bytes }
+    }
+
+    pub fn type_info(family: &'static str, bytes: Vec<u8>) -> Case {
+        Case { family, kind: Kind::TypeInfo, table: None, numbers: [4 * 256, 0], bytes }
+    }
+
+    pub fn other(family: &'static str, kind: Kind, numbers: [u32; 2], bytes: Vec<u8>) -> Case {
+        Case { family, kind, table: None, numbers, bytes }
+    }
+}
+
+/// Every string of at most `longest` tokens, each behind `head`.
+pub fn strings(head: &[u8], tokens: &[&[u8]], longest: usize, out: &mut dyn FnMut(Vec<u8>)) {
+    out(head.to_vec());
+    if longest == 0 {
+        return;
+    }
+    for token in tokens {
+        strings(&[head, token].concat(), tokens, longest - 1, out);
+    }
+}

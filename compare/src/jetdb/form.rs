@@ -1,0 +1,44 @@
+
+/// Stands for the registry crate `log`: a warning is dropped.
+mod log {
+    macro_rules! warn_nothing {
+        ($($words:tt)*) => {};
+    }
+    pub(crate) use warn_nothing as warn;
+}
+
+/// `parse_type_info`, whose names come out in Latin-1 (see `encoding`).
+pub(crate) fn type_info_of(data: &[u8]) -> Result<Vec<ControlInfo>, FileError> {
+    parse_type_info(data, 0)
+}
+
+/// `type_info_entry`: the entry at `pos` and the place behind it.
+pub(crate) fn type_info_step(data: &[u8], pos: usize) -> Option<(ControlInfo, usize)> {
+    type_info_entry(data, pos, 0)
+}
+
+/// `nul_terminated`: a name and the place behind it.
+pub(crate) fn name_step(data: &[u8], start: usize) -> (&[u8], usize) {
+    nul_terminated(data, start)
+}
+
+/// `parse_entry`: the property at `pos` and the place behind it, as far as it ends by `end`.
+pub(crate) fn property_step(data: &[u8], pos: usize, end: usize) -> Option<(BlobProperty, usize)> {
+    parse_entry(data, pos, end).map(|(property, next, _)| (property, next))
+}
+
+/// Whether `parse_blob` takes the stream as a tree; otherwise it scans it.
+pub(crate) fn reads_as_tree(data: &[u8]) -> bool {
+    let (_, pos, end) = parse_group(data, 14, data.len());
+    end.and_then(|end| controls_of_tree(data, pos, end)).is_some()
+}
+
+/// `name_in_blob`: the name in the properties, `None` where the control is numbered.
+pub(crate) fn stored_name(props: &[BlobProperty]) -> Option<String> {
+    name_in_blob(props)
+}
+
+/// The four name tables: text, number, bytes, control types.
+pub(crate) fn name_tables() -> [&'static [(u16, &'static str)]; 4] {
+    [TEXT_NAMES, NUMBER_NAMES, BYTES_NAMES, CONTROL_TYPE_NAMES]
+}

@@ -1,0 +1,282 @@
+//! Tests of the program itself: the code table, document 01's examples, the batch file, and a small comparison.
+
+use crate::batch;
+use crate::cases::build::*;
+use crate::cases::rng::Rng;
+use crate::cases::{Case, Kind};
+use crate::expect::Judge;
+use crate::plain::codes::Codes;
+use crate::plain::{self, value, Name, Shape};
+use crate::{listing, oracle};
+
+// ---- the code table
+
+#[test]
+fn code_table_is_as_document_01_says() {
+    let codes = oracle::codes();
+    let bytes = codes.bytes();
+    assert_eq!(bytes.len(), 2560);
+    assert_eq!((codes.layout, &codes.header[..], codes.scopes.len()), (0x13, &[0x0099, 0x009A][..], 24));
+    assert!(codes.scopes.windows(2).all(|w| (w[0].kind, w[0].code) < (w[1].kind, w[1].code)));
+    for scope in &codes.scopes {
+        assert!(scope.rows.windows(2).all(|w| w[0].id < w[1].id), "scope {} {}", scope.kind, scope.code);
+        assert!(scope.rows.iter().all(|r| r.id <= 0xFC && r.target < 0x8000 && r.kind <= 4));
+    }
+    assert_eq!(Codes::parse(&bytes), Some(codes));
+}
+
+#[test]
+fn code_table_file_is_the_one_made() {
+    let path = concat!(env!("CARGO_MANIFEST_DIR"), "/../data/access2000.codes");
+    assert_eq!(std::fs::read(path).unwrap(), oracle::codes().bytes());
+}
+
+#[test]
+fn code_tables_that_are_not_well_formed() {
+    let good = [0x2A, 2, 2, 0, 5, 0, 6, 0, 1, 0, 0, 0, 0, 2, 0, 0, 2, 0, 0x10, 1, 0, 0, 0xFC, 0xFF, 0x7F, 4];
+    assert!(Codes::parse(&good).is_some());
+    // header order, count, kind, code of a kind 1, order of scopes, id order, id, target, kind, a count over the end
+    for (place, byte) in [(6, 5), (1, 5), (8, 3), (9, 1), (8, 2), (18, 0xFC), (22, 0xFD), (24, 0x80), (25, 5), (16, 3)] {
+        let mut bad = good;
+        bad[place] = byte;
+        assert_eq!(Codes::parse(&bad), None, "byte {place}");
+    }
+    for end in 0..good.len() {
+        assert_eq!(Codes::parse(&good[..end]), None);
+    }
+    assert_eq!(Codes::parse(&[&good[..], &[0]].concat()), None);
+    assert!(Codes::parse(&[0, 0, 0, 0]).is_some());
+}
+
+// ---- document 01's examples
+
+const K1_TABLE: [u8; 17] = [0x2A, 0, 1, 0, 2, 0x64, 0, 2, 0, 0x60, 0x36, 0, 0, 0xDC, 0x14, 0, 1];
+
+fn k1_input() -> Vec<u8> {
+    let tail = [0x31, 5, 0xFE, 0x98, 0, 0xFE, 0x64, 0, 0x60, 0xFF, 0xFF, 0xDC, 2, 0x41, 0, 0xFD];
+    [&[0x11, 0, 0, 0][..], &K1_TABLE, &[0x2A], &[0; 9], &tail].concat()
+}
+
+#[test]
+fn k1_prints_what_document_01_prints() {
+    let lines = "answer 0 2 3 1\nC 0 0098 Detail - 1 0\nC 1 0064 Label 1 1 2\n\
+                 P 0 8031 - short 5\nP 1 0036 Left short -1\nP 2 0014 Name text 1\n";
+    assert_eq!(Judge::new().listing(&k1_input()).unwrap().text, lines);
+}
+
+#[test]
+fn inputs_that_are_framed_wrongly() {
+    let long = vec![0; listing::BUFFER + 1];
+    assert_eq!(listing::listing(&long), "answer 5 0 0 0\n");
+    for input in [&[][..], &[0, 0, 0], &[1, 0, 0, 0], &[0xFF; 4], &k1_input()[..20]] {
+        assert_eq!(listing::listing(input), "answer 8 0 0 0\n");
+    }
+}
+
+/// The value of one property of the object in a later stream.
+fn later_value(kind: u32, bytes: &[u8]) -> plain::Value {
+    let stream = [head_later(), property_later(0x11, kind, bytes, 253)].concat();
+    let found = crate::judge::blob(&oracle::codes(), &stream).unwrap().unwrap();
+    found.own[0].value
+}
+
+#[test]
+fn k2_to_k5_and_k12_values() {
+    assert_eq!(later_value(2, &[0xFF, 0x7F, 0, 0]), value::short(32767));
+    assert_eq!(later_value(2, &[0, 0x80, 0, 0]), value::BINARY);
+    assert_eq!(later_value(2, &[0xFF]), value::short(255));
+    assert_eq!(later_value(1, &[1, 0]), value::long(1));
+    assert_eq!(later_value(1, &[]), value::NOT_DEFAULT);
+    assert_eq!(later_value(6, &[0, 0, 0xC0, 0x3F]), value::double(0x3FF8_0000_0000_0000));
+}
+
+fn blob(stream: Vec<u8>) -> Option<plain::Reading> {
+    crate::judge::blob(&oracle::codes(), &stream).unwrap()
+}
+
+#[test]
+fn k6_lengths() {
+    for (spelling, length) in [(vec![0xFD], 253), (vec![0xFE], 254), (vec![0xFF, 5, 0], 5)] {
+        let stream = [head2000(0x96), vec![0xEA], spelling, vec![0x41; length], vec![0xFF, 0, 0]].concat();
+        assert_eq!(blob(stream).unwrap().own[0].length, length);
+    }
+}
+
+#[test]
+fn k7_and_k8_empty_lists() {
+    let controls = |tail: &[u8]| blob([&head2000(0x96)[..], tail].concat()).unwrap().controls.len();
+    assert_eq!((controls(&[0xFE, 0x64, 0, 0xFD]), controls(&[0xFE, 0x64, 0, 0xFF, 0, 0])), (0, 1));
+    let node = [node_later(0x64), property_later(0x14, 0x0A, b"A\0", 255), vec![0, 0]].concat();
+    let found = blob([head_later(), property_later(0x11, 1, &[], 254), node].concat()).unwrap();
+    assert_eq!((found.shape, found.controls.len()), (Shape::Tree, 0));
+}
+
+#[test]
+fn k9_type_info() {
+    let number = |s: &[u8]| crate::judge::type_info(s).unwrap().err();
+    let mut s = type_info_head(1);
+    s.resize(40, 0);
+    assert_eq!((number(&s[..31]), number(&s)), (Some(1), None));
+    s[12] = 2;
+    assert_eq!(number(&s), Some(3));
+    s[0] = 0;
+    assert_eq!(number(&s), Some(2));
+}
+
+#[test]
+fn k10_utf16_and_k11_guid() {
+    assert!(value::is_utf16(&[0x3D, 0xD8, 0x00, 0xDE]) && !value::is_utf16(&[0x3D, 0xD8]));
+    let bytes: Vec<u8> = (0..16).collect();
+    assert_eq!(value::guid_text(&bytes), "{03020100-0504-0706-0809-0A0B0C0D0E0F}");
+    assert_eq!(crate::data::format_guid(&bytes), value::guid_text(&bytes));
+}
+
+// ---- depths and refusals
+
+/// A chain of so many entries, the last with an empty list.
+fn chain2000(depth: usize) -> Vec<u8> {
+    [head2000(0x96), [0xFE, 0x64, 0].repeat(depth), vec![0xFF, 0, 0]].concat()
+}
+
+fn chain_later(depth: usize) -> Vec<u8> {
+    let mut s = [head_later(), property_later(0x11, 1, &[], 254)].concat();
+    for n in 1..=depth {
+        s.extend(node_later(0x64));
+        s.extend(property_later(0x14, 0x0A, b"A\0", if n < depth { 254 } else { 253 }));
+    }
+    s
+}
+
+#[test]
+fn depths() {
+    assert_eq!(blob(chain2000(256)).unwrap().controls.len(), 256);
+    assert!(blob(chain2000(257)).is_none());
+    assert_eq!(blob(chain_later(256)).unwrap().shape, Shape::Tree);
+    let scanned = blob(chain_later(257)).unwrap();
+    assert_eq!((scanned.shape, scanned.controls.len()), (Shape::Scan, 257));
+}
+
+#[test]
+fn answers_come_in_order() {
+    let table = oracle::codes().bytes();
+    let number = |table: &[u8], s: &[u8], words: [usize; 2]| plain::read_blob(table, s, words[0], words[1]).answer.number;
+    let long = vec![0x13; plain::LONGEST + 1];
+    assert_eq!(number(&[], &long, [0, 0]), 5);
+    assert_eq!(number(&table, &long[..plain::LONGEST], [0, 0]), 4);
+    assert_eq!(number(&[], &[0x13], [0, 0]), 8);
+    assert_eq!(number(&table, &[0x13], [0, 0]), 4);
+    let s = [head2000(0x96), vec![0x01, 0xFE, 0x98, 0, 0xFD]].concat();
+    assert_eq!([[5, 5], [6, 5], [11, 6]].map(|words| number(&table, &s, words)), [6, 7, 0]);
+    assert_eq!(plain::typeinfo::read_type_info(&long, 0).0.number, 5);
+}
+
+#[test]
+fn scan_starts_behind_the_objects_rows() {
+    let own = property_later(0x14, 0x0A, b"A\0", 1);
+    let found = blob([head_later(), own.clone(), vec![0xEE], own].concat()).unwrap();
+    assert_eq!((found.shape, found.own.len(), found.controls.len()), (Shape::Scan, 1, 1));
+    assert_eq!(found.controls[0].name, Name::Text { start: 49, length: 2 });
+}
+
+// ---- singles
+
+#[test]
+fn singles_are_widened_exactly() {
+    (0..1 << 16).for_each(|n: u32| same_single(n.wrapping_mul(0x0001_0003)));
+    (0..23).for_each(|bit| same_single(1 << bit));
+}
+
+/// Every single there is: minutes, so it is run by name (`cargo test --release -- --ignored`).
+#[test]
+#[ignore]
+fn all_singles_are_widened_exactly() {
+    (0..=u32::MAX).for_each(same_single);
+}
+
+fn same_single(bits: u32) {
+    let single = f64::from(f32::from_bits(bits));
+    let ours = value::widened(bits);
+    assert!(ours == single.to_bits() || single.is_nan() && f64::from_bits(ours).is_nan(), "{bits:08X}");
+}
+
+// ---- batch files
+
+#[test]
+fn batch_files_are_read_back() {
+    let judge = Judge::new();
+    let cases = batch::select(3, 6000, 4096);
+    let (frames, text) = batch::written(&judge, &cases).unwrap();
+    assert_eq!(batch::judge(&judge, &frames, &text), Ok(cases.len()));
+    let back = batch::read(&frames).unwrap();
+    assert!(cases.iter().zip(&back).all(|(a, b)| (a.kind, a.numbers, &a.bytes) == (b.kind, b.numbers, &b.bytes)));
+}
+
+#[test]
+fn a_wrong_print_is_found() {
+    let judge = Judge::new();
+    let cases = [Case::blob("", chain2000(2)), Case::type_info("", vec![0; 32])];
+    let (frames, text) = batch::written(&judge, &cases).unwrap();
+    let wrong = text.replacen("A 2", "A 3", 1);
+    let why = batch::judge(&judge, &frames, &wrong).unwrap_err();
+    assert!(why.starts_with("case 1\nTypeInfo"), "{why}");
+    assert!(batch::judge(&judge, &frames, &(text + "A 0 0 0 0\n")).is_err());
+}
+
+#[test]
+fn seeds_give_the_same_cases() {
+    assert_eq!(Rng::new(1).next(), 0x910A_2DEC_8902_5CC1);
+    let cases = |seed| batch::select(seed, 5000, 4096).iter().map(|c| c.bytes.clone()).collect::<Vec<_>>();
+    assert_eq!(cases(4), cases(4));
+    assert_ne!(cases(4), cases(5));
+}
+
+// ---- the comparison
+
+#[test]
+fn jetdb_agrees_on_some_random_cases() {
+    let judge = Judge::new();
+    let mut rng = Rng::new(2);
+    for _ in 0..20_000 {
+        let case = batch::chance(&mut rng);
+        if let Err(why) = judge.expected(&case) {
+            panic!("{why}\n{}", batch::shown(&case));
+        }
+    }
+}
+
+#[test]
+fn dump_has_the_words_of_the_rows() {
+    let stream = [head2000(0x97), vec![0x01, 0xFE, 0x99, 0, 0xDF, 2, 0x41, 0, 0xFD]].concat();
+    let text = Judge::new().expected(&Case::blob("", stream)).unwrap().text;
+    assert_eq!(text, "A 0 1 2 1\nC 6553 0 16 2 1 1\nP 32769 1 0 0 11 0\nP 20 6 0 0 16 2\n");
+}
+
+#[test]
+fn small_functions() {
+    let text = |kind, numbers, bytes: &[u8]| Judge::new().expected(&Case::other("", kind, numbers, bytes.to_vec())).unwrap().text;
+    assert_eq!(text(Kind::Label, [9, 7], &[]), "A 0 9 0 0\nB 43 6F 6E 74 72 6F 6C 5F 37\n");
+    assert_eq!(text(Kind::Label, [9, 10], &[]), "A 9 0 0 0\nB\n");
+    assert_eq!(text(Kind::Guid, [0, 0], &[0; 15]), "A 10 0 0 0\nB\n");
+    assert_eq!(text(Kind::Names, [0x63, 0], &[]), "B\nB\nB 4F 62 6A 65 63 74 50 61 6C 65 74 74 65\nB\n");
+    assert_eq!(text(Kind::NamePart, [1, 2], &[9, 0, 0, 0, 1, 0, 0, 0, 0xA0, 0xA1, 0x50]), "B A0\n");
+    assert_eq!(text(Kind::NamePart, [0, 2], &[0, 0, 0, 0, 1, 0, 0, 0, 0xA0, 0xA1, 0x50]), "B 50\n");
+}
+
+// ---- the example streams
+
+fn example(name: &str) -> Vec<u8> {
+    std::fs::read(format!("{}/../examples/{name}", env!("CARGO_MANIFEST_DIR"))).unwrap()
+}
+
+#[test]
+fn examples_are_listed_as_their_files_say() {
+    let judge = Judge::new();
+    let shapes = [("form-2000", Shape::Access2000), ("report-2000", Shape::Access2000), ("later-tree", Shape::Tree), ("later-scan", Shape::Scan)];
+    for (name, shape) in shapes {
+        let found = judge.listing(&example(&format!("{name}.input"))).unwrap();
+        assert_eq!(found.text.as_bytes(), example(&format!("{name}.list")), "{name}");
+        assert_eq!(found.shape, Some(shape), "{name}");
+    }
+    let rows = crate::type_info(&judge, example("form.typeinfo")).unwrap();
+    assert_eq!(rows.as_bytes(), example("form.typeinfo.rows"));
+}
