@@ -1,0 +1,196 @@
+#!/usr/bin/env python3
+"""Makes the example streams of this folder. README.md says what each holds.
+
+For each Blob NAME.blob it also writes NAME.input: the code table's length, data/access2000.codes, the Blob,
+as formlist reads them. With a folder as its argument it writes there.
+"""
+import pathlib
+import struct
+import sys
+
+HERE = pathlib.Path(__file__).resolve().parent
+
+
+def u16(n):
+    return struct.pack("<H", n)
+
+
+def u32(n):
+    return struct.pack("<I", n)
+
+
+def text(s):
+    return s.encode("utf-16-le")
+
+
+# ---- Access 2000: an id, a value whose size the id tells, a list of entries
+
+def flag(id):
+    return bytes([id])
+
+
+def byte(id, value):
+    return bytes([id, value])
+
+
+def short(id, value):
+    return bytes([id]) + struct.pack("<h", value)
+
+
+def long(id, value):
+    return bytes([id]) + struct.pack("<i", value)
+
+
+def sized(id, value):
+    length = bytes([len(value)]) if len(value) < 255 else b"\xff" + u16(len(value))
+    return bytes([id]) + length + value
+
+
+def entries(items):
+    head = b"\xfe" if len(items) == 1 else b"\xff" + u16(len(items))
+    return head + b"".join(items)
+
+
+def entry(type_code, properties, inside=None):
+    return u16(type_code) + b"".join(properties) + (b"\xfd" if inside is None else entries(inside))
+
+
+def stream_2000(object_type, properties, top):
+    return b"\x13" + bytes(7) + u16(object_type) + b"".join(properties) + entries(top)
+
+
+FORM, REPORT = 0x96, 0x97
+LABEL, TEXT_BOX, COMBO_BOX, TAB_CONTROL, PAGE = 0x64, 0x6D, 0x6F, 0x7B, 0x7C
+DETAIL, HEADER, FOOTER, PAGE_HEADER, GROUP_HEADER = 0x98, 0x99, 0x9A, 0x9B, 0x9D
+GUID = bytes.fromhex("f0e1d2c3b4a5968778695a4b3c2d1e0f")
+
+
+def label_2000(name, caption, left, top):
+    return entry(LABEL, [short(0x60, left), short(0x61, top), sized(0xDC, text(name)), sized(0xDD, text(caption))])
+
+
+def text_box_2000(name, source, left, top):
+    place = [short(0x60, left), short(0x61, top), short(0x62, 1800), short(0x63, 240)]
+    return entry(TEXT_BOX, place + [sized(0xDC, text(name)), sized(0xDD, text(source))])
+
+
+def combo_box_2000(name, source, rows):
+    numbers = [short(0x60, 2), short(0x64, 900), long(0x9C, 1)]
+    return entry(COMBO_BOX, numbers + [sized(0xDC, text(name)), sized(0xDD, text(source)), sized(0xDF, text(rows))])
+
+
+def form_2000():
+    own = [
+        byte(0x30, 1), short(0x63, 7200), long(0x9D, -1), flag(0x2F),
+        sized(0xCE, struct.pack("<d", 36526.5)), sized(0xD0, GUID),
+        sized(0xD5, b"\x01\x02\x03"),  # jetdb ties no property to 0xD5 of a form
+        sized(0xDC, text("Relays")), sized(0xDD, text("Relay room")),
+    ]
+    controls = [
+        label_2000("lblVolt", "Voltage", 60, 120),
+        text_box_2000("txtVolt", "Voltage", 900, 120),
+        label_2000("lblSign", "Sign \U0001F600", 60, 480),
+        text_box_2000("txtSign", "Sign", 900, 480),
+        combo_box_2000("cboFeeder", "FeederId", "SELECT Id, Name FROM Feeders"),
+        entry(TEXT_BOX, [short(0x60, -15), sized(0xDC, b"\x3d\xd8")]),  # its name is no UTF-16, so it is numbered
+    ]
+    top = [
+        entry(LABEL, [byte(0x38, 34)]),  # a default control: no section and no list, so it isn't reported
+        entry(HEADER, [short(0x60, 600), sized(0xDF, text("FormHeader"))], []),
+        entry(DETAIL, [short(0x60, 3000), long(0x9C, 0x00C0C0C0), sized(0xDF, text("Detail"))], controls),
+        entry(FOOTER, [sized(0xDF, text("FormFooter"))]),
+    ]
+    return stream_2000(FORM, own, top)
+
+
+def report_2000():
+    own = [flag(0x14), short(0x63, 9000), sized(0xDC, text("Faults")), sized(0xDD, text("Faults by feeder"))]
+    top = [
+        entry(HEADER, [short(0x60, 500), sized(0xDF, text("ReportHeader"))], [label_2000("lblTitle", "Faults", 0, 0)]),
+        entry(PAGE_HEADER, [sized(0xDF, text("PageHeader"))]),
+        entry(GROUP_HEADER, [sized(0xDF, text("GroupHeader0"))], [text_box_2000("txtFeeder", "Feeder", 0, 0)]),
+        entry(DETAIL, [sized(0xDF, text("Detail"))], [
+            text_box_2000("txtAt", "FaultAt", 0, 0),
+            text_box_2000("txtText", "=Left([Remark],40)", 2000, 0),
+        ]),
+        entry(FOOTER, [sized(0xDF, text("ReportFooter"))]),
+    ]
+    return stream_2000(REPORT, own, top)
+
+
+# ---- later: properties with a type and a trailer; the last trailer of a group tells how many nodes follow
+
+def group(properties, children):
+    last = {0: 253, 1: 254}.get(len(children), 255)
+    out = b""
+    for n, (id, kind, value) in enumerate(properties):
+        trailer = last if n + 1 == len(properties) else n + 1
+        out += u16(id) + u32(kind) + u32(0) + u32(len(value)) + value + u32(trailer)
+    if last == 255:
+        out += u16(len(children))
+    return out + b"".join(children)
+
+
+def node(type_code, properties, children=()):
+    return u16(type_code) + u32(0) + group(properties, children)
+
+
+def name(s):
+    return (0x0014, 0x0A, text(s))
+
+
+def source(s):
+    return (0x001B, 0x0A, text(s))
+
+
+def later_nodes():
+    page = node(PAGE, [name("pagState"), (0x0011, 0x0A, text("State"))], [
+        node(TEXT_BOX, [(0x0036, 0x02, struct.pack("<h", 300)), name("txtState"), source("State")]),
+    ])
+    detail = node(DETAIL, [(0x002C, 0x02, struct.pack("<h", 3000)), name("Detail")], [
+        node(LABEL, [name("lblVolt"), (0x0011, 0x0A, text("Voltage")), (0x0094, 0x01, b"\x00")]),
+        node(TEXT_BOX, [(0x0094, 0x01, b""), name("txtVolt"), source("Voltage"), (0x0008, 0x04, struct.pack("<i", -2147483633))]),
+        node(COMBO_BOX, [name("cboFeeder"), source("FeederId"), (0x005B, 0x0A, text("SELECT Id, Name FROM Feeders"))]),
+        node(TAB_CONTROL, [name("tabMore")], [page]),
+        node(TEXT_BOX, [(0x0014, 0x0A, b"odd"), source("Loose")]),  # three bytes are no UTF-16
+    ])
+    return [node(TEXT_BOX, [(0x0023, 0x01, b"\x09")]), detail]
+
+
+def later(behind=b""):
+    own = [
+        (0x009C, 0x0A, text("Relays")), (0x0096, 0x02, struct.pack("<h", 7200)), (0x016C, 0x08, struct.pack("<d", 36526.5)),
+        (0x01D0, 0x06, struct.pack("<f", 1.5)), (0x0178, 0x09, GUID), (0x00BD, 0x0B, bytes(range(8))), (0x0013, 0x01, b""),
+    ]
+    return b"\x01" + bytes(13) + group(own, later_nodes()) + behind
+
+
+# ---- TypeInfo: a header, then entries with two names each
+
+def type_info():
+    def item(type_code, index, prefix, real=b"", tail=b""):
+        return u16(type_code) + u16(0) + u32(index) + prefix + b"\0" + real + b"\0" + tail
+
+    items = [
+        item(0x1898, 0, b"Detail"),
+        item(0x126D, 1, b"txtVolt"),
+        item(0x0C64, 2, b"Sign__text_", b"Sign (text)"),
+        item(0x1B77, 3, b"spnStep", tail=bytes(36)),  # an ActiveX control: 36 bytes more
+        item(0x1EFF, 4, b"internal"),                 # not reported
+        item(0x136F, 5, b"K\xfcche"),
+    ]
+    return bytes.fromhex("f7eacdac") + u32(1) + u32(0) + u32(len(items)) + bytes(16) + b"".join(items)
+
+
+def main():
+    folder = pathlib.Path(sys.argv[1]) if len(sys.argv) > 1 else HERE
+    table = (HERE.parent / "data" / "access2000.codes").read_bytes()
+    blobs = {"form-2000": form_2000(), "report-2000": report_2000(), "later-tree": later(), "later-scan": later(b"\0")}
+    for title, blob in blobs.items():
+        (folder / f"{title}.blob").write_bytes(blob)
+        (folder / f"{title}.input").write_bytes(u32(len(table)) + table + blob)
+    (folder / "form.typeinfo").write_bytes(type_info())
+
+
+if __name__ == "__main__":
+    main()
