@@ -1,7 +1,7 @@
 //! Batch files: many cases for one run of another program. README.md has the format.
 
 use crate::cases::rng::Rng;
-use crate::cases::{fixed, leaves, random, typeinfo, Case, KINDS, Kind};
+use crate::cases::{fixed, leaves, random, typeinfo, Case, Kind, KINDS};
 use crate::expect::Judge;
 use crate::plain::u32_at;
 
@@ -112,7 +112,11 @@ pub fn judge(judge: &Judge, frames: &[u8], printed: &str) -> Result<usize, Strin
         let text = judge.expected(case)?.text;
         rest = rest.strip_prefix(&text).ok_or_else(|| difference(n, case, &text, rest))?;
     }
-    if rest.is_empty() { Ok(cases.len()) } else { Err(format!("more was printed: {}", first_lines(rest, 3))) }
+    if rest.is_empty() {
+        Ok(cases.len())
+    } else {
+        Err(format!("more was printed: {}", first_lines(rest, 3)))
+    }
 }
 
 fn difference(n: usize, case: &Case, expected: &str, rest: &str) -> String {

@@ -74,7 +74,11 @@ impl Judge {
         let places = |codes| plain::reading(codes, stream).map(|found| places_of(&plain::rows(&found)));
         judge::blob(&self.codes, stream)?;
         let (ours, theirs) = (places(&codes), places(&self.codes));
-        if ours == theirs { Ok(()) } else { Err("another table moved the places".to_string()) }
+        if ours == theirs {
+            Ok(())
+        } else {
+            Err("another table moved the places".to_string())
+        }
     }
 
     /// What `formlist` prints.
@@ -83,7 +87,11 @@ impl Judge {
         let Ok((table, stream)) = listing::parts(input) else { return Ok(Expected::new(text, false)) };
         let room = [listing::CONTROL_WORDS, listing::PROPERTY_WORDS];
         let found = self.blob(table, stream, room, listing::lines)?;
-        if found.text == text { Ok(found) } else { Err("two listings of one input".to_string()) }
+        if found.text == text {
+            Ok(found)
+        } else {
+            Err("two listings of one input".to_string())
+        }
     }
 }
 

@@ -51,7 +51,11 @@ fn shape_of(stream: &[u8]) -> Shape {
 
 /// Where the object's first property stands.
 fn first_place(shape: Shape) -> usize {
-    if shape == Shape::Access2000 { 10 } else { 14 }
+    if shape == Shape::Access2000 {
+        10
+    } else {
+        14
+    }
 }
 
 // ---- properties

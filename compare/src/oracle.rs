@@ -48,9 +48,5 @@ pub fn codes() -> Codes {
         code,
         rows: rows.into_iter().map(|(id, target, kind)| Row { id, target, kind }).collect(),
     };
-    Codes {
-        layout: form2000::VERSION,
-        header: form2000::header_codes(),
-        scopes: form2000::scopes().into_iter().map(scope).collect(),
-    }
+    Codes { layout: form2000::VERSION, header: form2000::header_codes(), scopes: form2000::scopes().into_iter().map(scope).collect() }
 }

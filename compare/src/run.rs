@@ -12,7 +12,9 @@ pub struct Figures {
     by_document: usize,
     families: BTreeMap<(Kind, &'static str), usize>,
     outcomes: BTreeMap<(Kind, Option<Shape>, Option<u32>), usize>,
+    /// The first differences; the others are only counted.
     differences: Vec<String>,
+    more: usize,
 }
 
 impl Figures {
@@ -23,8 +25,8 @@ impl Figures {
                 *self.families.entry((case.kind, case.family)).or_default() += 1;
                 *self.outcomes.entry((case.kind, expected.shape, expected.number())).or_default() += 1;
             }
-            Err(why) if self.differences.len() < 20 => self.differences.push(smallest(judge, case, why)),
-            Err(_) => {}
+            Err(why) if self.differences.len() < 5 => self.differences.push(smallest(judge, case, why)),
+            Err(_) => self.more += 1,
         }
     }
 
@@ -38,7 +40,7 @@ impl Figures {
             let number = number.map_or("-".to_string(), |n| n.to_string());
             println!("outcome {kind:?} {shape} answer {number}: {count}");
         }
-        println!("differences: {}", self.differences.len());
+        println!("differences: {}", self.differences.len() + self.more);
         for difference in &self.differences {
             println!("{difference}\n");
         }
@@ -49,18 +51,20 @@ impl Figures {
     }
 }
 
-/// Takes parts out of a case as long as some difference stays.
+/// Takes parts out of a case as long as some difference stays; how many bytes are read for it has a bound.
 fn smallest(judge: &Judge, case: &Case, mut why: String) -> String {
     let mut case = case.clone();
+    let mut budget: usize = 10_000_000;
     let mut size = case.bytes.len();
     while size > 0 {
         let mut from = 0;
-        while from + size <= case.bytes.len() {
+        while from + size <= case.bytes.len() && budget > 0 {
             let mut shorter = case.clone();
             shorter.bytes.drain(from..from + size);
+            budget = budget.saturating_sub(100 + shorter.bytes.len());
             match judge.expected(&shorter) {
                 Err(still) => (case, why) = (shorter, still),
-                Ok(_) => from += 1,
+                Ok(_) => from += size,
             }
         }
         size /= 2;

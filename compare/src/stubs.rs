@@ -50,12 +50,7 @@ pub mod storage {
         Ok(Vec::new())
     }
 
-    pub fn object_stream<'a>(
-        entries: &'a [StorageEntry],
-        _: Folder,
-        _: &str,
-        stream: &str,
-    ) -> Result<Option<&'a StorageEntry>, FileError> {
+    pub fn object_stream<'a>(entries: &'a [StorageEntry], _: Folder, _: &str, stream: &str) -> Result<Option<&'a StorageEntry>, FileError> {
         Ok(entries.iter().find(|e| e.name == stream))
     }
 }

@@ -271,7 +271,8 @@ fn example(name: &str) -> Vec<u8> {
 #[test]
 fn examples_are_listed_as_their_files_say() {
     let judge = Judge::new();
-    let shapes = [("form-2000", Shape::Access2000), ("report-2000", Shape::Access2000), ("later-tree", Shape::Tree), ("later-scan", Shape::Scan)];
+    let shapes =
+        [("form-2000", Shape::Access2000), ("report-2000", Shape::Access2000), ("later-tree", Shape::Tree), ("later-scan", Shape::Scan)];
     for (name, shape) in shapes {
         let found = judge.listing(&example(&format!("{name}.input"))).unwrap();
         assert_eq!(found.text.as_bytes(), example(&format!("{name}.list")), "{name}");

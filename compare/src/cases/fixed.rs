@@ -6,9 +6,11 @@ use super::{strings, Case, Sink};
 /// Streams that must be in every selection: the examples of document 01, the depths, the lengths.
 pub fn telling(out: Sink) {
     examples(out);
+    whole_forms(out);
     depths(out);
     lengths2000(out);
     lengths_later(out);
+    rooms(out);
 }
 
 /// The large families: `longest` letters or tokens.
@@ -21,6 +23,8 @@ pub fn exhaustive(longest: usize, out: Sink) {
     values_later(out);
     numbers_later(out);
     texts(out);
+    counts(out);
+    damaged(out);
 }
 
 /// K1's stream, K7 and K8, and the shortest streams of each answer.
@@ -245,8 +249,15 @@ fn numbers_later(out: Sink) {
 /// Every text of at most three telling units, with and without an odd byte, as name and as value in each layout.
 fn texts(out: Sink) {
     let units: [&[u8]; 9] = [
-        &[0x00, 0x00], &[0x41, 0x00], &[0xFF, 0xD7], &[0x00, 0xD8], &[0xFF, 0xDB],
-        &[0x00, 0xDC], &[0xFF, 0xDF], &[0x00, 0xE0], &[0xFF, 0xFF],
+        &[0x00, 0x00],
+        &[0x41, 0x00],
+        &[0xFF, 0xD7],
+        &[0x00, 0xD8],
+        &[0xFF, 0xDB],
+        &[0x00, 0xDC],
+        &[0xFF, 0xDF],
+        &[0x00, 0xE0],
+        &[0xFF, 0xFF],
     ];
     strings(&[], &units, 3, &mut |text| {
         for odd in [&[][..], &[0xD8], &[0xDC]] {
@@ -263,4 +274,70 @@ fn texts(out: Sink) {
             out(Case::blob("texts", [head_later(), vec![0xEE; 5], scanned].concat()));
         }
     });
+}
+
+/// As many rows as `formlist` lends, one less and one more; read with words, and listed.
+fn rooms(out: Sink) {
+    let table = crate::oracle::codes().bytes();
+    let mut out = |stream: Vec<u8>| {
+        out(Case::listing("rooms", &table, &stream));
+        out(Case::blob("rooms", stream));
+    };
+    for controls in 255..=257 {
+        for properties in [1023, 1024, 1025] {
+            let list = list2000(controls, true);
+            let entries = [0x98, 0, 0xFD].repeat(controls as usize);
+            out([head2000(0x96), vec![0x01; properties], list, entries].concat());
+            let flags: Vec<u8> = (1..properties).flat_map(|_| property_later(0x13, 1, &[], 1)).collect();
+            let last = [property_later(0x13, 1, &[], 255), controls.to_le_bytes().to_vec()].concat();
+            let nodes = [node_later(0x98), property_later(0x13, 1, &[], 253)].concat().repeat(controls as usize);
+            out([head_later(), flags[..flags.len() - 18 * controls as usize].to_vec(), last, nodes].concat());
+        }
+    }
+}
+
+/// The largest counts, all there and one missing.
+fn counts(out: Sink) {
+    for present in [65534, 65535] {
+        let entries = [0x64, 0, 0xFF, 0, 0].repeat(present);
+        out(Case::blob("counts", [head2000(0x96), list2000(65535, true), entries].concat()));
+        let own = [property_later(0x13, 1, &[], 255), vec![0xFF, 0xFF]].concat();
+        let nodes = [node_later(0x98), property_later(0x13, 1, &[], 253)].concat().repeat(present);
+        out(Case::blob("counts", [head_later(), own, nodes].concat()));
+    }
+}
+
+const EXAMPLES: [&[u8]; 3] = [
+    include_bytes!("../../../examples/form-2000.blob"),
+    include_bytes!("../../../examples/report-2000.blob"),
+    include_bytes!("../../../examples/later-tree.blob"),
+];
+
+/// The example Blobs, and with a byte behind them; read with words, and listed.
+fn whole_forms(out: Sink) {
+    let table = crate::oracle::codes().bytes();
+    for example in EXAMPLES {
+        for behind in [&[][..], &[0]] {
+            let stream = [example, behind].concat();
+            out(Case::listing("forms", &table, &stream));
+            out(Case::blob("forms", stream));
+        }
+    }
+}
+
+/// The example Blobs with each cut, each byte taken out or doubled, each bit turned, each byte made a telling one.
+fn damaged(out: Sink) {
+    for example in EXAMPLES {
+        for place in 0..example.len() {
+            let (before, behind) = example.split_at(place);
+            let byte = behind[0];
+            out(Case::blob("damaged", before.to_vec()));
+            out(Case::blob("damaged", [before, &behind[1..]].concat()));
+            out(Case::blob("damaged", [before, &[byte], behind].concat()));
+            let turned = (0..8).map(|bit| byte ^ 1 << bit);
+            for other in turned.chain([0x00, 0x13, 0x14, 0x30, 0x80, 0xDC, 0xFD, 0xFE, 0xFF]) {
+                out(Case::blob("damaged", [before, &[other], &behind[1..]].concat()));
+            }
+        }
+    }
 }

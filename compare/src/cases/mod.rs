@@ -23,8 +23,7 @@ pub enum Kind {
     NamePart = 7,
 }
 
-pub const KINDS: [Kind; 8] =
-    [Kind::Table, Kind::Blob, Kind::TypeInfo, Kind::Listing, Kind::Guid, Kind::Label, Kind::Names, Kind::NamePart];
+pub const KINDS: [Kind; 8] = [Kind::Table, Kind::Blob, Kind::TypeInfo, Kind::Listing, Kind::Guid, Kind::Label, Kind::Names, Kind::NamePart];
 
 #[derive(Debug, Clone)]
 pub struct Case {
@@ -47,6 +46,12 @@ impl Case {
 
     pub fn type_info(family: &'static str, bytes: Vec<u8>) -> Case {
         Case { family, kind: Kind::TypeInfo, table: None, numbers: [4 * 256, 0], bytes }
+    }
+
+    /// A whole input of `formlist`: the table, framed, and the Blob.
+    pub fn listing(family: &'static str, table: &[u8], blob: &[u8]) -> Case {
+        let length = (table.len() as u32).to_le_bytes();
+        Case::other(family, Kind::Listing, [0, 0], [&length, table, blob].concat())
     }
 
     pub fn other(family: &'static str, kind: Kind, numbers: [u32; 2], bytes: Vec<u8>) -> Case {

@@ -6,9 +6,8 @@ use super::{Case, Kind};
 use crate::plain::codes::{Codes, Row, Scope};
 use crate::{listing, oracle, plain};
 
-const TELLING: [u8; 20] = [
-    0x00, 0x01, 0x02, 0x0A, 0x13, 0x14, 0x30, 0x60, 0x64, 0x80, 0x97, 0x98, 0x9A, 0x9E, 0xDC, 0xDF, 0xFC, 0xFD, 0xFE, 0xFF,
-];
+const TELLING: [u8; 20] =
+    [0x00, 0x01, 0x02, 0x0A, 0x13, 0x14, 0x30, 0x60, 0x64, 0x80, 0x97, 0x98, 0x9A, 0x9E, 0xDC, 0xDF, 0xFC, 0xFD, 0xFE, 0xFF];
 
 /// One Blob case under jetdb's own table.
 pub fn blob(rng: &mut Rng) -> Case {
@@ -103,7 +102,11 @@ fn property2000(rng: &mut Rng, s: &mut Vec<u8>) {
 }
 
 fn number(rng: &mut Rng, size: usize) -> Vec<u8> {
-    if rng.one_in(2) { rng.bytes(size) } else { vec![rng.pick(&TELLING); size] }
+    if rng.one_in(2) {
+        rng.bytes(size)
+    } else {
+        vec![rng.pick(&TELLING); size]
+    }
 }
 
 fn value(rng: &mut Rng) -> Vec<u8> {

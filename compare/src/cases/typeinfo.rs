@@ -74,5 +74,9 @@ fn entry(rng: &mut Rng, s: &mut Vec<u8>) {
 
 /// Names of the internal entries are kept short.
 fn rng_name(type_code: u16) -> usize {
-    if type_code == 0x1EFF { 3 } else { 9 }
+    if type_code == 0x1EFF {
+        3
+    } else {
+        9
+    }
 }
