@@ -186,7 +186,7 @@ fn singles_are_widened_exactly() {
     (0..23).for_each(|bit| same_single(1 << bit));
 }
 
-/// Every single there is: minutes, so it is run by name (`cargo test --release -- --ignored`).
+/// Every single there is; it takes a while, so it is run by name (`cargo test --release -- --ignored`).
 #[test]
 #[ignore]
 fn all_singles_are_widened_exactly() {
@@ -209,6 +209,20 @@ fn batch_files_are_read_back() {
     assert_eq!(batch::judge(&judge, &frames, &text), Ok(cases.len()));
     let back = batch::read(&frames).unwrap();
     assert!(cases.iter().zip(&back).all(|(a, b)| (a.kind, a.numbers, &a.bytes) == (b.kind, b.numbers, &b.bytes)));
+}
+
+#[test]
+fn batch_files_lend_what_the_readme_says() {
+    for case in batch::select(6, 20_000, 32_768) {
+        let [first, second] = case.numbers.map(|n| n as usize);
+        assert!(case.bytes.len() <= 32_768);
+        assert!(match case.kind {
+            Kind::Blob => first <= 6 * 256 && second <= 6 * 1024,
+            Kind::TypeInfo => first <= 4 * 256,
+            Kind::Guid | Kind::Label => first <= 64,
+            _ => true,
+        });
+    }
 }
 
 #[test]

@@ -28,13 +28,14 @@ pub fn blob(rng: &mut Rng) -> Case {
     case
 }
 
-/// Words lent around what is needed.
+/// Words lent around what is needed, but no more than `formlist` lends.
 fn set_room(rng: &mut Rng, case: &mut Case) {
     let table = case.table.as_deref().map_or_else(|| Some(oracle::codes()), Codes::parse);
     let found = table.and_then(|codes| plain::reading(&codes, &case.bytes));
     let counts = found.map_or([1, 1, 0], |found| plain::rows(&found).answer.counts);
     for (i, words) in case.numbers.iter_mut().enumerate() {
-        *words = (6 * counts[i] + rng.below(13) as u32).saturating_sub(7);
+        let around = (6 * counts[i] + rng.below(13) as u32).saturating_sub(7);
+        *words = around.min([listing::CONTROL_WORDS, listing::PROPERTY_WORDS][i] as u32);
     }
 }
 
