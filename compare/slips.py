@@ -38,7 +38,6 @@ SLIPS = [
     ("later", ".filter(|g| !g.properties.is_empty())", ""),
     ("later", "Some(p) if p.value.mark == 8", "Some(p) if p.value.mark == 9"),
     ("later", "(0x0A | 0x0C, _) if is_utf16(bytes)", "(0x0A, _) if is_utf16(bytes)"),
-    ("later", "u32_at(s, pos + 2)?;", ""),
     ("value", "0xDC..=0xDF => return false", "0xDC..=0xDE => return false"),
     ("value", "let mut exponent = 1023 - 126;", "let mut exponent = 1023 - 127;"),
     ("value", "if v >= 0x8000 {", "if v > 0x8000 {"),

@@ -95,7 +95,7 @@ fn nodes(s: &[u8], own: &Group) -> Option<Vec<Node>> {
             return None;
         }
         let type_code = u16_at(s, pos)?;
-        u32_at(s, pos + 2)?;
+        // The four bytes passed over are there if the group's first property is.
         let found = group(s, pos + 6, s.len());
         let (children, behind) = children(s, &found)?;
         left.push(children);
