@@ -193,6 +193,18 @@ fn all_singles_are_widened_exactly() {
     (0..=u32::MAX).for_each(same_single);
 }
 
+/// Rust doesn't fix the bits of a widened NaN, so this speaks of the machine that it is run on.
+#[test]
+#[ignore]
+fn nan_singles_have_document_01s_bits_here() {
+    for fraction in 1..1 << 23 {
+        for bits in [0x7F80_0000 | fraction, 0xFF80_0000 | fraction] {
+            let single = f64::from(std::hint::black_box(f32::from_bits(bits)));
+            assert_eq!(single.to_bits(), value::widened(bits), "{bits:08X}");
+        }
+    }
+}
+
 fn same_single(bits: u32) {
     let single = f64::from(f32::from_bits(bits));
     let ours = value::widened(bits);
