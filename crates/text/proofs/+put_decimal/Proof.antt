@@ -1,0 +1,62 @@
+use Prim.Native.Nat.{ℕ, _<_}
+use native.Mathlib.Omega.{arith}
+use borrow.Fn.Kinds.{In}
+use borrow.Fn.PlainCycle.{Measures, is, falls, and}
+use Rattle.text.proofs.Chain.{_⨟_, same}
+use Rattle.text.proofs.Digits.{one-digit, more-digits}
+use Rattle.text.proofs.+put_decimal.{statement}
+use Rattle.text.proofs.+put_decimal.Tie.{close}
+use Rattle.text.proofs.put_decimal.Reads as put-decimal
+use Rattle.text.proofs.put_decimal.Kinds as put-decimal-kinds
+use Rattle.text.proofs.+put_decimal.Lts-put_decimal as put-decimal-lts
+use Rattle.text.proofs.put_digit.Reads as put-digit-reads
+
+abbrev μ-put-decimal : Measures 1 put-decimal-kinds.ps ℕ
+μ-put-decimal κs a = a .1 .1 .0
+
+abbrev put-decimal-at : ℕ → In 1 put-decimal-kinds.ps
+put-decimal-at t =
+    and 1 put-decimal-kinds.ps (is 1 put-decimal-kinds.ps μ-put-decimal t) put-decimal.Pre
+
+abbrev put-decimal-below : ℕ → In 1 put-decimal-kinds.ps
+put-decimal-below t =
+    and 1 put-decimal-kinds.ps (falls 1 put-decimal-kinds.ps _<_ μ-put-decimal t) put-decimal.Pre
+
+-- what each function called asks and tells
+abbrev put-decimal-calls : ℕ → put-decimal-lts.Claims
+put-decimal-calls t = (put-digit-reads.Asked, put-digit-reads.Learnt, put-decimal-below t, put-decimal.Post)
+
+put-decimal-put-digit-requires : (t : ℕ) → put-decimal-lts.Need-put-digit-requires (put-decimal-calls t) (put-decimal-at t) put-decimal.Post
+put-decimal-put-digit-requires t c κs = omega arith
+
+put-decimal-put-decimal-requires : (t : ℕ) → put-decimal-lts.Need-put-decimal-requires (put-decimal-calls t) (put-decimal-at t) put-decimal.Post
+put-decimal-put-decimal-requires t c κs = omega arith
+
+put-decimal-put-digit-requires-2 : (t : ℕ) → put-decimal-lts.Need-put-digit-requires-2 (put-decimal-calls t) (put-decimal-at t) put-decimal.Post
+put-decimal-put-digit-requires-2 t c κs = omega arith
+
+put-decimal-same-length : (t : ℕ) → put-decimal-lts.Need-same-length (put-decimal-calls t) (put-decimal-at t) put-decimal.Post
+put-decimal-same-length t c = same (c .before .before .put-digit .ensures)
+
+put-decimal-returns : (t : ℕ) → put-decimal-lts.Need-returns (put-decimal-calls t) (put-decimal-at t) put-decimal.Post
+put-decimal-returns t c = let n = c .before .before .before .before .before .before .args .n in rw (one-digit n (c .before .before .before .before .if1 .taken)) (c .before .before .put-digit .ensures)
+
+put-decimal-same-length-2 : (t : ℕ) → put-decimal-lts.Need-same-length-2 (put-decimal-calls t) (put-decimal-at t) put-decimal.Post
+put-decimal-same-length-2 t c = same (c .before .before .before .before .before .before .put-decimal .ensures ⨟ c .before .before .put-digit2 .ensures)
+
+put-decimal-returns-2 : (t : ℕ) → put-decimal-lts.Need-returns-2 (put-decimal-calls t) (put-decimal-at t) put-decimal.Post
+put-decimal-returns-2 t c =
+    let e = c .before .before .before .before .before .before .before .before in
+    rw (more-digits (e .before .before .args .n) (e .if1 .left)) (c .before .before .before .before .before .before .put-decimal .ensures ⨟ c .before .before .put-digit2 .ensures)
+
+pub +put-decimal-spec : {M : Type 1} → statement M
++put-decimal-spec = close μ-put-decimal λ t. put-decimal-lts.spec (put-decimal-calls t)
+    (put-decimal-at t)
+    put-decimal.Post
+    (put-decimal-put-digit-requires t)
+    (put-decimal-put-decimal-requires t)
+    (put-decimal-put-digit-requires-2 t)
+    (put-decimal-same-length t)
+    (put-decimal-returns t)
+    (put-decimal-same-length-2 t)
+    (put-decimal-returns-2 t)

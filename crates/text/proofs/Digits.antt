@@ -1,0 +1,68 @@
+-- The digits of a number, one at a time.
+use mathlib.Core.Path.{_≡_, refl, ap}
+use mathlib.Core.Bool.{Bool, true, false, cond}
+use mathlib.Core.List.{List, [], _∷_, _++_}
+use Prim.Native.Nat.{ℕ, zero, suc, _+_, _*_, _-_, _/_, _%_, _≤_, _<_}
+use native.Mathlib.Omega.{arith}
+use borrow.Author.Tests.{lt-ltb, le-ltb, ltb-true, ltb-false}
+use lib.Dec.{ltb}
+use lib.ListN.{length, length-append}
+use Rattle.rules.specs.Digits.{digit, decimalBy, decimal, hex}
+use Rattle.rules.specs.Texts.{label}
+
+-- more steps than there are digits change nothing
+abbrev grown : ℕ → List ℕ → List ℕ
+grown n l = l ++ (digit (n % 10) ∷ [])
+
+steps-by : (n : ℕ) (l r : List ℕ) → (10 ≤ n → l ≡ r) → (t : Bool) → ltb n 10 ≡ t → cond t (digit n ∷ []) (grown n l) ≡ cond t (digit n ∷ []) (grown n r)
+steps-by n l r e true q = refl
+steps-by n l r e false q = ap (grown n) (e (ltb-false n 10 q))
+
+steps : (f g n : ℕ) → n < f → n < g → decimalBy f n ≡ decimalBy g n
+unfolding decimalBy
+steps zero g n h k = absurd (omega arith)
+steps (suc f) zero n h k = absurd (omega arith)
+steps (suc f) (suc g) n h k = steps-by n (decimalBy f (n / 10)) (decimalBy g (n / 10)) (λ l. steps f g (n / 10) (omega arith) (omega arith)) (ltb n 10) refl
+
+pub one-digit : (n : ℕ) → n < 10 → decimal n ≡ digit n ∷ []
+unfolding decimal decimalBy
+one-digit n h = rw (lt-ltb n 10 h)
+
+pub more-digits : (n : ℕ) → 10 ≤ n → decimal n ≡ decimal (n / 10) ++ (digit (n % 10) ∷ [])
+unfolding decimal decimalBy
+more-digits n h = rw (le-ltb n 10 h) (ap (λ (l : List ℕ). l ++ (digit (n % 10) ∷ [])) (steps n (suc (n / 10)) (n / 10) (omega arith) (omega arith)))
+
+pub no-hex : (k n : ℕ) → k ≡ 0 → hex k n ≡ []
+unfolding hex
+no-hex zero n e = refl
+no-hex (suc k) n e = absurd (omega arith)
+
+pub more-hex : (k n : ℕ) → (k ≡ 0 → ⊥) → hex k n ≡ hex (k - 1) (n / 16) ++ (digit (n % 16) ∷ [])
+unfolding hex
+more-hex zero n e = absurd (e refl)
+more-hex (suc k) n e = let q : k ≡ suc k - 1 = omega arith in ap (λ (j : ℕ). hex j (n / 16) ++ (digit (n % 16) ∷ [])) q
+
+-- ---- how long a label is
+pub short-label : (n : ℕ) → n < 10 → length (label n) ≡ 9
+unfolding label
+short-label n h = rw (one-digit n h)
+
+pub longer-label : (n : ℕ) → 10 ≤ n → length (label n) ≡ length (label (n / 10)) + 1
+unfolding label
+longer-label n h = rw (more-digits n h) (simp length-append (omega arith))
+
+-- ten, and ten times ten k times
+abbrev tens : ℕ → ℕ
+tens zero = 10
+tens (suc k) = tens k * 10
+
+label-by : (k n : ℕ) → (10 ≤ n → length (label (n / 10)) ≤ k + 8) → (t : Bool) → ltb n 10 ≡ t → length (label n) ≤ suc k + 8
+label-by k n h true e = rw (short-label n (ltb-true n 10 e)) (omega arith)
+label-by k n h false e = let g : 10 ≤ n = ltb-false n 10 e in rw (longer-label n g) (omega (arith, h g))
+
+label-most : (k n : ℕ) → n < tens k → length (label n) ≤ suc k + 8
+label-most zero n h = label-by zero n (λ g. absurd (omega arith)) (ltb n 10) refl
+label-most (suc k) n h = label-by (suc k) n (λ g. label-most k (n / 10) (omega arith)) (ltb n 10) refl
+
+pub longest-label : (n : ℕ) → n < 4294967296 → length (label n) ≤ 18
+longest-label n h = label-most 9 n (omega arith)

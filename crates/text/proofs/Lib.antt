@@ -1,0 +1,4 @@
+-- Laws of the writers; the public ones serve whoever writes more than a GUID or a label.
+pub mod Chain
+pub mod Digits
+pub mod Written

@@ -1,0 +1,33 @@
+use mathlib.Core.Path.{_≡_}
+use Prim.Native.Nat.{_≤_, _+_}
+use native.Mathlib.Omega.{arith}
+use lib.ListN.{length}
+use Rattle.rules.specs.Texts.{label}
+use Rattle.text.proofs.Digits.{short-label, longer-label, longest-label}
+use Rattle.text.proofs.label_length.Statement.{statement}
+use Rattle.text.proofs.label_length.Tie as tie
+
+abbrev Inv-loop : tie.InvT-loop
+Inv-loop n size₀ rest₀ size rest = (rest ≤ n) × (size + length (label rest) ≡ length (label n) + 9)
+
+abbrev μ-loop : tie.MeasureT-loop
+μ-loop n size₀ rest₀ size rest = rest
+
+loop-holds : tie.Need-loop-holds Inv-loop μ-loop
+loop-holds c = omega arith
+
+add-size : tie.Need-add-size Inv-loop μ-loop
+add-size c = let n = c .before .before .args .n in omega (arith, longest-label n (omega arith))
+
+loop-less : tie.Need-loop-less Inv-loop μ-loop
+loop-less c = omega arith
+
+loop-again : tie.Need-loop-again Inv-loop μ-loop
+loop-again c = let r = c .before .loop .rest in omega (arith, longer-label r (c .loop-test .taken))
+
+returns : tie.Need-returns Inv-loop μ-loop
+returns c = let r = c .before .loop .rest in omega (arith, short-label r (c .loop-test .left))
+
+pub label-length-spec : {M : Type 1} → statement M
+label-length-spec =
+    tie.close (tie.spec Inv-loop μ-loop loop-holds add-size loop-less loop-again returns)

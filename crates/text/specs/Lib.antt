@@ -1,0 +1,2 @@
+-- What the writers of text say.
+pub mod Writer
