@@ -7,3 +7,4 @@ pub mod Sound
 pub mod Complete
 pub mod Demand3
 pub mod OneResult
+mod Example
