@@ -1,0 +1,8 @@
+-- Laws of the code table, and what the proofs of several functions use.
+pub mod Ascending
+pub mod Halves
+pub mod Lookup
+pub mod Rows
+pub mod Scopes
+pub mod Steps
+pub mod WellFormed

@@ -1,0 +1,27 @@
+-- What the search for a row comes to.
+-- Assumes nothing.
+use Prim.Native.Nat.{ℕ, zero, suc, _+_, _≤_}
+use mathlib.Core.Path.{_≡_, refl, sym, ap, _∙_}
+use mathlib.Core.List.{List, _∷_}
+use Rattle.rules.specs.Lists.{find}
+use Rattle.rules.specs.Bytes.{byte, u16}
+use Rattle.rules.specs.CodeTable.{Tie, idOf, tieAt, tiesAt, isTied}
+use Rattle.codetable.specs.declared.Row.the-variants.{Tied, Untied}
+use Rattle.codetable.specs.Look.{itemsAt, Sorted, asRow}
+use Rattle.codetable.proofs.Halves.{Narrowed, not-there, Turn, hit}
+
+ties-as-items : (t : List ℕ) (at n : ℕ) → tiesAt t at n ≡ itemsAt (tieAt t) 4 at n
+unfolding tiesAt itemsAt
+ties-as-items t at zero = refl
+ties-as-items t at (suc n) = ap (λ l. tieAt t at ∷ l) (ties-as-items t (at + 4) n)
+
+pub row-hit : (t : List ℕ) {start n wanted at left half mid i : ℕ} → Turn (tieAt t) idOf 4 start n wanted at left half mid i → (x k : ℕ)
+    → i ≡ wanted → x ≡ u16 t (mid + 1) → k ≡ byte t (mid + 3)
+    → Sorted (tiesAt t start n) → Tied x k ≡ asRow (find (isTied wanted) (tiesAt t start n))
+unfolding asRow
+row-hit t {start} {n} T x k h ex ek a = rw (ex, ek, ties-as-items t start n, hit T h (rw (ties-as-items t start n) at a))
+
+pub row-none : (t : List ℕ) {start n wanted at left : ℕ} → Narrowed (tieAt t) idOf 4 start n wanted at left → left ≤ 0
+    → Sorted (tiesAt t start n) → Untied ≡ asRow (find (isTied wanted) (tiesAt t start n))
+unfolding asRow
+row-none t {start} {n} N h a = rw (ties-as-items t start n, not-there N h (rw (ties-as-items t start n) at a))

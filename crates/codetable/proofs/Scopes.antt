@@ -1,0 +1,127 @@
+-- The scope with a kind and a code is the one with their number, and the contents tell where its rows are.
+-- Assumes nothing.
+use Prim.Native.Nat.{ℕ, zero, suc, _+_, _*_, _<_}
+use mathlib.Core.Path.{_≡_, refl, sym, ap, _∙_}
+use mathlib.Core.List.{List, [], _∷_, map}
+use mathlib.Core.Bool.{Bool, true, false, _&&_, cond}
+use mathlib.Core.Option.{Option, none, some}
+use native.Mathlib.Numerals.{add-one}
+use native.Mathlib.Omega.{arith}
+use lib.Dec.{eqb}
+use borrow.Author.Tests.{eqb-true, eqb-false, eq-eqb, ne-eqb}
+use Rattle.rules.specs.Lists.{find, ascends}
+use Rattle.rules.specs.Bytes.{Bytes, byte, u16}
+use Rattle.rules.specs.CodeTable.{Tie, Scope, key, keyOf, tiesAt, scopesAt, scopes, scopeCount, contentsAt, bodiesAt, isScope, rowsOf, scopeRows}
+use Rattle.codetable.specs.declared.Found.the-variants.{Body, Nowhere}
+use Rattle.codetable.specs.declared.Place.{Place}
+use Rattle.codetable.specs.declared.Place.the-variants.{At, Missing}
+use Rattle.codetable.specs.Look.{Formed, findBy, itemsAt, indexes, keyAt, countAt, countsTo, asPlace, KeysAscend, Seeks, bodyRows}
+use Rattle.codetable.proofs.WellFormed.{parts}
+
+same-key : (k c kind code : ℕ) → c < 65536 → code < 65536 → (eqb k kind && eqb c code) ≡ eqb (keyOf k c) (keyOf kind code)
+same-key k c kind code p q = go (eqb k kind) refl (eqb c code) refl
+  where
+    go : (a : Bool) → eqb k kind ≡ a → (b : Bool) → eqb c code ≡ b → (a && b) ≡ eqb (keyOf k c) (keyOf kind code)
+    go true d true e =
+        let x = eqb-true k kind d in
+        let y = eqb-true c code e in
+        sym (eq-eqb (keyOf k c) (keyOf kind code) (omega arith))
+    go true d false e =
+        let x = eqb-true k kind d in
+        let y = eqb-false c code e in
+        sym (ne-eqb (keyOf k c) (keyOf kind code) (λ z. y (omega arith)))
+    go false d b e =
+        let x = eqb-false k kind d in
+        sym (ne-eqb (keyOf k c) (keyOf kind code) (λ z. x (omega arith)))
+
+u16-small : (t : List ℕ) (at : ℕ) → Bytes t → u16 t at < 65536
+unfolding u16
+u16-small t at B = omega (arith, B at, B (at + 1))
+
+module _ (t : List ℕ) (B : Bytes t) (kind code : ℕ) (fits : code < 65536) where
+  by-key : (at body n : ℕ) → find (isScope kind code) (scopesAt t at body n) ≡ findBy key (keyOf kind code) (scopesAt t at body n)
+  unfolding find scopesAt
+  by-key at body zero = refl
+  by-key at body (suc n) =
+      rw (same-key (byte t at) (u16 t (at + 1)) kind code (u16-small t (at + 1) B) fits, by-key (at + 5) (body + 4 * u16 t (at + 3)) n)
+
+  rows-by-key : scopeRows t kind code ≡ rowsOf (findBy key (keyOf kind code) (scopes t))
+  unfolding scopeRows
+  rows-by-key = ap rowsOf (by-key (contentsAt t) (bodiesAt t) (scopeCount t))
+
+-- ---- scopes by their place in the contents
+module _ (t : List ℕ) (contents bodies : ℕ) where
+  abbrev scopeAt : ℕ → Scope
+  scopeAt i = record {
+    kind = byte t (contents + 5 * i);
+    code = u16 t (contents + 5 * i + 1);
+    rows = tiesAt t (bodies + 4 * countsTo t contents i) (countAt t contents i);
+  }
+
+  scopes-from : (i n : ℕ) → scopesAt t (contents + 5 * i) (bodies + 4 * countsTo t contents i) n ≡ map scopeAt (indexes i n)
+  unfolding scopesAt itemsAt countsTo
+  scopes-from i zero = refl
+  scopes-from i (suc n) =
+      let a : contents + 5 * i + 5 ≡ contents + 5 * suc i = omega arith in
+      let b : bodies + 4 * countsTo t contents i + 4 * countAt t contents i ≡ bodies + 4 * (countsTo t contents i + countAt t contents i) = omega arith in
+      rw (a, b, add-one i) (ap (λ l. scopeAt i ∷ l) (scopes-from (suc i) n))
+
+  scopes-placed : (n : ℕ) → scopesAt t contents bodies n ≡ map scopeAt (indexes 0 n)
+  unfolding countsTo
+  scopes-placed n =
+      let a : contents ≡ contents + 5 * 0 = omega arith in
+      let b : bodies ≡ bodies + 4 * 0 = omega arith in
+      ap (λ x. scopesAt t x bodies n) a ∙ ap (λ x. scopesAt t (contents + 5 * 0) x n) b ∙ scopes-from 0 n
+
+  abbrev rowsAt : Option ℕ → List Tie
+  rowsAt none = []
+  rowsAt (some i) = scopeAt i .rows
+
+  rows-of-place : (k : ℕ) (is : List ℕ) → rowsOf (findBy key k (map scopeAt is)) ≡ rowsAt (findBy (keyAt t contents) k is)
+  unfolding find
+  rows-of-place k [] = refl
+  rows-of-place k (i ∷ is) = go (rows-of-place k is) (eqb (keyAt t contents i) k)
+    where
+      go : rowsOf (findBy key k (map scopeAt is)) ≡ rowsAt (findBy (keyAt t contents) k is)
+          → (b : Bool) → rowsOf (cond b (some (scopeAt i)) (findBy key k (map scopeAt is))) ≡ rowsAt (cond b (some i) (findBy (keyAt t contents) k is))
+      go rec true = refl
+      go rec false = rec
+
+  keys-of-places : (is : List ℕ) → map key (map scopeAt is) ≡ map (keyAt t contents) is
+  keys-of-places [] = refl
+  keys-of-places (i ∷ is) = ap (λ l. keyAt t contents i ∷ l) (keys-of-places is)
+
+-- ---- what the search for a scope comes to
+place-none : (o : Option ℕ) → asPlace o ≡ Missing → o ≡ none
+unfolding asPlace
+place-none none e = refl
+place-none (some i) e = absurd (let z : _≡_ {A = ℕ} 0 1 = cc in omega arith)
+
+place-some : (o : Option ℕ) (i : ℕ) → asPlace o ≡ At i → o ≡ some i
+unfolding asPlace
+place-some none i e = absurd (let z : _≡_ {A = ℕ} 0 1 = cc in omega arith)
+place-some (some j) i e = cc
+
+module _ (t : List ℕ) (B : Bytes t) (kind code : ℕ) (fits : code < 65536) (F : Formed t) (h n : ℕ) (eh : h ≡ byte t 1) (en : n ≡ u16 t 2) (p : Place) (S : Seeks t (4 + 2 * h) n (keyOf kind code) p) where
+  abbrev sought : Option ℕ
+  sought = findBy (keyAt t (4 + 2 * h)) (keyOf kind code) (indexes 0 n)
+
+  keys-ascend : KeysAscend t (4 + 2 * h) 0 n
+  keys-ascend =
+      let e : ascends 0 (map key (scopesAt t (4 + 2 * h) (4 + 2 * h + 5 * n) n)) ≡ true = rw (eh, en) (parts t F .keys-ascend) in
+      rw (← (keys-of-places t (4 + 2 * h) (4 + 2 * h + 5 * n) (indexes 0 n)), ← (scopes-placed t (4 + 2 * h) (4 + 2 * h + 5 * n) n)) e
+
+  rows-sought : rowsAt t (4 + 2 * h) (4 + 2 * h + 5 * n) sought ≡ scopeRows t kind code
+  rows-sought =
+      let e : scopeRows t kind code ≡ rowsOf (findBy key (keyOf kind code) (scopesAt t (4 + 2 * h) (4 + 2 * h + 5 * n) n)) = rw (eh, en) (rows-by-key t B kind code fits) in
+      sym (e ∙ rw (scopes-placed t (4 + 2 * h) (4 + 2 * h + 5 * n) n) (rows-of-place t (4 + 2 * h) (4 + 2 * h + 5 * n) (keyOf kind code) (indexes 0 n)))
+
+  pub missing-rows : p ≡ Missing → bodyRows t Nowhere ≡ scopeRows t kind code
+  unfolding bodyRows
+  missing-rows e =
+      ap (rowsAt t (4 + 2 * h) (4 + 2 * h + 5 * n)) (sym (place-none sought (sym (S .is keys-ascend) ∙ e))) ∙ rows-sought
+
+  pub placed-rows : (i : ℕ) → p ≡ At i → bodyRows t (Body (4 + 2 * h + 5 * n + 4 * countsTo t (4 + 2 * h) i) (countAt t (4 + 2 * h) i)) ≡ scopeRows t kind code
+  unfolding bodyRows
+  placed-rows i e =
+      ap (rowsAt t (4 + 2 * h) (4 + 2 * h + 5 * n)) (sym (place-some sought i (sym (S .is keys-ascend) ∙ e))) ∙ rows-sought

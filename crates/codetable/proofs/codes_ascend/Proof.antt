@@ -1,0 +1,75 @@
+use native.Mathlib.Omega.{arith}
+use borrow.Author.Needs.{needs}
+use Prim.Native.Nat.{_+_, _*_, _^_, _<_, _≤_}
+use mathlib.Core.Path.{_≡_, refl, sym, ap, _∙_}
+use Rattle.rules.specs.Lists.{ascends}
+use Rattle.rules.specs.CodeTable.{codesAt}
+use Rattle.codetable.proofs.Steps.{codes-fail, codes-step, codes-done}
+use Rattle.codetable.proofs.codes_ascend.Statement.{statement}
+use Rattle.codetable.proofs.codes_ascend.Tie as tie
+use Rattle.codetable.proofs.codes_ascend.Reads as reads
+use Rattle.codetable.proofs.codes_ascend.Lts as lts
+use Rattle.codetable.proofs.word.Reads as word-reads
+
+abbrev Inv-loop : tie.InvT-loop
+Inv-loop table start n at₀ left₀ least₀ at left least =
+    (ascends 0 (codesAt table start n) ≡ ascends least (codesAt table at left)) × (at + 2 * left < 2 ^ 60) × (least ≤ 65536)
+
+abbrev μ-loop : tie.MeasureT-loop
+μ-loop table start n at₀ left₀ least₀ at left least = left
+
+-- src/lib.rt:52:5
+loop-holds : tie.Need-loop-holds Inv-loop μ-loop
+loop-holds c = (refl, omega arith, omega arith)
+
+-- src/lib.rt:53:13
+word-requires : tie.Need-word-requires Inv-loop μ-loop
+word-requires c κs = search needs
+
+-- src/lib.rt:55:13
+returns : tie.Need-returns Inv-loop μ-loop
+returns c =
+    let l = c .before .before .before in
+    sym (l .loop .inv .0 ∙ codes-fail _ _ _ _ (c .before .before .loop-test .taken) (c .before .word .ensures .is) (l .loop .least) (omega arith))
+
+-- src/lib.rt:57:17
+add-least : tie.Need-add-least Inv-loop μ-loop
+add-least c = omega arith
+
+-- src/lib.rt:58:9
+add-at : tie.Need-add-at Inv-loop μ-loop
+add-at c = omega arith
+
+-- src/lib.rt:59:9
+sub-left : tie.Need-sub-left Inv-loop μ-loop
+sub-left c = omega arith
+
+-- src/lib.rt:52:5
+loop-less : tie.Need-loop-less Inv-loop μ-loop
+loop-less c = omega arith
+
+-- src/lib.rt:52:5
+loop-again : tie.Need-loop-again Inv-loop μ-loop
+loop-again c =
+    let l = c .before .before .before in
+    (l .loop .inv .0 ∙ codes-step _ _ _ _ (c .before .before .loop-test .taken) (c .before .word .ensures .is) (l .loop .least) (omega arith), omega arith, omega arith)
+
+-- src/lib.rt:45:1
+returns-2 : tie.Need-returns-2 Inv-loop μ-loop
+returns-2 c = sym (c .before .loop .inv .0 ∙ codes-done _ _ _ _ (c .loop-test .left))
+
+pub codes-ascend-spec : {M : Type 1} → statement M
+codes-ascend-spec =
+    tie.close
+    (tie.spec
+    Inv-loop
+    μ-loop
+    loop-holds
+    word-requires
+    returns
+    add-least
+    add-at
+    sub-left
+    loop-less
+    loop-again
+    returns-2)

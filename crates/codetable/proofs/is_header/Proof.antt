@@ -1,0 +1,76 @@
+use native.Mathlib.Omega.{arith}
+use borrow.Author.Needs.{needs}
+use Prim.Native.Nat.{_+_, _*_, _^_, _<_}
+use mathlib.Core.Path.{_≡_, refl, sym, ap, _∙_}
+use Rattle.rules.specs.Lists.{has}
+use Rattle.rules.specs.CodeTable.{codesAt, header}
+use Rattle.codetable.proofs.Steps.{has-here, has-later, has-done}
+use Rattle.codetable.proofs.is_header.Statement.{statement}
+use Rattle.codetable.proofs.is_header.Tie as tie
+use Rattle.codetable.proofs.is_header.Reads as reads
+use Rattle.codetable.proofs.is_header.Lts as lts
+use Rattle.codetable.proofs.byte.Reads as byte-reads
+use Rattle.codetable.proofs.word.Reads as word-reads
+
+abbrev Inv-loop : tie.InvT-loop
+Inv-loop table code wanted at₀ left₀ at left =
+    (has code (header table) ≡ has wanted (codesAt table at left)) × (at + 2 * left < 2 ^ 32)
+
+abbrev μ-loop : tie.MeasureT-loop
+μ-loop table code wanted at₀ left₀ at left = left
+
+-- src/lib.rt:163:9
+byte-requires : tie.Need-byte-requires Inv-loop μ-loop
+byte-requires c κs = search needs
+
+-- src/lib.rt:164:5
+loop-holds : tie.Need-loop-holds Inv-loop μ-loop
+loop-holds c = (rw (c .byte .ensures .is), omega arith)
+
+-- src/lib.rt:165:13
+word-requires : tie.Need-word-requires Inv-loop μ-loop
+word-requires c κs = search needs
+
+-- src/lib.rt:167:13
+returns : tie.Need-returns Inv-loop μ-loop
+returns c =
+    let l = c .before .before .before in
+    sym (l .loop .inv .0 ∙ has-here _ _ _ _ (c .before .before .loop-test .taken) (c .before .word .ensures .is) _ (c .if1 .taken))
+
+-- src/lib.rt:169:9
+add-at : tie.Need-add-at Inv-loop μ-loop
+add-at c = omega arith
+
+-- src/lib.rt:170:9
+sub-left : tie.Need-sub-left Inv-loop μ-loop
+sub-left c = omega arith
+
+-- src/lib.rt:164:5
+loop-less : tie.Need-loop-less Inv-loop μ-loop
+loop-less c = omega arith
+
+-- src/lib.rt:164:5
+loop-again : tie.Need-loop-again Inv-loop μ-loop
+loop-again c =
+    let l = c .before .before .before in
+    (l .loop .inv .0 ∙ has-later _ _ _ _ (c .before .before .loop-test .taken) (c .before .word .ensures .is) _ (c .if1 .left), omega arith)
+
+-- src/lib.rt:158:1
+returns-2 : tie.Need-returns-2 Inv-loop μ-loop
+returns-2 c = sym (c .before .loop .inv .0 ∙ has-done _ _ _ _ (c .loop-test .left))
+
+pub is-header-spec : {M : Type 1} → statement M
+is-header-spec =
+    tie.close
+    (tie.spec
+    Inv-loop
+    μ-loop
+    byte-requires
+    loop-holds
+    word-requires
+    returns
+    add-at
+    sub-left
+    loop-less
+    loop-again
+    returns-2)

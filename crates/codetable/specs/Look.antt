@@ -1,0 +1,90 @@
+-- The answers of the code, read in the terms of document 01's code table; and its tests and look-ups as they go on from the middle.
+use Prim.Native.Nat.{ℕ, zero, suc, _+_, _*_, _<_}
+use mathlib.Core.Path.{_≡_}
+use mathlib.Core.List.{List, [], _∷_, map}
+use mathlib.Core.Bool.{Bool, true, _&&_}
+use mathlib.Core.Option.{Option, none, some}
+use lib.Dec.{eqb}
+use lib.ListN.{length}
+use Rattle.rules.specs.Lists.{all, find, ascends}
+use Rattle.rules.specs.Bytes.{byte, u16}
+use Rattle.rules.specs.CodeTable.{Tie, idOf, keyOf, key, tiesAt, scopesAt, tieOk, scopeOk, rowCount, wellFormed, scopeRows}
+use Rattle.codetable.specs.declared.Found.{Found}
+use Rattle.codetable.specs.declared.Found.the-variants.{Body, Nowhere}
+use Rattle.codetable.specs.declared.Row.{Row}
+use Rattle.codetable.specs.declared.Row.the-variants.{Tied, Untied}
+use Rattle.codetable.specs.declared.Place.{Place}
+use Rattle.codetable.specs.declared.Place.the-variants.{At, Missing}
+
+-- what a read gives: the number, and that it is small
+pub record Small (x bound r : ℕ) : Type 0 where
+  pub is : r ≡ x
+  pub small : r < bound
+
+-- ---- well-formedness of what is left, from the least id or key that may come next
+unfoldable pub tiesFrom : ℕ → List Tie → Bool
+tiesFrom least rs = ascends least (map idOf rs) && all tieOk rs
+
+unfoldable pub scopesFrom : List ℕ → ℕ → ℕ → ℕ → ℕ → Bool
+scopesFrom t least at body n =
+    ascends least (map key (scopesAt t at body n))
+    && all scopeOk (scopesAt t at body n)
+    && eqb (body + 4 * rowCount (scopesAt t at body n)) (length t)
+
+abbrev pub Formed : List ℕ → Type 0
+Formed t = wellFormed t ≡ true
+
+-- ---- looking up
+-- the first of xs whose number is k
+abbrev pub findBy : {A : Type 0} → (A → ℕ) → ℕ → List A → Option A
+findBy f k xs = find (λ x. eqb (f x) k) xs
+
+-- n things, each a step of w further on
+unfoldable pub itemsAt : {A : Type 0} → (ℕ → A) → ℕ → ℕ → ℕ → List A
+itemsAt g w at zero = []
+itemsAt g w at (suc n) = g at ∷ itemsAt g w (at + w) n
+
+-- the numbers of n scopes, from first on
+abbrev pub indexes : ℕ → ℕ → List ℕ
+indexes first n = itemsAt (λ i. i) 1 first n
+
+-- what the contents say of scope i: its kind and code as one number, its row count, and the row counts of those before it
+abbrev pub keyAt : List ℕ → ℕ → ℕ → ℕ
+keyAt t contents i = keyOf (byte t (contents + 5 * i)) (u16 t (contents + 5 * i + 1))
+
+abbrev pub countAt : List ℕ → ℕ → ℕ → ℕ
+countAt t contents i = u16 t (contents + 5 * i + 3)
+
+unfoldable pub countsTo : List ℕ → ℕ → ℕ → ℕ
+countsTo t contents zero = 0
+countsTo t contents (suc i) = countsTo t contents i + countAt t contents i
+
+unfoldable pub asPlace : Option ℕ → Place
+asPlace none = Missing
+asPlace (some i) = At i
+
+-- the keys of n scopes ascend
+abbrev pub KeysAscend : List ℕ → ℕ → ℕ → ℕ → Type 0
+KeysAscend t contents first n = ascends 0 (map (keyAt t contents) (indexes first n)) ≡ true
+
+pub record Seeks (t : List ℕ) (contents n wanted : ℕ) (r : Place) : Type 0 where
+  pub is : KeysAscend t contents 0 n → r ≡ asPlace (findBy (keyAt t contents) wanted (indexes 0 n))
+  pub inside : (i : ℕ) → r ≡ At i → i < n
+
+-- the rows of a body that was found
+unfoldable pub bodyRows : List ℕ → Found → List Tie
+bodyRows t (Body start count) = tiesAt t start count
+bodyRows t Nowhere = []
+
+unfoldable pub asRow : Option Tie → Row
+asRow none = Untied
+asRow (some r) = Tied (r .target) (r .kind)
+
+-- the ids of the rows ascend
+abbrev pub Sorted : List Tie → Type 0
+Sorted rs = ascends 0 (map idOf rs) ≡ true
+
+-- a body of a well-formed table holds the scope's rows, in the order of their ids
+pub record Finds (t : List ℕ) (kind code : ℕ) (body : Found) : Type 0 where
+  pub rows : Formed t → bodyRows t body ≡ scopeRows t kind code
+  pub sorted : Formed t → Sorted (bodyRows t body)

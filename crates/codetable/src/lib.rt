@@ -1,0 +1,284 @@
+// The code table that a caller lends, as bytes: whether it is well formed, and what it says.
+ghost use mathlib.Core.Path.{_≡_};
+ghost use Prim.Native.Nat.{_+_, _*_, _<_, _≤_, _^_};
+ghost use Rattle.rules.specs.Bytes.{byte, u16};
+ghost use Rattle.rules.specs.Lists.{has, ascends, find};
+ghost use Rattle.rules.specs.CodeTable as t;
+ghost use Rattle.codetable.specs.Look.{Small, Seeks, Finds, Formed, Sorted, bodyRows, asRow, countsTo};
+
+// Where the rows of a scope are.
+pub enum Found {
+    Body { start: u32, count: u16 },
+    Nowhere,
+}
+
+// What a scope says of an id.
+pub enum Row {
+    Tied { target: u16, kind: u8 },
+    Untied,
+}
+
+// Which scope of the contents is wanted, counted from 0.
+enum Place {
+    At(usize),
+    Missing,
+}
+
+// The byte at a place, or 0 past the end.
+fn byte(table: &[u8], at: usize) -> usize
+    ensures { λ r. ⌜ Small (byte (now (table .entry)) at) 256 r ⌝ }
+{
+    if at < table.len() {
+        return table[at] as usize;
+    }
+    0
+}
+
+fn word(table: &[u8], at: usize) -> usize
+    requires { ⌜ at < 2 ^ 60 ⌝ }
+    ensures { λ r. ⌜ Small (u16 (now (table .entry)) at) 65536 r ⌝ }
+{
+    byte(table, at) + 256 * byte(table, at + 1)
+}
+
+// The n codes from start on ascend.
+fn codes_ascend(table: &[u8], start: usize, n: usize) -> bool
+    requires { ⌜ start + 2 * n < 2 ^ 60 ⌝ }
+    ensures { λ r. ⌜ r ≡ ascends 0 (t.codesAt (now (table .entry)) start n) ⌝ }
+{
+    let mut at = start;
+    let mut left = n;
+    let mut least = 0;
+    while 0 < left {
+        let code = word(table, at);
+        if code < least {
+            return false;
+        }
+        least = code + 1;
+        at += 2;
+        left -= 1;
+    }
+    true
+}
+
+// The n rows from start on are well formed.
+fn ties_ok(table: &[u8], start: usize, n: usize) -> bool
+    requires { ⌜ start + 4 * n < 2 ^ 60 ⌝ }
+    ensures { λ r. ⌜ r ≡ t.tiesOk (t.tiesAt (now (table .entry)) start n) ⌝ }
+{
+    let mut at = start;
+    let mut left = n;
+    let mut least = 0;
+    while 0 < left {
+        let id = byte(table, at);
+        let target = word(table, at + 1);
+        let kind = byte(table, at + 3);
+        if id < least {
+            return false;
+        }
+        if 0xFC < id {
+            return false;
+        }
+        if 0x8000 <= target {
+            return false;
+        }
+        if 4 < kind {
+            return false;
+        }
+        least = id + 1;
+        at += 4;
+        left -= 1;
+    }
+    true
+}
+
+// The n scopes whose contents start at start and whose bodies at bodies are well formed, and the last body ends where the table does.
+fn scopes_fit(table: &[u8], start: usize, bodies: usize, n: usize) -> bool
+    requires { ⌜ (start + 5 * n < 2 ^ 32) × (bodies < 2 ^ 32) ⌝ }
+    ensures { λ r. ⌜ r ≡ t.scopesFit (now (table .entry)) start bodies n ⌝ }
+{
+    let mut at = start;
+    let mut body = bodies;
+    let mut left = n;
+    let mut least = 0;
+    while 0 < left {
+        let kind = byte(table, at);
+        let code = word(table, at + 1);
+        let count = word(table, at + 3);
+        if 2 < kind {
+            return false;
+        }
+        if kind != 2 {
+            if code != 0 {
+                return false;
+            }
+        }
+        let key = kind * 65536 + code;
+        if key < least {
+            return false;
+        }
+        if !ties_ok(table, body, count) {
+            return false;
+        }
+        least = key + 1;
+        at += 5;
+        body += 4 * count;
+        left -= 1;
+    }
+    body == table.len()
+}
+
+// The table may be taken: every rule of its bytes holds, and no byte is left over.
+pub fn well_formed(table: &[u8]) -> bool
+    ensures { λ r. ⌜ r ≡ t.wellFormed (now (table .entry)) ⌝ }
+{
+    let headers = byte(table, 1);
+    let scopes = word(table, 2);
+    if 4 < headers {
+        return false;
+    }
+    if 64 < scopes {
+        return false;
+    }
+    if !codes_ascend(table, 4, headers) {
+        return false;
+    }
+    let contents = 4 + 2 * headers;
+    scopes_fit(table, contents, contents + 5 * scopes, scopes)
+}
+
+// The layout byte.
+pub fn layout(table: &[u8]) -> u8
+    ensures { λ r. ⌜ r ≡ t.layout (now (table .entry)) ⌝ }
+{
+    byte(table, 0) as u8
+}
+
+// One of the header codes is `code`.
+pub fn is_header(table: &[u8], code: u16) -> bool
+    ensures { λ r. ⌜ r ≡ has code (t.header (now (table .entry))) ⌝ }
+{
+    let wanted = code as usize;
+    let mut at = 4;
+    let mut left = byte(table, 1);
+    while 0 < left {
+        let here = word(table, at);
+        if here == wanted {
+            return true;
+        }
+        at += 2;
+        left -= 1;
+    }
+    false
+}
+
+// Which of n scopes has the wanted kind and code, by halves, where these ascend.
+fn seek_scope(table: &[u8], contents: usize, n: usize, wanted: usize) -> Place
+    requires { ⌜ contents + 5 * n < 2 ^ 32 ⌝ }
+    ensures { λ r. ⌜ Seeks (now (table .entry)) contents n wanted r ⌝ }
+{
+    let mut first = 0;
+    let mut left = n;
+    while 0 < left {
+        let half = left / 2;
+        let mid = first + half;
+        let at = contents + 5 * mid;
+        let key = byte(table, at) * 65536 + word(table, at + 1);
+        if key == wanted {
+            return Place::At(mid);
+        }
+        if key < wanted {
+            first = mid + 1;
+            left = left - half - 1;
+        } else {
+            left = half;
+        }
+    }
+    Place::Missing
+}
+
+// How many rows the first n scopes have together.
+fn rows_before(table: &[u8], contents: usize, n: usize) -> usize
+    requires { ⌜ (contents < 2 ^ 16) × (n ≤ 64) ⌝ }
+    ensures { λ r. ⌜ Small (countsTo (now (table .entry)) contents n) 4194304 r ⌝ }
+{
+    let mut sum = 0;
+    let mut i = 0;
+    while i < n {
+        sum += word(table, contents + 5 * i + 3);
+        i += 1;
+    }
+    sum
+}
+
+// Where the rows of a scope are, in a well-formed table.
+pub fn find_scope(table: &[u8], kind: u8, code: u16) -> Found
+    ensures { λ r. ⌜ Finds (now (table .entry)) kind code r ⌝ }
+{
+    let headers = byte(table, 1);
+    let scopes = word(table, 2);
+    if 64 < scopes {
+        return Found::Nowhere;
+    }
+    let contents = 4 + 2 * headers;
+    let wanted = kind as usize * 65536 + code as usize;
+    let Place::At(index) = seek_scope(table, contents, scopes, wanted) else {
+        return Found::Nowhere;
+    };
+    let before = rows_before(table, contents, index);
+    let start = contents + 5 * scopes + 4 * before;
+    let count = word(table, contents + 5 * index + 3);
+    Found::Body {
+        start: start as u32,
+        count: count as u16,
+    }
+}
+
+// What n rows say of an id, by halves, where the ids ascend.
+fn seek_row(table: &[u8], start: usize, n: usize, wanted: usize) -> Row
+    requires { ⌜ start + 4 * n < 2 ^ 60 ⌝ }
+    ensures { λ r. ⌜ (Sorted (t.tiesAt (now (table .entry)) start n) → r ≡ asRow (find (t.isTied wanted) (t.tiesAt (now (table .entry)) start n))) ⌝ }
+{
+    let mut at = start;
+    let mut left = n;
+    while 0 < left {
+        let half = left / 2;
+        let mid = at + 4 * half;
+        let id = byte(table, mid);
+        if id == wanted {
+            return Row::Tied {
+                target: word(table, mid + 1) as u16,
+                kind: byte(table, mid + 3) as u8,
+            };
+        }
+        if id < wanted {
+            at = mid + 4;
+            left = left - half - 1;
+        } else {
+            left = half;
+        }
+    }
+    Row::Untied
+}
+
+// What the rows that were found say of an id, where their ids ascend.
+pub fn find_row(table: &[u8], body: Found, id: u8) -> Row
+    ensures { λ r. ⌜ (Sorted (bodyRows (now (table .entry)) body) → r ≡ asRow (find (t.isTied id) (bodyRows (now (table .entry)) body))) ⌝ }
+{
+    match body {
+        Found::Body { start, count } => seek_row(
+            table,
+            start as usize,
+            count as usize,
+            id as usize,
+        ),
+        Found::Nowhere => Row::Untied,
+    }
+}
+
+// What a well-formed table says of an id in a scope.
+pub fn row_of(table: &[u8], kind: u8, code: u16, id: u8) -> Row
+    ensures { λ r. ⌜ (Formed (now (table .entry)) → r ≡ asRow (t.rowOf (now (table .entry)) kind code id)) ⌝ }
+{
+    find_row(table, find_scope(table, kind, code), id)
+}
