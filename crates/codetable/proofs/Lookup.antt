@@ -1,15 +1,15 @@
 -- What a reader that looks rows up may rely on, where the table is well formed.
 -- Assumes nothing.
 use Prim.Native.Nat.{ℕ, _<_, _≤_}
-use mathlib.Core.Path.{_≡_, refl, sym, ap, _∙_}
-use mathlib.Core.List.{List, [], map}
-use mathlib.Core.Bool.{Bool, true}
+use mathlib.Core.Path.{_≡_, refl}
+use mathlib.Core.List.{List}
+use mathlib.Core.Bool.{true}
 use mathlib.Core.Option.{Option, none, some}
 use native.Mathlib.Omega.{arith}
 use Rattle.rules.specs.Lists.{all, find, ascends}
-use Rattle.rules.specs.CodeTable.{Tie, Scope, idOf, scopes, tieOk, scopeOk, isScope, isTied, rowsOf, scopeRows, rowOf}
+use Rattle.rules.specs.CodeTable.{Tie, Scope, scopes, tieOk, scopeOk, isScope, isTied, rowsOf, scopeRows, rowOf}
 use Rattle.codetable.specs.declared.Found.{Found}
-use Rattle.codetable.specs.declared.Row.the-variants.{Tied, Untied}
+use Rattle.codetable.specs.declared.Row.the-variants.{Tied}
 use Rattle.codetable.specs.Look.{Formed, Sorted, Finds, bodyRows, asRow}
 use Rattle.codetable.proofs.Ascending.{all-there, found-there}
 use Rattle.codetable.proofs.WellFormed.{parts, rows-sorted, rows-ok, Limits, limits}

@@ -1,11 +1,11 @@
 -- What the search for a row comes to.
 -- Assumes nothing.
 use Prim.Native.Nat.{ℕ, zero, suc, _+_, _≤_}
-use mathlib.Core.Path.{_≡_, refl, sym, ap, _∙_}
+use mathlib.Core.Path.{_≡_, refl, ap}
 use mathlib.Core.List.{List, _∷_}
 use Rattle.rules.specs.Lists.{find}
 use Rattle.rules.specs.Bytes.{byte, u16}
-use Rattle.rules.specs.CodeTable.{Tie, idOf, tieAt, tiesAt, isTied}
+use Rattle.rules.specs.CodeTable.{idOf, tieAt, tiesAt, isTied}
 use Rattle.codetable.specs.declared.Row.the-variants.{Tied, Untied}
 use Rattle.codetable.specs.Look.{itemsAt, Sorted, asRow}
 use Rattle.codetable.proofs.Halves.{Narrowed, not-there, Turn, hit}

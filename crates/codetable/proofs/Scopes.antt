@@ -17,6 +17,7 @@ use Rattle.codetable.specs.declared.Place.{Place}
 use Rattle.codetable.specs.declared.Place.the-variants.{At, Missing}
 use Rattle.codetable.specs.Look.{Formed, findBy, itemsAt, indexes, keyAt, countAt, countsTo, asPlace, KeysAscend, Seeks, bodyRows}
 use Rattle.codetable.proofs.WellFormed.{parts}
+use Rattle.codetable.proofs.Steps.{Counts}
 
 same-key : (k c kind code : ℕ) → c < 65536 → code < 65536 → (eqb k kind && eqb c code) ≡ eqb (keyOf k c) (keyOf kind code)
 same-key k c kind code p q = go (eqb k kind) refl (eqb c code) refl
@@ -102,26 +103,38 @@ unfolding asPlace
 place-some none i e = absurd (let z : _≡_ {A = ℕ} 0 1 = cc in omega arith)
 place-some (some j) i e = cc
 
-module _ (t : List ℕ) (B : Bytes t) (kind code : ℕ) (fits : code < 65536) (F : Formed t) (h n : ℕ) (eh : h ≡ byte t 1) (en : n ≡ u16 t 2) (p : Place) (S : Seeks t (4 + 2 * h) n (keyOf kind code) p) where
-  abbrev sought : Option ℕ
-  sought = findBy (keyAt t (4 + 2 * h)) (keyOf kind code) (indexes 0 n)
+-- a scope was sought
+pub record Sought (t : List ℕ) (kind code h n : ℕ) (p : Place) : Type 0 where
+  pub bytes : Bytes t
+  pub code-fits : code < 65536
+  pub counts : Counts t h n
+  pub place : Seeks t (4 + 2 * h) n (keyOf kind code) p
 
-  keys-ascend : KeysAscend t (4 + 2 * h) 0 n
+module _ {t : List ℕ} {kind code h n : ℕ} {p : Place} (S : Sought t kind code h n p) (F : Formed t) where
+  abbrev contents : ℕ
+  contents = 4 + 2 * h
+
+  abbrev bodies : ℕ
+  bodies = 4 + 2 * h + 5 * n
+
+  abbrev index : Option ℕ
+  index = findBy (keyAt t contents) (keyOf kind code) (indexes 0 n)
+
+  keys-ascend : KeysAscend t contents 0 n
   keys-ascend =
-      let e : ascends 0 (map key (scopesAt t (4 + 2 * h) (4 + 2 * h + 5 * n) n)) ≡ true = rw (eh, en) (parts t F .keys-ascend) in
-      rw (← (keys-of-places t (4 + 2 * h) (4 + 2 * h + 5 * n) (indexes 0 n)), ← (scopes-placed t (4 + 2 * h) (4 + 2 * h + 5 * n) n)) e
+      let e : ascends 0 (map key (scopesAt t contents bodies n)) ≡ true = rw (S .counts .headers-is, S .counts .scopes-is) (parts t F .keys-ascend) in
+      rw (← (keys-of-places t contents bodies (indexes 0 n)), ← (scopes-placed t contents bodies n)) e
 
-  rows-sought : rowsAt t (4 + 2 * h) (4 + 2 * h + 5 * n) sought ≡ scopeRows t kind code
-  rows-sought =
-      let e : scopeRows t kind code ≡ rowsOf (findBy key (keyOf kind code) (scopesAt t (4 + 2 * h) (4 + 2 * h + 5 * n) n)) = rw (eh, en) (rows-by-key t B kind code fits) in
-      sym (e ∙ rw (scopes-placed t (4 + 2 * h) (4 + 2 * h + 5 * n) n) (rows-of-place t (4 + 2 * h) (4 + 2 * h + 5 * n) (keyOf kind code) (indexes 0 n)))
+  rows-there : rowsAt t contents bodies index ≡ scopeRows t kind code
+  rows-there =
+      let e : scopeRows t kind code ≡ rowsOf (findBy key (keyOf kind code) (scopesAt t contents bodies n)) =
+      rw (S .counts .headers-is, S .counts .scopes-is) (rows-by-key t (S .bytes) kind code (S .code-fits)) in
+      sym (e ∙ rw (scopes-placed t contents bodies n) (rows-of-place t contents bodies (keyOf kind code) (indexes 0 n)))
 
   pub missing-rows : p ≡ Missing → bodyRows t Nowhere ≡ scopeRows t kind code
   unfolding bodyRows
-  missing-rows e =
-      ap (rowsAt t (4 + 2 * h) (4 + 2 * h + 5 * n)) (sym (place-none sought (sym (S .is keys-ascend) ∙ e))) ∙ rows-sought
+  missing-rows e = ap (rowsAt t contents bodies) (sym (place-none index (sym (S .place .is keys-ascend) ∙ e))) ∙ rows-there
 
-  pub placed-rows : (i : ℕ) → p ≡ At i → bodyRows t (Body (4 + 2 * h + 5 * n + 4 * countsTo t (4 + 2 * h) i) (countAt t (4 + 2 * h) i)) ≡ scopeRows t kind code
+  pub placed-rows : (i : ℕ) → p ≡ At i → bodyRows t (Body (bodies + 4 * countsTo t contents i) (countAt t contents i)) ≡ scopeRows t kind code
   unfolding bodyRows
-  placed-rows i e =
-      ap (rowsAt t (4 + 2 * h) (4 + 2 * h + 5 * n)) (sym (place-some sought i (sym (S .is keys-ascend) ∙ e))) ∙ rows-sought
+  placed-rows i e = ap (rowsAt t contents bodies) (sym (place-some index i (sym (S .place .is keys-ascend) ∙ e))) ∙ rows-there

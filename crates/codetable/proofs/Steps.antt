@@ -1,10 +1,10 @@
 -- One turn of each loop, said of the definitions: what is left to decide after a test, and what is left at the end.
 -- Assumes nothing.
 use Prim.Native.Nat.{ℕ, zero, suc, _+_, _-_, _*_, _≤_, _<_}
-use mathlib.Core.Path.{_≡_, refl, sym, ap, _∙_}
+use mathlib.Core.Path.{_≡_, refl, ap}
 use mathlib.Core.Logic.{_⊎_, inl, inr}
-use mathlib.Core.List.{List, [], _∷_, map}
-use mathlib.Core.Bool.{Bool, true, false, _&&_, _||_, cond}
+use mathlib.Core.List.{List, _∷_, map}
+use mathlib.Core.Bool.{Bool, true, false, _&&_, _||_}
 use native.Mathlib.Nat.{not-suc-le-zero}
 use native.Mathlib.Numerals.{sub-one}
 use native.Mathlib.Omega.{arith}
@@ -30,22 +30,27 @@ unfolding codesAt
 codes-next t at zero h = absurd (not-suc-le-zero h)
 codes-next t at (suc k) h = rw sub-one
 
-module _ (t : List ℕ) (at left x : ℕ) (more : 0 < left) (is : x ≡ u16 t at) where
+-- one code is read
+pub record CodeRead (t : List ℕ) (at left x : ℕ) : Type 0 where
+  pub more : 0 < left
+  pub code-is : x ≡ u16 t at
+
+module _ {t : List ℕ} {at left x : ℕ} (R : CodeRead t at left x) where
   pub codes-fail : (least : ℕ) → x < least → ascends least (codesAt t at left) ≡ false
   unfolding ascends
-  codes-fail least h = rw (codes-next t at left more, ← is, lt-leb least x h)
+  codes-fail least h = rw (codes-next t at left (R .more), ← (R .code-is), lt-leb least x h)
 
   pub codes-step : (least : ℕ) → least ≤ x → ascends least (codesAt t at left) ≡ ascends (x + 1) (codesAt t (at + 2) (left - 1))
   unfolding ascends
-  codes-step least h = rw (codes-next t at left more, ← is, le-leb least x h)
+  codes-step least h = rw (codes-next t at left (R .more), ← (R .code-is), le-leb least x h)
 
   pub has-here : (wanted : ℕ) → x ≡ wanted → has wanted (codesAt t at left) ≡ true
   unfolding has
-  has-here wanted h = rw (codes-next t at left more, ← is, eq-eqb x wanted h)
+  has-here wanted h = rw (codes-next t at left (R .more), ← (R .code-is), eq-eqb x wanted h)
 
   pub has-later : (wanted : ℕ) → (x ≡ wanted → ⊥) → has wanted (codesAt t at left) ≡ has wanted (codesAt t (at + 2) (left - 1))
   unfolding has
-  has-later wanted h = rw (codes-next t at left more, ← is, ne-eqb x wanted h)
+  has-later wanted h = rw (codes-next t at left (R .more), ← (R .code-is), ne-eqb x wanted h)
 
 pub codes-done : (t : List ℕ) (at left least : ℕ) → left ≤ 0 → ascends least (codesAt t at left) ≡ true
 unfolding ascends codesAt
@@ -168,11 +173,16 @@ scopes-done t at body zero least h = ap (λ (e : ℕ). eqb e (length t)) (omega 
 scopes-done t at body (suc k) least h = absurd (not-suc-le-zero h)
 
 -- ---- the whole table
-module _ (t : List ℕ) (h n : ℕ) (eh : h ≡ byte t 1) (en : n ≡ u16 t 2) where
+-- the two counts at its front are read
+pub record Counts (t : List ℕ) (h n : ℕ) : Type 0 where
+  pub headers-is : h ≡ byte t 1
+  pub scopes-is : n ≡ u16 t 2
+
+module _ {t : List ℕ} {h n : ℕ} (C : Counts t h n) where
   formed-split : wellFormed t
       ≡ (leb h 4 && leb n 64 && ascends 0 (codesAt t 4 h) && scopesFit t (4 + 2 * h) (4 + 2 * h + 5 * n) n)
   unfolding wellFormed
-  formed-split = rw (← eh, ← en)
+  formed-split = rw (← (C .headers-is), ← (C .scopes-is))
 
   pub formed-headers : 4 < h → wellFormed t ≡ false
   formed-headers p = rw (formed-split, lt-leb h 4 p)

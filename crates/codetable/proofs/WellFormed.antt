@@ -1,11 +1,10 @@
 -- What a well-formed table is, part by part.
 -- Assumes nothing.
 use Prim.Native.Nat.{ℕ, _+_, _*_, _≤_, _<_}
-use mathlib.Core.Path.{_≡_, refl}
+use mathlib.Core.Path.{_≡_}
 use mathlib.Core.List.{List, map}
-use mathlib.Core.Bool.{Bool, true, false, _&&_}
+use mathlib.Core.Bool.{true}
 use lib.ListN.{length}
-use lib.Dec.{leb, eqb}
 use borrow.Author.Tests.{leb-true, ltb-true, eqb-true}
 use Rattle.rules.specs.Lists.{all, ascends}
 use Rattle.rules.specs.CodeTable.{Tie, Scope, headerCount, scopeCount, bodiesAt, header, scopes, key, tieOk, tiesOk, scopeOk, rowCount, scopesFit, wellFormed}

@@ -160,14 +160,14 @@ pub fn is_header(table: &[u8], code: u16) -> bool
 {
     let wanted = code as usize;
     let mut at = 4;
-    let mut left = byte(table, 1);
-    while 0 < left {
+    let mut codes = byte(table, 1);
+    while 0 < codes {
         let here = word(table, at);
         if here == wanted {
             return true;
         }
         at += 2;
-        left -= 1;
+        codes -= 1;
     }
     false
 }
@@ -178,9 +178,9 @@ fn seek_scope(table: &[u8], contents: usize, n: usize, wanted: usize) -> Place
     ensures { λ r. ⌜ Seeks (now (table .entry)) contents n wanted r ⌝ }
 {
     let mut first = 0;
-    let mut left = n;
-    while 0 < left {
-        let half = left / 2;
+    let mut scopes = n;
+    while 0 < scopes {
+        let half = scopes / 2;
         let mid = first + half;
         let at = contents + 5 * mid;
         let key = byte(table, at) * 65536 + word(table, at + 1);
@@ -189,9 +189,9 @@ fn seek_scope(table: &[u8], contents: usize, n: usize, wanted: usize) -> Place
         }
         if key < wanted {
             first = mid + 1;
-            left = left - half - 1;
+            scopes = scopes - half - 1;
         } else {
-            left = half;
+            scopes = half;
         }
     }
     Place::Missing
@@ -216,17 +216,17 @@ pub fn find_scope(table: &[u8], kind: u8, code: u16) -> Found
     ensures { λ r. ⌜ Finds (now (table .entry)) kind code r ⌝ }
 {
     let headers = byte(table, 1);
-    let scopes = word(table, 2);
-    if 64 < scopes {
+    let listed = word(table, 2);
+    if 64 < listed {
         return Found::Nowhere;
     }
     let contents = 4 + 2 * headers;
     let wanted = kind as usize * 65536 + code as usize;
-    let Place::At(index) = seek_scope(table, contents, scopes, wanted) else {
+    let Place::At(index) = seek_scope(table, contents, listed, wanted) else {
         return Found::Nowhere;
     };
     let before = rows_before(table, contents, index);
-    let start = contents + 5 * scopes + 4 * before;
+    let start = contents + 5 * listed + 4 * before;
     let count = word(table, contents + 5 * index + 3);
     Found::Body {
         start: start as u32,
@@ -240,9 +240,9 @@ fn seek_row(table: &[u8], start: usize, n: usize, wanted: usize) -> Row
     ensures { λ r. ⌜ (Sorted (t.tiesAt (now (table .entry)) start n) → r ≡ asRow (find (t.isTied wanted) (t.tiesAt (now (table .entry)) start n))) ⌝ }
 {
     let mut at = start;
-    let mut left = n;
-    while 0 < left {
-        let half = left / 2;
+    let mut rows = n;
+    while 0 < rows {
+        let half = rows / 2;
         let mid = at + 4 * half;
         let id = byte(table, mid);
         if id == wanted {
@@ -253,9 +253,9 @@ fn seek_row(table: &[u8], start: usize, n: usize, wanted: usize) -> Row
         }
         if id < wanted {
             at = mid + 4;
-            left = left - half - 1;
+            rows = rows - half - 1;
         } else {
-            left = half;
+            rows = half;
         }
     }
     Row::Untied

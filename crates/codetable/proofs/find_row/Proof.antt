@@ -1,4 +1,3 @@
-use native.Mathlib.Omega.{arith}
 use borrow.Author.Needs.{needs}
 use Rattle.rules.specs.Lists.{find}
 use Rattle.codetable.specs.Look.{bodyRows, asRow}

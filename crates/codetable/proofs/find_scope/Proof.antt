@@ -1,10 +1,9 @@
 use native.Mathlib.Omega.{arith}
 use borrow.Author.Needs.{needs}
 use Prim.Native.Nat.{_<_}
-use mathlib.Core.Path.{_≡_, refl, sym, ap, _∙_}
 use denote.Ref.{now}
 use Rattle.codetable.proofs.WellFormed.{parts}
-use Rattle.codetable.proofs.Scopes.{missing-rows, placed-rows}
+use Rattle.codetable.proofs.Scopes.{Sought, missing-rows, placed-rows}
 use Rattle.codetable.proofs.Lookup.{finds}
 use Rattle.codetable.proofs.find_scope.Statement.{statement}
 use Rattle.codetable.proofs.find_scope.Tie as tie
@@ -14,6 +13,16 @@ use Rattle.codetable.proofs.byte.Reads as byte-reads
 use Rattle.codetable.proofs.rows_before.Reads as rows-before-reads
 use Rattle.codetable.proofs.seek_scope.Reads as seek-scope-reads
 use Rattle.codetable.proofs.word.Reads as word-reads
+
+-- what the search for the scope gives
+sought : (c : tie.After-seek-scope)
+    → Sought (now (c .before .before .before .before .before .args .table)) (c .before .before .before .before .before .args .kind) (c .before .before .before .before .before .args .code) (c .before .before .before .byte .result) (c .before .before .word .result) (c .seek-scope .result)
+sought c = record {
+  bytes = λ i. c .before .before .before .before .shared-slice-known .given i .fits;
+  code-fits = omega arith;
+  counts = record { headers-is = c .before .before .before .byte .ensures .is; scopes-is = c .before .before .word .ensures .is };
+  place = c .seek-scope .ensures;
+}
 
 -- the scope that was found is one of them
 within : (c : tie.After-index) → c .index .given .0 .0 < c .before .before .before .before .word .result
@@ -61,10 +70,7 @@ enum-told c = search needs
 
 -- src/lib.rt:226:9
 returns-2 : tie.Need-returns-2
-returns-2 c =
-    finds _ _ _ _ (λ F. missing-rows (now (c .before .before .before .before .before .before .before .args .table)) (λ i. c .before .before .before .before .before .before .shared-slice-known .given i .fits) (c .before .before .before .before .before .before .before .args .kind) (c .before .before .before .before .before .before .before .args .code) (omega arith) F
-    (c .before .before .before .before .before .byte .result) (c .before .before .before .before .word .result) (c .before .before .before .before .before .byte .ensures .is) (c .before .before .before .before .word .ensures .is) (c .before .before .seek-scope .result) (c .before .before .seek-scope .ensures)
-    (c .enum-told .given .1))
+returns-2 c = finds _ _ _ _ (λ F. missing-rows (sought (c .before .before)) F (c .enum-told .given .1))
 
 -- src/lib.rt:228:9
 rows-before-requires : tie.Need-rows-before-requires
@@ -113,10 +119,8 @@ cast-t18 c = search needs
 -- src/lib.rt:215:1
 returns-3 : tie.Need-returns-3
 returns-3 c =
-    finds _ _ _ _ (λ F. rw (c .before .rows-before .ensures .is, c .word2 .ensures .is)
-    (placed-rows (now (c .before .before .before .before .before .before .before .before .before .before .args .table)) (λ i. c .before .before .before .before .before .before .before .before .before .shared-slice-known .given i .fits) (c .before .before .before .before .before .before .before .before .before .before .args .kind) (c .before .before .before .before .before .before .before .before .before .before .args .code) (omega arith) F
-    (c .before .before .before .before .before .before .before .before .byte .result) (c .before .before .before .before .before .before .before .word .result) (c .before .before .before .before .before .before .before .before .byte .ensures .is) (c .before .before .before .before .before .before .before .word .ensures .is) (c .before .before .before .before .before .seek-scope .result) (c .before .before .before .before .before .seek-scope .ensures)
-    (c .before .before .before .index .given .0 .0) (c .before .before .before .index .given .1)))
+    let i = c .before .before .before in
+    finds _ _ _ _ (λ F. rw (c .before .rows-before .ensures .is, c .word2 .ensures .is) (placed-rows (sought (i .before .before)) F (i .index .given .0 .0) (i .index .given .1)))
 
 pub find-scope-spec : {M : Type 1} → statement M
 find-scope-spec =

@@ -1,10 +1,11 @@
 use native.Mathlib.Omega.{arith}
 use borrow.Author.Needs.{needs}
 use Prim.Native.Nat.{_+_, _*_, _^_, _<_}
-use mathlib.Core.Path.{_≡_, refl, sym, ap, _∙_}
+use mathlib.Core.Path.{_≡_, sym, _∙_}
+use denote.Ref.{now}
 use Rattle.rules.specs.Lists.{has}
 use Rattle.rules.specs.CodeTable.{codesAt, header}
-use Rattle.codetable.proofs.Steps.{has-here, has-later, has-done}
+use Rattle.codetable.proofs.Steps.{CodeRead, has-here, has-later, has-done}
 use Rattle.codetable.proofs.is_header.Statement.{statement}
 use Rattle.codetable.proofs.is_header.Tie as tie
 use Rattle.codetable.proofs.is_header.Reads as reads
@@ -13,11 +14,15 @@ use Rattle.codetable.proofs.byte.Reads as byte-reads
 use Rattle.codetable.proofs.word.Reads as word-reads
 
 abbrev Inv-loop : tie.InvT-loop
-Inv-loop table code wanted at₀ left₀ at left =
-    (has code (header table) ≡ has wanted (codesAt table at left)) × (at + 2 * left < 2 ^ 32)
+Inv-loop table code wanted at₀ codes₀ at codes =
+    (has code (header table) ≡ has wanted (codesAt table at codes)) × (at + 2 * codes < 2 ^ 32)
 
 abbrev μ-loop : tie.MeasureT-loop
-μ-loop table code wanted at₀ left₀ at left = left
+μ-loop table code wanted at₀ codes₀ at codes = codes
+
+-- the code that a turn has read
+read : (c : tie.After-word Inv-loop μ-loop) → CodeRead (now (c .before .before .before .before .before .args .table)) (c .before .before .loop .at) (c .before .before .loop .codes) (c .word .result)
+read c = record { more = omega arith; code-is = c .word .ensures .is }
 
 -- src/lib.rt:163:9
 byte-requires : tie.Need-byte-requires Inv-loop μ-loop
@@ -35,15 +40,15 @@ word-requires c κs = search needs
 returns : tie.Need-returns Inv-loop μ-loop
 returns c =
     let l = c .before .before .before in
-    sym (l .loop .inv .0 ∙ has-here _ _ _ _ (c .before .before .loop-test .taken) (c .before .word .ensures .is) _ (c .if1 .taken))
+    sym (l .loop .inv .0 ∙ has-here (read (c .before)) _ (c .if1 .taken))
 
 -- src/lib.rt:169:9
 add-at : tie.Need-add-at Inv-loop μ-loop
 add-at c = omega arith
 
 -- src/lib.rt:170:9
-sub-left : tie.Need-sub-left Inv-loop μ-loop
-sub-left c = omega arith
+sub-codes : tie.Need-sub-codes Inv-loop μ-loop
+sub-codes c = omega arith
 
 -- src/lib.rt:164:5
 loop-less : tie.Need-loop-less Inv-loop μ-loop
@@ -53,11 +58,11 @@ loop-less c = omega arith
 loop-again : tie.Need-loop-again Inv-loop μ-loop
 loop-again c =
     let l = c .before .before .before in
-    (l .loop .inv .0 ∙ has-later _ _ _ _ (c .before .before .loop-test .taken) (c .before .word .ensures .is) _ (c .if1 .left), omega arith)
+    (l .loop .inv .0 ∙ has-later (read (c .before)) _ (c .if1 .left), omega arith)
 
 -- src/lib.rt:158:1
 returns-2 : tie.Need-returns-2 Inv-loop μ-loop
-returns-2 c = sym (c .before .loop .inv .0 ∙ has-done _ _ _ _ (c .loop-test .left))
+returns-2 c = sym (c .before .loop .inv .0 ∙ has-done _ _ (c .before .loop .codes) _ (omega arith))
 
 pub is-header-spec : {M : Type 1} → statement M
 is-header-spec =
@@ -70,7 +75,7 @@ is-header-spec =
     word-requires
     returns
     add-at
-    sub-left
+    sub-codes
     loop-less
     loop-again
     returns-2)

@@ -1,7 +1,7 @@
 use native.Mathlib.Omega.{arith}
 use borrow.Author.Needs.{needs}
 use Prim.Native.Nat.{_+_, _*_, _^_, _<_, _≤_}
-use mathlib.Core.Path.{_≡_, refl, sym, ap, _∙_}
+use mathlib.Core.Path.{_≡_, sym, _∙_}
 use mathlib.Core.Bool.{true, _||_}
 use mathlib.Core.Logic.{⊎-elim, inl, inr}
 use denote.Ref.{now}
@@ -28,11 +28,15 @@ Inv-loop table start bodies n at₀ body₀ left₀ least₀ at body left least 
 abbrev μ-loop : tie.MeasureT-loop
 μ-loop table start bodies n at₀ body₀ left₀ least₀ at body left least = left
 
+-- the loop's head, from where the last thing is read
+abbrev head : tie.After-word2 Inv-loop μ-loop → tie.At-loop Inv-loop μ-loop
+head c = c .before .before .before .before
+
 -- the scope that a turn has read
 read : (c : tie.After-word2 Inv-loop μ-loop)
-    → ScopeRead (now (c .before .before .before .before .before .before .args .table)) (c .before .before .before .before .loop .at) (c .before .before .before .before .loop .left) (c .before .before .byte .result) (c .before .word .result) (c .word2 .result)
+    → ScopeRead (now (head c .before .before .args .table)) (head c .loop .at) (head c .loop .left) (c .before .before .byte .result) (c .before .word .result) (c .word2 .result)
 read c = record {
-  more = c .before .before .before .loop-test .taken;
+  more = omega arith;
   kind-is = c .before .before .byte .ensures .is;
   code-is = c .before .word .ensures .is;
   count-is = c .word2 .ensures .is;
@@ -134,7 +138,7 @@ loop-again c =
 
 -- src/lib.rt:96:1
 returns-5 : tie.Need-returns-5 Inv-loop μ-loop
-returns-5 c = sym (c .before .loop .inv .0 ∙ scopes-done _ _ _ _ _ (c .loop-test .left))
+returns-5 c = sym (c .before .loop .inv .0 ∙ scopes-done _ _ _ (c .before .loop .left) _ (omega arith))
 
 pub scopes-fit-spec : {M : Type 1} → statement M
 scopes-fit-spec =

@@ -1,7 +1,7 @@
 use native.Mathlib.Omega.{arith}
 use borrow.Author.Needs.{needs}
 use Prim.Native.Nat.{_+_, _*_, _/_, _^_, _<_}
-use mathlib.Core.Path.{_≡_, refl, sym, ap, _∙_}
+use mathlib.Core.Path.{refl}
 use denote.Ref.{now}
 use Rattle.rules.specs.CodeTable.{idOf, tieAt}
 use Rattle.codetable.proofs.Halves.{Narrowed, begin, Turn, go-up, go-down}
@@ -14,16 +14,20 @@ use Rattle.codetable.proofs.byte.Reads as byte-reads
 use Rattle.codetable.proofs.word.Reads as word-reads
 
 abbrev Inv-loop : tie.InvT-loop
-Inv-loop table start n wanted at₀ left₀ at left = Narrowed (tieAt table) idOf 4 start n wanted at left × (at + 4 * left < 2 ^ 60)
+Inv-loop table start n wanted at₀ rows₀ at rows = Narrowed (tieAt table) idOf 4 start n wanted at rows × (at + 4 * rows < 2 ^ 60)
 
 abbrev μ-loop : tie.MeasureT-loop
-μ-loop table start n wanted at₀ left₀ at left = left
+μ-loop table start n wanted at₀ rows₀ at rows = rows
+
+-- the loop's head, from where the last thing is read
+abbrev head : tie.After-byte Inv-loop μ-loop → tie.At-loop Inv-loop μ-loop
+head c = c .before .before
 
 -- what a turn has read
 turn : (c : tie.After-byte Inv-loop μ-loop)
-    → Turn (tieAt (now (c .before .before .before .before .args .table))) idOf 4 (c .before .before .before .before .args .start) (c .before .before .before .before .args .n) (c .before .before .before .before .args .wanted)
-    (c .before .before .loop .at) (c .before .before .loop .left) (c .before .before .loop .left / 2) (c .before .before .loop .at + 4 * (c .before .before .loop .left / 2)) (c .byte .result)
-turn c = record { so-far = c .before .before .loop .inv .0; fits = omega arith; middle = refl; reads = c .byte .ensures .is }
+    → Turn (tieAt (now (head c .before .before .args .table))) idOf 4 (head c .before .before .args .start) (head c .before .before .args .n) (head c .before .before .args .wanted)
+    (head c .loop .at) (head c .loop .rows) (head c .loop .rows / 2) (head c .loop .at + 4 * (head c .loop .rows / 2)) (c .byte .result)
+turn c = record { so-far = head c .loop .inv .0; fits = omega arith; middle = refl; reads = c .byte .ensures .is }
 
 -- src/lib.rt:244:5
 loop-holds : tie.Need-loop-holds Inv-loop μ-loop
@@ -74,12 +78,12 @@ add-at : tie.Need-add-at Inv-loop μ-loop
 add-at c = omega arith
 
 -- src/lib.rt:256:20
-sub-left : tie.Need-sub-left Inv-loop μ-loop
-sub-left c = omega arith
+sub-rows : tie.Need-sub-rows Inv-loop μ-loop
+sub-rows c = omega arith
 
 -- src/lib.rt:256:20
-sub-left-2 : tie.Need-sub-left-2 Inv-loop μ-loop
-sub-left-2 c = omega arith
+sub-rows-2 : tie.Need-sub-rows-2 Inv-loop μ-loop
+sub-rows-2 c = omega arith
 
 -- src/lib.rt:244:5
 loop-less : tie.Need-loop-less Inv-loop μ-loop
@@ -87,7 +91,7 @@ loop-less c = omega arith
 
 -- src/lib.rt:244:5
 loop-again : tie.Need-loop-again Inv-loop μ-loop
-loop-again c = (go-up (turn (c .before .before)) (c .if2 .taken), omega arith)
+loop-again c = (go-up (turn (c .before .before)) (omega arith), omega arith)
 
 -- src/lib.rt:244:5
 loop-less-2 : tie.Need-loop-less-2 Inv-loop μ-loop
@@ -99,7 +103,7 @@ loop-again-2 c = (go-down (turn (c .before .before)) (omega arith), omega arith)
 
 -- src/lib.rt:238:1
 returns-2 : tie.Need-returns-2 Inv-loop μ-loop
-returns-2 c = row-none (now (c .before .before .before .args .table)) (c .before .loop .inv .0) (c .loop-test .left)
+returns-2 c = row-none (now (c .before .before .before .args .table)) (c .before .loop .inv .0) (omega arith)
 
 pub seek-row-spec : {M : Type 1} → statement M
 seek-row-spec =
@@ -119,8 +123,8 @@ seek-row-spec =
     cast-t17
     returns
     add-at
-    sub-left
-    sub-left-2
+    sub-rows
+    sub-rows-2
     loop-less
     loop-again
     loop-less-2

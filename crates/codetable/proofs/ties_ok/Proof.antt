@@ -1,7 +1,7 @@
 use native.Mathlib.Omega.{arith}
 use borrow.Author.Needs.{needs}
 use Prim.Native.Nat.{_+_, _*_, _^_, _<_, _≤_}
-use mathlib.Core.Path.{_≡_, refl, sym, ap, _∙_}
+use mathlib.Core.Path.{_≡_, sym, _∙_}
 use denote.Ref.{now}
 use Rattle.rules.specs.CodeTable.{tiesAt, tiesOk}
 use Rattle.codetable.specs.Look.{tiesFrom}
@@ -20,11 +20,15 @@ Inv-loop table start n at₀ left₀ least₀ at left least =
 abbrev μ-loop : tie.MeasureT-loop
 μ-loop table start n at₀ left₀ least₀ at left least = left
 
+-- the loop's head, from where the last thing is read
+abbrev head : tie.After-byte2 Inv-loop μ-loop → tie.At-loop Inv-loop μ-loop
+head c = c .before .before .before .before
+
 -- the row that a turn has read
 read : (c : tie.After-byte2 Inv-loop μ-loop)
-    → TieRead (now (c .before .before .before .before .before .before .args .table)) (c .before .before .before .before .loop .at) (c .before .before .before .before .loop .left) (c .before .before .byte .result) (c .before .word .result) (c .byte2 .result)
+    → TieRead (now (head c .before .before .args .table)) (head c .loop .at) (head c .loop .left) (c .before .before .byte .result) (c .before .word .result) (c .byte2 .result)
 read c = record {
-  more = c .before .before .before .loop-test .taken;
+  more = omega arith;
   id-is = c .before .before .byte .ensures .is;
   target-is = c .before .word .ensures .is;
   kind-is = c .byte2 .ensures .is;
@@ -102,7 +106,7 @@ loop-again c =
 
 -- src/lib.rt:65:1
 returns-5 : tie.Need-returns-5 Inv-loop μ-loop
-returns-5 c = sym (c .before .loop .inv .0 ∙ ties-done _ _ _ _ (c .loop-test .left))
+returns-5 c = sym (c .before .loop .inv .0 ∙ ties-done _ _ (c .before .loop .left) _ (omega arith))
 
 pub ties-ok-spec : {M : Type 1} → statement M
 ties-ok-spec =

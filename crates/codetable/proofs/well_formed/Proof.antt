@@ -1,8 +1,9 @@
 use native.Mathlib.Omega.{arith}
 use borrow.Author.Needs.{needs}
-use mathlib.Core.Path.{_≡_, refl, sym, ap, _∙_}
+use mathlib.Core.Path.{sym, _∙_}
+use denote.Ref.{now}
 use borrow.Author.Tests.{not-true, not-false}
-use Rattle.codetable.proofs.Steps.{formed-headers, formed-scopes, formed-codes, formed-rest}
+use Rattle.codetable.proofs.Steps.{Counts, formed-headers, formed-scopes, formed-codes, formed-rest}
 use Rattle.codetable.proofs.well_formed.Statement.{statement}
 use Rattle.codetable.proofs.well_formed.Tie as tie
 use Rattle.codetable.proofs.well_formed.Reads as reads
@@ -11,6 +12,10 @@ use Rattle.codetable.proofs.byte.Reads as byte-reads
 use Rattle.codetable.proofs.codes_ascend.Reads as codes-ascend-reads
 use Rattle.codetable.proofs.scopes_fit.Reads as scopes-fit-reads
 use Rattle.codetable.proofs.word.Reads as word-reads
+
+-- the counts that are read
+counts : (c : tie.After-word) → Counts (now (c .before .before .before .args .table)) (c .before .byte .result) (c .word .result)
+counts c = record { headers-is = c .before .byte .ensures .is; scopes-is = c .word .ensures .is }
 
 -- src/lib.rt:135:9
 byte-requires : tie.Need-byte-requires
@@ -22,11 +27,11 @@ word-requires c κs = search needs
 
 -- src/lib.rt:138:9
 returns : tie.Need-returns
-returns c = sym (formed-headers _ (c .before .before .byte .result) (c .before .word .result) (c .before .before .byte .ensures .is) (c .before .word .ensures .is) (omega arith))
+returns c = sym (formed-headers (counts (c .before)) (omega arith))
 
 -- src/lib.rt:141:9
 returns-2 : tie.Need-returns-2
-returns-2 c = sym (formed-scopes _ (c .before .before .before .byte .result) (c .before .before .word .result) (c .before .before .before .byte .ensures .is) (c .before .before .word .ensures .is) (omega arith) (omega arith))
+returns-2 c = sym (formed-scopes (counts (c .before .before)) (omega arith) (omega arith))
 
 -- src/lib.rt:143:9
 codes-ascend-requires : tie.Need-codes-ascend-requires
@@ -35,7 +40,7 @@ codes-ascend-requires c κs = search needs
 -- src/lib.rt:144:9
 returns-3 : tie.Need-returns-3
 returns-3 c =
-    sym (formed-codes _ (c .before .before .before .before .before .byte .result) (c .before .before .before .before .word .result) (c .before .before .before .before .before .byte .ensures .is) (c .before .before .before .before .word .ensures .is) (omega arith) (omega arith) (sym (c .before .codes-ascend .ensures) ∙ not-true _ (c .if3 .taken)))
+    sym (formed-codes (counts (c .before .before .before .before)) (omega arith) (omega arith) (sym (c .before .codes-ascend .ensures) ∙ not-true _ (c .if3 .taken)))
 
 -- src/lib.rt:146:24
 mul-contents : tie.Need-mul-contents
@@ -61,7 +66,7 @@ scopes-fit-requires c κs = search needs
 returns-4 : tie.Need-returns-4
 returns-4 c =
     c .scopes-fit .ensures
-    ∙ sym (formed-rest _ (c .before .before .before .before .before .before .byte .result) (c .before .before .before .before .before .word .result) (c .before .before .before .before .before .before .byte .ensures .is) (c .before .before .before .before .before .word .ensures .is) (omega arith) (omega arith) (sym (c .before .before .codes-ascend .ensures) ∙ not-false _ (c .before .if3 .left)))
+    ∙ sym (formed-rest (counts (c .before .before .before .before .before)) (omega arith) (omega arith) (sym (c .before .before .codes-ascend .ensures) ∙ not-false _ (c .before .if3 .left)))
 
 pub well-formed-spec : {M : Type 1} → statement M
 well-formed-spec =
