@@ -44,7 +44,12 @@ read c = record {
 
 -- past the test of the code, the kind is 2 or the code is 0
 code-known : (j : tie.Joined2 Inv-loop μ-loop) → (eqb (j .before .before .before .before .byte .result) 2 || eqb (j .before .before .before .word .result) 0) ≡ true
-code-known j = code-ok _ _ (⊎-elim (λ w. inr (w .1 .left)) (λ w. inl (w .left)) (j .if2 .came))
+code-known j =
+    code-ok _ _
+    (⊎-elim
+    (λ w. let e : j .before .before .before .word .result ≡ 0 = omega (arith, w .1 .left) in inr e)
+    (λ w. let e : j .before .before .before .before .byte .result ≡ 2 = omega (arith, w .left) in inl e)
+    (j .if2 .came))
 
 -- src/lib.rt:104:5
 loop-holds : tie.Need-loop-holds Inv-loop μ-loop
@@ -80,7 +85,7 @@ returns c =
 returns-2 : tie.Need-returns-2 Inv-loop μ-loop
 returns-2 c =
     let l = c .before .before .before .before .before .before .before .loop in
-    sym (l .inv .0 ∙ scopes-code (read (c .before .before .before)) (l .body) (l .least) (omega arith) (c .before .if2 .taken) (c .if3 .taken))
+    sym (l .inv .0 ∙ scopes-code (read (c .before .before .before)) (l .body) (l .least) (omega arith) (λ e. omega arith) (λ e. omega arith))
 
 -- src/lib.rt:116:19
 mul-key : tie.Need-mul-key Inv-loop μ-loop
