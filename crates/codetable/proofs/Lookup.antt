@@ -1,5 +1,4 @@
 -- What a reader that looks rows up may rely on, where the table is well formed.
--- Assumes nothing.
 use Prim.Native.Nat.{ℕ, _<_, _≤_}
 use mathlib.Core.Path.{_≡_, refl}
 use mathlib.Core.List.{List}
@@ -11,13 +10,14 @@ use Rattle.rules.specs.CodeTable.{Tie, Scope, scopes, tieOk, scopeOk, isScope, 
 use Rattle.codetable.specs.declared.Found.{Found}
 use Rattle.codetable.specs.declared.Row.the-variants.{Tied}
 use Rattle.codetable.specs.Look.{Formed, Sorted, Finds, bodyRows, asRow}
-use Rattle.codetable.proofs.Ascending.{all-there, found-there}
-use Rattle.codetable.proofs.WellFormed.{parts, rows-sorted, rows-ok, Limits, limits}
+use Rattle.rules.proofs.ListLaws.{all-there, found-there}
+use Rattle.rules.proofs.CodeTableLaws.{formed, rows-ascend}
+use Rattle.codetable.proofs.WellFormed.{rows-ok, Limits, limits}
 
 module _ (t : List ℕ) (kind code : ℕ) (F : Formed t) where
   -- a scope that is found is well formed
   scope-ok : (s : Scope) → find (isScope kind code) (scopes t) ≡ some s → scopeOk s ≡ true
-  scope-ok s q = all-there scopeOk (scopes t) s (parts t F .scopes-ok) (found-there (isScope kind code) (scopes t) s q .0)
+  scope-ok s q = all-there scopeOk (scopes t) s (formed t F .scopes-ok) (found-there (isScope kind code) (scopes t) s q .0)
 
   pub scope-sorted : Sorted (scopeRows t kind code)
   unfolding scopeRows ascends
@@ -25,7 +25,7 @@ module _ (t : List ℕ) (kind code : ℕ) (F : Formed t) where
     where
       go : (o : Option Scope) → find (isScope kind code) (scopes t) ≡ o → Sorted (rowsOf o)
       go none q = refl
-      go (some s) q = rows-sorted s (scope-ok s q)
+      go (some s) q = rows-ascend s (scope-ok s q)
 
   pub scope-rows-ok : all tieOk (scopeRows t kind code) ≡ true
   unfolding scopeRows all

@@ -16,7 +16,7 @@ use Rattle.codetable.specs.declared.Found.the-variants.{Body, Nowhere}
 use Rattle.codetable.specs.declared.Place.{Place}
 use Rattle.codetable.specs.declared.Place.the-variants.{At, Missing}
 use Rattle.codetable.specs.Look.{Formed, findBy, itemsAt, indexes, keyAt, countAt, countsTo, asPlace, KeysAscend, Seeks, bodyRows}
-use Rattle.codetable.proofs.WellFormed.{parts}
+use Rattle.rules.proofs.CodeTableLaws.{formed}
 use Rattle.codetable.proofs.Steps.{Counts}
 
 same-key : (k c kind code : ℕ) → c < 65536 → code < 65536 → (eqb k kind && eqb c code) ≡ eqb (keyOf k c) (keyOf kind code)
@@ -122,7 +122,7 @@ module _ {t : List ℕ} {kind code h n : ℕ} {p : Place} (S : Sought t kind cod
 
   keys-ascend : KeysAscend t contents 0 n
   keys-ascend =
-      let e : ascends 0 (map key (scopesAt t contents bodies n)) ≡ true = rw (S .counts .headers-is, S .counts .scopes-is) (parts t F .keys-ascend) in
+      let e : ascends 0 (map key (scopesAt t contents bodies n)) ≡ true = rw (S .counts .headers-is, S .counts .scopes-is) (formed t F .keys-ascend) in
       rw (← (keys-of-places t contents bodies (indexes 0 n)), ← (scopes-placed t contents bodies n)) e
 
   rows-there : rowsAt t contents bodies index ≡ scopeRows t kind code

@@ -2,7 +2,7 @@ use native.Mathlib.Omega.{arith}
 use borrow.Author.Needs.{needs}
 use Prim.Native.Nat.{_<_}
 use denote.Ref.{now}
-use Rattle.codetable.proofs.WellFormed.{parts}
+use Rattle.rules.proofs.CodeTableLaws.{formed}
 use Rattle.codetable.proofs.Scopes.{Sought, missing-rows, placed-rows}
 use Rattle.codetable.proofs.Lookup.{finds}
 use Rattle.codetable.proofs.find_scope.Statement.{statement}
@@ -38,7 +38,7 @@ word-requires c κs = search needs
 
 -- src/lib.rt:221:9
 returns : tie.Need-returns
-returns c = finds _ _ _ _ (λ F. absurd (omega (arith, parts (now (c .before .before .before .before .args .table)) F .few-scopes)))
+returns c = finds _ _ _ _ (λ F. absurd (omega (arith, formed (now (c .before .before .before .before .args .table)) F .few-scopes)))
 
 -- src/lib.rt:223:24
 mul-contents : tie.Need-mul-contents
