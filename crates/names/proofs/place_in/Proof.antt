@@ -18,57 +18,45 @@ abbrev μ-loop : tie.MeasureT-loop
 abbrev mid : ℕ → ℕ → ℕ
 mid lo hi = lo + (hi - lo) / 2
 
--- src/lib.rt:17:5
 loop-holds : tie.Need-loop-holds Inv-loop μ-loop
 loop-holds c = (omega arith, omega arith, λ a. start (c .args .ids .now) (c .args .id))
 
--- src/lib.rt:18:25
 sub-mid : tie.Need-sub-mid Inv-loop μ-loop
 sub-mid c = omega arith
 
--- src/lib.rt:18:19
 add-mid : tie.Need-add-mid Inv-loop μ-loop
 add-mid c = omega arith
 
--- src/lib.rt:19:18
 mul-at : tie.Need-mul-at Inv-loop μ-loop
 mul-at c = omega (arith, c .before .before .good .0 .1)
 
--- src/lib.rt:19:18
 shared-slice-read-at : tie.Need-shared-slice-read-at Inv-loop μ-loop
 shared-slice-read-at c = omega arith
 
--- src/lib.rt:21:13
 returns : tie.Need-returns Inv-loop μ-loop
 returns c a =
     let l = c .before .before .before in
     placed (l .before .args .ids .now) (l .before .args .id) (mid (l .loop .lo) (l .loop .hi)) a (omega arith) (c .if1 .taken)
 
--- src/lib.rt:24:18
 add-lo : tie.Need-add-lo Inv-loop μ-loop
 add-lo c = omega arith
 
--- src/lib.rt:17:5
 loop-less : tie.Need-loop-less Inv-loop μ-loop
 loop-less c = omega arith
 
--- src/lib.rt:17:5
 loop-again : tie.Need-loop-again Inv-loop μ-loop
 loop-again c =
     let l = c .before .before .before .before in
     (omega arith, omega arith, λ a. up (l .before .args .ids .now) (l .before .args .id) (mid (l .loop .lo) (l .loop .hi)) a (omega arith) (l .loop .inv .2 a) (c .if2 .taken))
 
--- src/lib.rt:17:5
 loop-less-2 : tie.Need-loop-less-2 Inv-loop μ-loop
 loop-less-2 c = omega arith
 
--- src/lib.rt:17:5
 loop-again-2 : tie.Need-loop-again-2 Inv-loop μ-loop
 loop-again-2 c =
     let l = c .before .before .before .before in
     (omega arith, omega arith, λ a. down (l .before .args .ids .now) (l .before .args .id) (mid (l .loop .lo) (l .loop .hi)) a (omega arith) (l .loop .inv .2 a) (omega arith))
 
--- src/lib.rt:11:1
 returns-2 : tie.Need-returns-2 Inv-loop μ-loop
 returns-2 c a = let l = c .before in nowhere (l .before .args .ids .now) (l .before .args .id) (l .loop .lo) (l .loop .hi) (l .loop .inv .2 a) (c .loop-test .left)
 

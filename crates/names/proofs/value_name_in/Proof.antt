@@ -11,16 +11,16 @@ use Rattle.names.proofs.name_in.Reads as name-in-reads
 use Rattle.names.proofs.none_of.Reads as none-of-reads
 
 name-in-requires : tie.Need-name-in-requires
-name-in-requires c κs = some-row (c .before .before .before .before .pre .texts)
+name-in-requires c κs = let s = c .before .before .before .before .pre in omega (arith, some-row (s .texts), some-row (s .numbers), some-row (s .bytes))
 
 name-in-requires-2 : tie.Need-name-in-requires-2
-name-in-requires-2 c κs = some-row (c .before .before .before .before .pre .bytes)
+name-in-requires-2 c κs = let s = c .before .before .before .before .pre in omega (arith, some-row (s .texts), some-row (s .numbers), some-row (s .bytes))
 
 name-in-requires-3 : tie.Need-name-in-requires-3
-name-in-requires-3 c κs = some-row (c .before .before .before .before .before .pre .numbers)
+name-in-requires-3 c κs = let s = c .before .before .before .before .before .pre in omega (arith, some-row (s .texts), some-row (s .numbers), some-row (s .bytes))
 
 none-of-requires : tie.Need-none-of-requires
-none-of-requires c κs = some-row (c .before .before .before .before .before .pre .texts)
+none-of-requires c κs = let s = c .before .before .before .before .before .pre in omega (arith, some-row (s .texts), some-row (s .numbers), some-row (s .bytes))
 
 returns : tie.Need-returns
 returns c =
