@@ -80,17 +80,17 @@ not-short : (y : ℤ) → 32768 ≤ mag y → Not ≡ shortOf y
 unfolding shortOf fits16
 not-short y h = sym (rw (le-ltb (mag y) 32768 h))
 
-pub too-low : (y : ℤ) → ltZ y (negsuc 32767) ≡ true → Not ≡ shortOf y
-too-low (pos n) t = no t
-too-low (negsuc n) t = let h : 32767 < n = ltb-true 32767 n t in not-short (negsuc n) (omega arith)
+pub too-low : {k : ℕ} (y : ℤ) → ltZ y (negsuc k) ≡ true → 32767 ≤ k → Not ≡ shortOf y
+too-low (pos n) t l = no t
+too-low {k} (negsuc n) t l = let h : k < n = ltb-true k n t in not-short (negsuc n) (omega arith)
 
-pub too-high : (y : ℤ) → ltZ (pos 32767) y ≡ true → Not ≡ shortOf y
-too-high (pos n) t = let h : 32767 < n = ltb-true 32767 n t in not-short (pos n) (omega arith)
-too-high (negsuc n) t = no t
+pub too-high : {k : ℕ} (y : ℤ) → ltZ (pos k) y ≡ true → 32767 ≤ k → Not ≡ shortOf y
+too-high {k} (pos n) t l = let h : k < n = ltb-true k n t in not-short (pos n) (omega arith)
+too-high (negsuc n) t l = no t
 
-pub within : (y : ℤ) → ltZ y (negsuc 32767) ≡ false → ltZ (pos 32767) y ≡ false → mag y < 32768
-within (pos n) t u = let h : n ≤ 32767 = ltb-false 32767 n u in omega arith
-within (negsuc n) t u = let h : n ≤ 32767 = ltb-false 32767 n t in omega arith
+pub within : {j k : ℕ} (y : ℤ) → ltZ y (negsuc j) ≡ false → ltZ (pos k) y ≡ false → j < 32768 → k < 32768 → mag y < 32768
+within {j} {k} (pos n) t u l m = let h : n ≤ k = ltb-false k n u in omega arith
+within {j} {k} (negsuc n) t u l m = let h : n ≤ j = ltb-false j n t in omega arith
 
 pub short-is : (y : ℤ) → mag y < 32768 → Fits y ≡ shortOf y
 unfolding shortOf fits16

@@ -5,13 +5,14 @@ use mathlib.Core.List.{List}
 use mathlib.Core.Option.{Option, none, some}
 use Prim.Native.Nat.{ℕ, _≤_, _<_}
 use native.Mathlib.Omega.{arith}
-use borrow.Author.Tests.{lt-ltb, le-ltb, lt-leb, ne-eqb}
+use borrow.Author.Tests.{lt-ltb, le-ltb, le-leb, lt-leb, ne-eqb}
 use lib.Dec.{eqb}
-use lib.IntN.{ℤ}
+use lib.IntN.{ℤ, pos}
 use lib.ListN.{length}
-use Rattle.rules.specs.Bytes.{u32}
+use Rattle.rules.specs.Bytes.{byte, u16, u32}
 use Rattle.rules.specs.Utf16.{isUtf16}
-use Rattle.rules.specs.Value.{value, longValue, shortValue, guidValue, binaryValue, fits16, longOr, shortOr, entryValue, storedValue, valueAs}
+use Rattle.rules.specs.Value.{value, boolValue, notDefault, signed, longValue, shortValue, doubleValue, widened, guidValue, binaryValue, fits16, integerValue, longOr, shortOr, yesNoValue, entryValue, storedValue, valueAs}
+use Rattle.leaf.specs.Parts.{singleOrBinary, doubleOrBinary, guidOrBinary}
 use Rattle.leaf.specs.Int.{intOf, shortOf}
 use Rattle.leaf.specs.declared.Int.the-variants.{Of, Nothing}
 use Rattle.leaf.specs.declared.Short.the-variants.{Fits, Not}
@@ -54,6 +55,60 @@ short-fits (some y) z x e n =
     let d : z ≡ y = cc in
     sym (short-by y x (fits16 y) refl (ap shortOf (sym d) ∙ n))
 
+-- ---- by how many bytes there are
+module _ (b : List ℕ) where
+  pub one-byte : length b ≡ 1 → some (pos (byte b 0)) ≡ integerValue b
+  unfolding integerValue
+  one-byte h = rw h
+
+  pub two-bytes : length b ≡ 2 → some (signed 0x8000 (u16 b 0)) ≡ integerValue b
+  unfolding integerValue
+  two-bytes h = rw h
+
+  pub four-bytes : length b ≡ 4 → some (signed 0x80000000 (u32 b 0)) ≡ integerValue b
+  unfolding integerValue
+  four-bytes h = rw h
+
+  pub no-integer : (length b ≡ 1 → ⊥) → (length b ≡ 2 → ⊥) → (length b ≡ 4 → ⊥) → none ≡ integerValue b
+  unfolding integerValue
+  no-integer p q r = simp (ne-eqb (length b) 1 p, ne-eqb (length b) 2 q, ne-eqb (length b) 4 r)
+
+  pub yes-empty : length b ≡ 0 → notDefault ≡ yesNoValue b
+  unfolding yesNoValue
+  yes-empty h = rw h
+
+  pub yes-byte : length b ≡ 1 → boolValue (byte b 0) ≡ yesNoValue b
+  unfolding yesNoValue
+  yes-byte h = rw h
+
+  pub yes-longer : (length b ≡ 0 → ⊥) → (length b ≡ 1 → ⊥) → longOr binaryValue (integerValue b) ≡ yesNoValue b
+  unfolding yesNoValue
+  yes-longer p q = simp (ne-eqb (length b) 0 p, ne-eqb (length b) 1 q)
+
+  pub a-single : length b ≡ 4 → doubleValue (widened (u32 b 0)) ≡ singleOrBinary b
+  unfolding singleOrBinary
+  a-single h = rw h
+
+  pub no-single : (length b ≡ 4 → ⊥) → binaryValue ≡ singleOrBinary b
+  unfolding singleOrBinary
+  no-single p = rw (ne-eqb (length b) 4 p)
+
+  pub a-double : length b ≡ 8 → value 4 (u32 b 0) (u32 b 4) ≡ doubleOrBinary b
+  unfolding doubleOrBinary
+  a-double h = rw h
+
+  pub no-double : (length b ≡ 8 → ⊥) → binaryValue ≡ doubleOrBinary b
+  unfolding doubleOrBinary
+  no-double p = rw (ne-eqb (length b) 8 p)
+
+  pub a-guid : length b ≡ 16 → guidValue ≡ guidOrBinary b
+  unfolding guidOrBinary
+  a-guid h = rw h
+
+  pub no-guid : (length b ≡ 16 → ⊥) → binaryValue ≡ guidOrBinary b
+  unfolding guidOrBinary
+  no-guid p = rw (ne-eqb (length b) 16 p)
+
 -- ---- types and ids
 pub other-type : (t : ℕ) (b : List ℕ)
     → (t ≡ 1 → ⊥) → (t ≡ 2 → ⊥) → (t ≡ 3 → ⊥) → (t ≡ 4 → ⊥) → (t ≡ 6 → ⊥) → (t ≡ 8 → ⊥) → (t ≡ 9 → ⊥) → (t ≡ 10 → ⊥) → (t ≡ 12 → ⊥)
@@ -62,22 +117,41 @@ unfolding entryValue
 other-type t b n1 n2 n3 n4 n6 n8 n9 na nc =
     simp (ne-eqb t 1 n1, ne-eqb t 2 n2, ne-eqb t 3 n3, ne-eqb t 4 n4, ne-eqb t 6 n6, ne-eqb t 8 n8, ne-eqb t 9 n9, ne-eqb t 10 na, ne-eqb t 12 nc)
 
-module _ (id : ℕ) (b : List ℕ) (h : 0xBC < id) where
-  stored-bytes : storedValue id b ≡ binaryValue
+module _ (id : ℕ) (b : List ℕ) where
+  pub stored-flag : id ≤ 0x2F → notDefault ≡ storedValue id b
   unfolding storedValue
-  stored-bytes =
-      let h1 : 0x2F < id = omega arith in
-      let h2 : 0x5F < id = omega arith in
-      let h3 : 0x7F < id = omega arith in
-      simp (lt-leb id 0x2F h1, lt-leb id 0x5F h2, lt-leb id 0x7F h3, lt-leb id 0xBC h)
+  stored-flag h = rw (le-leb id 0x2F h)
 
-  pub by-kind : (kind : ℕ) → valueAs kind id b ≡ cond (eqb kind 1 && isUtf16 b) (value 6 0 0)
+  pub stored-byte : 0x2F < id → id ≤ 0x5F → shortValue (pos (byte b 0)) ≡ storedValue id b
+  unfolding storedValue
+  stored-byte l h = simp (lt-leb id 0x2F l, le-leb id 0x5F h)
+
+  pub stored-short : 0x5F < id → id ≤ 0x7F → shortValue (signed 0x8000 (u16 b 0)) ≡ storedValue id b
+  unfolding storedValue
+  stored-short l h = let k : 0x2F < id = omega arith in simp (lt-leb id 0x2F k, lt-leb id 0x5F l, le-leb id 0x7F h)
+
+  pub stored-long : 0x7F < id → id ≤ 0xBC → longValue (signed 0x80000000 (u32 b 0)) ≡ storedValue id b
+  unfolding storedValue
+  stored-long l h =
+      let j : 0x2F < id = omega arith in
+      let k : 0x5F < id = omega arith in
+      simp (lt-leb id 0x2F j, lt-leb id 0x5F k, lt-leb id 0x7F l, le-leb id 0xBC h)
+
+  pub stored-bytes : 0xBC < id → binaryValue ≡ storedValue id b
+  unfolding storedValue
+  stored-bytes h =
+      let j : 0x2F < id = omega arith in
+      let k : 0x5F < id = omega arith in
+      let l : 0x7F < id = omega arith in
+      simp (lt-leb id 0x2F j, lt-leb id 0x5F k, lt-leb id 0x7F l, lt-leb id 0xBC h)
+
+  pub by-id : (kind : ℕ) → id ≤ 0xBC → valueAs kind id b ≡ storedValue id b
+  unfolding valueAs
+  by-id kind h = simp (le-ltb 0xBC id h)
+
+  pub by-kind : (kind : ℕ) → 0xBC < id → valueAs kind id b ≡ cond (eqb kind 1 && isUtf16 b) (value 6 0 0)
       (cond (eqb kind 2 && eqb (length b) 16) guidValue
       (cond (eqb kind 3 && eqb (length b) 8) (value 4 (u32 b 0) (u32 b 4))
       binaryValue))
   unfolding valueAs
-  by-kind kind = simp (lt-ltb 0xBC id h, stored-bytes)
-
-pub by-id : (kind id : ℕ) (b : List ℕ) → id ≤ 0xBC → valueAs kind id b ≡ storedValue id b
-unfolding valueAs
-by-id kind id b h = simp (le-ltb 0xBC id h)
+  by-kind kind h = simp (lt-ltb 0xBC id h, sym (stored-bytes h))

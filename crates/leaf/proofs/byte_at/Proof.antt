@@ -1,4 +1,5 @@
 use mathlib.Core.Path.{sym}
+use native.Mathlib.Omega.{arith}
 use borrow.Author.Needs.{needs}
 use Rattle.leaf.proofs.Past.{no-byte}
 use Rattle.leaf.proofs.byte_at.Statement.{statement}
@@ -11,7 +12,7 @@ returns : tie.Need-returns
 returns c = search needs
 
 returns-2 : tie.Need-returns-2
-returns-2 c = sym (no-byte (c .before .args .s .now) (c .before .args .at) (c .if1 .left))
+returns-2 c = sym (no-byte (c .before .args .s .now) (c .before .args .at) (omega arith))
 
 pub byte-at-spec : {M : Type 1} → statement M
 byte-at-spec = tie.close (tie.spec shared-slice-read-result returns returns-2)

@@ -1,7 +1,9 @@
-use mathlib.Core.Path.{_∙_}
-use borrow.Author.Tests.{eq-eqb, ne-eqb}
+use mathlib.Core.Path.{ap₂, _∙_}
+use Prim.Native.Nat.{ℕ}
+use native.Mathlib.Omega.{arith}
 use borrow.Author.Needs.{needs}
-use Rattle.leaf.specs.Parts.{doubleOrBinary}
+use Rattle.rules.specs.Value.{value}
+use Rattle.leaf.proofs.Values.{a-double, no-double}
 use Rattle.leaf.proofs.double_value.Statement.{statement}
 use Rattle.leaf.proofs.double_value.Tie as tie
 
@@ -18,12 +20,13 @@ valued-requires-2 : tie.Need-valued-requires-2
 valued-requires-2 c κs = search needs
 
 returns : tie.Need-returns
-unfolding doubleOrBinary
-returns c = c .valued .ensures ∙ simp (c .before .before .u32-at .ensures, c .before .u32-at2 .ensures, eq-eqb _ _ (c .before .before .before .if1 .taken))
+returns c =
+    c .valued .ensures
+    ∙ ap₂ (λ (l h : ℕ). value 4 l h) (c .before .before .u32-at .ensures) (c .before .u32-at2 .ensures)
+    ∙ a-double (c .before .before .before .before .before .args .bytes .now) (omega arith)
 
 returns-2 : tie.Need-returns-2
-unfolding doubleOrBinary
-returns-2 c = c .valued2 .ensures ∙ simp (ne-eqb _ _ (c .before .if1 .left))
+returns-2 c = c .valued2 .ensures ∙ no-double (c .before .before .before .args .bytes .now) (λ e. omega arith)
 
 pub double-value-spec : {M : Type 1} → statement M
 double-value-spec =

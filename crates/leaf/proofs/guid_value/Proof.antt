@@ -1,7 +1,7 @@
 use mathlib.Core.Path.{_∙_}
-use borrow.Author.Tests.{eq-eqb, ne-eqb}
+use native.Mathlib.Omega.{arith}
 use borrow.Author.Needs.{needs}
-use Rattle.leaf.specs.Parts.{guidOrBinary}
+use Rattle.leaf.proofs.Values.{a-guid, no-guid}
 use Rattle.leaf.proofs.guid_value.Statement.{statement}
 use Rattle.leaf.proofs.guid_value.Tie as tie
 
@@ -12,12 +12,10 @@ valued-requires-2 : tie.Need-valued-requires-2
 valued-requires-2 c κs = search needs
 
 returns : tie.Need-returns
-unfolding guidOrBinary
-returns c = c .valued .ensures ∙ simp (eq-eqb _ _ (c .before .if1 .taken))
+returns c = c .valued .ensures ∙ a-guid (c .before .before .before .args .bytes .now) (omega arith)
 
 returns-2 : tie.Need-returns-2
-unfolding guidOrBinary
-returns-2 c = c .valued2 .ensures ∙ simp (ne-eqb _ _ (c .before .if1 .left))
+returns-2 c = c .valued2 .ensures ∙ no-guid (c .before .before .before .args .bytes .now) (λ e. omega arith)
 
 pub guid-value-spec : {M : Type 1} → statement M
 guid-value-spec = tie.close (tie.spec valued-requires valued-requires-2 returns returns-2)

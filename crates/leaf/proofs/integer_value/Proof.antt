@@ -1,10 +1,12 @@
 use mathlib.Core.Path.{ap, _∙_}
 use native.Mathlib.Omega.{arith}
-use borrow.Author.Tests.{eq-eqb, ne-eqb}
 use borrow.Author.Needs.{needs}
+use lib.IntN.{pos}
 use mir.Syntax.{w32}
 use mir.Facts.{toZ-pos, toZ-ofZ}
-use Rattle.rules.specs.Value.{signed, integerValue}
+use Rattle.rules.specs.Value.{signed}
+use Rattle.leaf.specs.Int.{intOf}
+use Rattle.leaf.proofs.Values.{one-byte, two-bytes, four-bytes, no-integer}
 use Rattle.leaf.specs.declared.Int.the-variants.{Of}
 use Rattle.leaf.proofs.integer_value.Statement.{statement}
 use Rattle.leaf.proofs.integer_value.Tie as tie
@@ -16,8 +18,9 @@ cast-t5 : tie.Need-cast-t5
 cast-t5 c = search needs
 
 returns : tie.Need-returns
-unfolding integerValue
-returns c = ap Of (toZ-pos w32 {n = c .byte-at .result} (omega arith)) ∙ simp (c .byte-at .ensures, eq-eqb _ _ (c .before .if1 .taken))
+returns c =
+    ap Of (toZ-pos w32 {n = c .byte-at .result} (omega arith) ∙ ap pos (c .byte-at .ensures))
+    ∙ ap intOf (one-byte (c .before .before .before .args .bytes .now) (omega arith))
 
 u16-at-requires : tie.Need-u16-at-requires
 u16-at-requires c κs = search needs
@@ -26,8 +29,9 @@ signed16-requires : tie.Need-signed16-requires
 signed16-requires c κs = search needs
 
 returns-2 : tie.Need-returns-2
-unfolding integerValue
-returns-2 c = ap Of (toZ-ofZ {w = w32} (record { sfits = c .signed16 .ok }) ∙ c .signed16 .ensures ∙ ap (signed 0x8000) (c .before .u16-at .ensures)) ∙ simp (ne-eqb _ _ (c .before .before .before .if1 .left), eq-eqb _ _ (c .before .before .if2 .taken))
+returns-2 c =
+    ap Of (toZ-ofZ {w = w32} (record { sfits = c .signed16 .ok }) ∙ c .signed16 .ensures ∙ ap (signed 0x8000) (c .before .u16-at .ensures))
+    ∙ ap intOf (two-bytes (c .before .before .before .before .before .args .bytes .now) (omega arith))
 
 u32-at-requires : tie.Need-u32-at-requires
 u32-at-requires c κs = search needs
@@ -36,12 +40,12 @@ signed32-requires : tie.Need-signed32-requires
 signed32-requires c κs = search needs
 
 returns-3 : tie.Need-returns-3
-unfolding integerValue
-returns-3 c = ap Of (toZ-ofZ {w = w32} (record { sfits = c .signed32 .ok }) ∙ c .signed32 .ensures ∙ ap (signed 0x80000000) (c .before .u32-at .ensures)) ∙ simp (ne-eqb _ _ (c .before .before .before .before .if1 .left), ne-eqb _ _ (c .before .before .before .if2 .left), eq-eqb _ _ (c .before .before .if3 .taken))
+returns-3 c =
+    ap Of (toZ-ofZ {w = w32} (record { sfits = c .signed32 .ok }) ∙ c .signed32 .ensures ∙ ap (signed 0x80000000) (c .before .u32-at .ensures))
+    ∙ ap intOf (four-bytes (c .before .before .before .before .before .before .args .bytes .now) (omega arith))
 
 returns-4 : tie.Need-returns-4
-unfolding integerValue
-returns-4 c = simp (ne-eqb _ _ (c .before .before .if1 .left), ne-eqb _ _ (c .before .if2 .left), ne-eqb _ _ (c .if3 .left))
+returns-4 c = ap intOf (no-integer (c .before .before .before .before .args .bytes .now) (λ e. omega arith) (λ e. omega arith) (λ e. omega arith))
 
 pub integer-value-spec : {M : Type 1} → statement M
 integer-value-spec =

@@ -59,13 +59,13 @@ returns-2 : tie.Need-returns-2 Inv-loop μ-loop
 unfolding isUtf16
 returns-2 c =
     let l = c .before .before in
-    sym (l .loop .inv .1 ∙ left-over (c .before .before .before .before .args .bytes .now) (l .loop .i) (l .loop .pending) (omega arith) (omega arith) (c .if2 .taken))
+    sym (l .loop .inv .1 ∙ left-over (c .before .before .before .before .args .bytes .now) (l .loop .i) (l .loop .pending) (omega arith) (omega arith) (omega arith))
 
 returns-3 : tie.Need-returns-3 Inv-loop μ-loop
 unfolding isUtf16
 returns-3 c =
     let l = c .before .before in
-    sym (l .loop .inv .1 ∙ all-read (c .before .before .before .before .args .bytes .now) (l .loop .i) (l .loop .pending) (omega arith) (omega arith) (c .if2 .left))
+    sym (l .loop .inv .1 ∙ all-read (c .before .before .before .before .args .bytes .now) (l .loop .i) (l .loop .pending) (omega arith) (omega arith) (omega arith))
 
 pub is-utf16-spec : {M : Type 1} → statement M
 is-utf16-spec =

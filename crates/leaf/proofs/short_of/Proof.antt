@@ -1,4 +1,5 @@
 use mathlib.Core.Path.{_≡_, ap, _∙_}
+use native.Mathlib.Omega.{arith}
 use lib.IntN.{ℤ}
 use mir.Syntax.{w16, w32}
 use mir.Val.{SFits, toZ, ofZ}
@@ -17,13 +18,13 @@ y-is : (c : tie.Start) → y c ≡ c .args .v
 y-is c = toZ-ofZ {w = w32} (c .fits .v)
 
 small : (c : tie.Else2) → SFits w16 (y (c .before .before))
-small c = record { sfits = within (y (c .before .before)) (c .before .if1 .left) (c .if2 .left) }
+small c = record { sfits = within (y (c .before .before)) (c .before .if1 .left) (c .if2 .left) (omega arith) (omega arith) }
 
 returns : tie.Need-returns
-returns c = too-low (y (c .before)) (c .if1 .taken) ∙ ap shortOf (y-is (c .before))
+returns c = too-low (y (c .before)) (c .if1 .taken) (omega arith) ∙ ap shortOf (y-is (c .before))
 
 returns-2 : tie.Need-returns-2
-returns-2 c = too-high (y (c .before .before)) (c .if2 .taken) ∙ ap shortOf (y-is (c .before .before))
+returns-2 c = too-high (y (c .before .before)) (c .if2 .taken) (omega arith) ∙ ap shortOf (y-is (c .before .before))
 
 cast-t3 : tie.Need-cast-t3
 cast-t3 c = small c

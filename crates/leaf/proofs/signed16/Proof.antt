@@ -18,10 +18,10 @@ sub-result-2 : tie.Need-sub-result-2
 sub-result-2 c = flip-fits (65535 - c .before .args .n) (omega arith)
 
 returns : tie.Need-returns
-returns c = low-half 32768 (c .before .args .n) (c .if1 .taken) (omega arith)
+returns c = low-half 32768 (c .before .args .n) (omega arith) (omega arith)
 
 returns-2 : tie.Need-returns-2
-returns-2 c = high-half 32768 65535 (c .before .args .n) (c .if1 .left) (omega arith) (omega arith)
+returns-2 c = high-half 32768 65535 (c .before .args .n) (omega arith) (omega arith) (omega arith)
 
 pub signed16-spec : {M : Type 1} → statement M
 signed16-spec =

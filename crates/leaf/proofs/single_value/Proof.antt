@@ -1,11 +1,11 @@
 use mathlib.Core.Path.{ap, _∙_}
 use Prim.Native.Nat.{ℕ}
-use borrow.Author.Tests.{eq-eqb, ne-eqb}
+use native.Mathlib.Omega.{arith}
 use borrow.Author.Needs.{needs}
 use Rattle.rules.specs.Value.{value, widened}
+use Rattle.leaf.proofs.Values.{a-single, no-single}
 use Rattle.leaf.specs.Wide.{wordsOf}
 use Rattle.leaf.specs.declared.Wide.{Wide}
-use Rattle.leaf.specs.Parts.{singleOrBinary}
 use Rattle.leaf.proofs.single_value.Statement.{statement}
 use Rattle.leaf.proofs.single_value.Tie as tie
 
@@ -22,15 +22,13 @@ valued-requires-2 : tie.Need-valued-requires-2
 valued-requires-2 c κs = search needs
 
 returns : tie.Need-returns
-unfolding singleOrBinary
 returns c =
     c .valued .ensures
     ∙ ap (λ (w : Wide). value 4 (w .low) (w .high)) (c .before .widen .ensures .0 ∙ ap (λ (n : ℕ). wordsOf (widened n)) (c .before .before .u32-at .ensures))
-    ∙ simp (eq-eqb _ _ (c .before .before .before .if1 .taken))
+    ∙ a-single (c .before .before .before .before .before .args .bytes .now) (omega arith)
 
 returns-2 : tie.Need-returns-2
-unfolding singleOrBinary
-returns-2 c = c .valued2 .ensures ∙ simp (ne-eqb _ _ (c .before .if1 .left))
+returns-2 c = c .valued2 .ensures ∙ no-single (c .before .before .before .args .bytes .now) (λ e. omega arith)
 
 pub single-value-spec : {M : Type 1} → statement M
 single-value-spec =

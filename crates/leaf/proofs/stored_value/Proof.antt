@@ -1,10 +1,11 @@
 use mathlib.Core.Path.{ap, _∙_}
 use Prim.Native.Nat.{ℕ}
-use borrow.Author.Tests.{le-leb, lt-leb}
+use native.Mathlib.Omega.{arith}
 use borrow.Author.Needs.{needs}
 use mir.Syntax.{w32}
 use mir.Facts.{toZ-ofZ}
-use Rattle.rules.specs.Value.{value, signed, storedValue, word32}
+use Rattle.rules.specs.Value.{value, signed, word32}
+use Rattle.leaf.proofs.Values.{stored-flag, stored-byte, stored-short, stored-long, stored-bytes}
 use Rattle.leaf.proofs.stored_value.Statement.{statement}
 use Rattle.leaf.proofs.stored_value.Tie as tie
 
@@ -12,8 +13,7 @@ valued-requires : tie.Need-valued-requires
 valued-requires c κs = search needs
 
 returns : tie.Need-returns
-unfolding storedValue
-returns c = c .valued .ensures ∙ simp (le-leb _ _ (c .before .if1 .taken))
+returns c = let a = c .before .before .before .args in c .valued .ensures ∙ stored-flag (a .id) (a .bytes .now) (omega arith)
 
 byte-at-requires : tie.Need-byte-at-requires
 byte-at-requires c κs = search needs
@@ -25,8 +25,10 @@ valued-requires-2 : tie.Need-valued-requires-2
 valued-requires-2 c κs = search needs
 
 returns-2 : tie.Need-returns-2
-unfolding storedValue word32
-returns-2 c = c .valued2 .ensures ∙ simp (c .before .byte-at .ensures, lt-leb _ _ (c .before .before .before .if1 .left), le-leb _ _ (c .before .before .if2 .taken))
+unfolding word32
+returns-2 c =
+    let a = c .before .before .before .before .before .args in
+    c .valued2 .ensures ∙ ap (λ (n : ℕ). value 2 n 0) (c .before .byte-at .ensures) ∙ stored-byte (a .id) (a .bytes .now) (omega arith) (omega arith)
 
 u16-at-requires : tie.Need-u16-at-requires
 u16-at-requires c κs = search needs
@@ -41,11 +43,11 @@ valued-requires-3 : tie.Need-valued-requires-3
 valued-requires-3 c κs = search needs
 
 returns-3 : tie.Need-returns-3
-unfolding storedValue
 returns-3 c =
+    let a = c .before .before .before .before .before .before .before .before .args in
     c .valued3 .ensures
     ∙ ap (λ (n : ℕ). value 2 n 0) (c .before .word-of .ensures ∙ ap word32 (toZ-ofZ {w = w32} (record { sfits = c .before .before .signed16 .ok }) ∙ c .before .before .signed16 .ensures ∙ ap (signed 0x8000) (c .before .before .before .u16-at .ensures)))
-    ∙ simp (lt-leb _ _ (c .before .before .before .before .before .before .if1 .left), lt-leb _ _ (c .before .before .before .before .before .if2 .left), le-leb _ _ (c .before .before .before .before .if3 .taken))
+    ∙ stored-short (a .id) (a .bytes .now) (omega arith) (omega arith)
 
 u32-at-requires : tie.Need-u32-at-requires
 u32-at-requires c κs = search needs
@@ -60,18 +62,17 @@ valued-requires-4 : tie.Need-valued-requires-4
 valued-requires-4 c κs = search needs
 
 returns-4 : tie.Need-returns-4
-unfolding storedValue
 returns-4 c =
+    let a = c .before .before .before .before .before .before .before .before .before .args in
     c .valued4 .ensures
     ∙ ap (λ (n : ℕ). value 3 n 0) (c .before .word-of2 .ensures ∙ ap word32 (toZ-ofZ {w = w32} (record { sfits = c .before .before .signed32 .ok }) ∙ c .before .before .signed32 .ensures ∙ ap (signed 0x80000000) (c .before .before .before .u32-at .ensures)))
-    ∙ simp (lt-leb _ _ (c .before .before .before .before .before .before .before .if1 .left), lt-leb _ _ (c .before .before .before .before .before .before .if2 .left), lt-leb _ _ (c .before .before .before .before .before .if3 .left), le-leb _ _ (c .before .before .before .before .if4 .taken))
+    ∙ stored-long (a .id) (a .bytes .now) (omega arith) (omega arith)
 
 valued-requires-5 : tie.Need-valued-requires-5
 valued-requires-5 c κs = search needs
 
 returns-5 : tie.Need-returns-5
-unfolding storedValue
-returns-5 c = c .valued5 .ensures ∙ simp (lt-leb _ _ (c .before .before .before .before .if1 .left), lt-leb _ _ (c .before .before .before .if2 .left), lt-leb _ _ (c .before .before .if3 .left), lt-leb _ _ (c .before .if4 .left))
+returns-5 c = let a = c .before .before .before .before .before .before .args in c .valued5 .ensures ∙ stored-bytes (a .id) (a .bytes .now) (omega arith)
 
 pub stored-value-spec : {M : Type 1} → statement M
 stored-value-spec =

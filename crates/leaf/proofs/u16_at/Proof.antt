@@ -1,4 +1,5 @@
 use mathlib.Core.Path.{sym}
+use native.Mathlib.Omega.{arith}
 use borrow.Author.Needs.{needs}
 use Rattle.rules.specs.Bytes.{u16}
 use Rattle.leaf.proofs.Past.{no-u16}
@@ -22,7 +23,7 @@ unfolding u16
 returns c = search needs
 
 returns-2 : tie.Need-returns-2
-returns-2 c = sym (no-u16 (c .before .before .args .s .now) (c .before .before .args .at) (c .if1 .left))
+returns-2 c = sym (no-u16 (c .before .before .args .s .now) (c .before .before .args .at) (omega arith))
 
 pub u16-at-spec : {M : Type 1} → statement M
 u16-at-spec =

@@ -1,5 +1,6 @@
 use mathlib.Core.Path.{_≡_, sym, ap, _∙_}
 use Prim.Native.Nat.{ℕ}
+use native.Mathlib.Omega.{arith}
 use borrow.Author.Tests.{ne-eqb}
 use borrow.Author.Needs.{needs}
 use Rattle.rules.specs.Value.{value, valueAs}
@@ -16,7 +17,7 @@ stored-value-requires : tie.Need-stored-value-requires
 stored-value-requires c κs = search needs
 
 returns : tie.Need-returns
-returns c = let a = c .before .before .before .args in c .stored-value .ensures ∙ sym (by-id (a .kind) (a .id) (a .bytes .now) (c .before .if1 .taken))
+returns c = let a = c .before .before .before .args in c .stored-value .ensures ∙ sym (by-id (a .id) (a .bytes .now) (a .kind) (omega arith))
 
 text-or-requires : tie.Need-text-or-requires
 text-or-requires c κs = search needs
@@ -31,22 +32,22 @@ valued-requires : tie.Need-valued-requires
 valued-requires c κs = search needs
 
 returns-2 : tie.Need-returns-2
-returns-2 c = let a = c .before .before .before .before .args in c .text-or .ensures ∙ sym (kinded (c .before .before .before .before) (c .before .match .keys1) ∙ by-kind (a .id) (a .bytes .now) (c .before .before .if1 .left) 1)
+returns-2 c = let a = c .before .before .before .before .args in c .text-or .ensures ∙ sym (kinded (c .before .before .before .before) (c .before .match .keys1) ∙ by-kind (a .id) (a .bytes .now) _ (omega arith))
 
 returns-3 : tie.Need-returns-3
 unfolding guidOrBinary
-returns-3 c = let a = c .before .before .before .before .args in c .guid-value .ensures ∙ sym (kinded (c .before .before .before .before) (c .before .match .keys2) ∙ by-kind (a .id) (a .bytes .now) (c .before .before .if1 .left) 2)
+returns-3 c = let a = c .before .before .before .before .args in c .guid-value .ensures ∙ sym (kinded (c .before .before .before .before) (c .before .match .keys2) ∙ by-kind (a .id) (a .bytes .now) _ (omega arith))
 
 returns-4 : tie.Need-returns-4
 unfolding doubleOrBinary
-returns-4 c = let a = c .before .before .before .before .args in c .double-value .ensures ∙ sym (kinded (c .before .before .before .before) (c .before .match .keys3) ∙ by-kind (a .id) (a .bytes .now) (c .before .before .if1 .left) 3)
+returns-4 c = let a = c .before .before .before .before .args in c .double-value .ensures ∙ sym (kinded (c .before .before .before .before) (c .before .match .keys3) ∙ by-kind (a .id) (a .bytes .now) _ (omega arith))
 
 returns-5 : tie.Need-returns-5
 returns-5 c =
     let a = c .before .before .before .before .args in
     let n = c .before .match .rest in
     c .valued .ensures
-    ∙ sym (by-kind (a .id) (a .bytes .now) (c .before .before .if1 .left) (a .kind) ∙ simp (ne-eqb (a .kind) 1 (n .0 .0 .1), ne-eqb (a .kind) 2 (n .0 .1), ne-eqb (a .kind) 3 (n .1)))
+    ∙ sym (by-kind (a .id) (a .bytes .now) (a .kind) (omega arith) ∙ simp (ne-eqb (a .kind) 1 (n .0 .0 .1), ne-eqb (a .kind) 2 (n .0 .1), ne-eqb (a .kind) 3 (n .1)))
 
 pub value-as-spec : {M : Type 1} → statement M
 value-as-spec =

@@ -1,4 +1,5 @@
 use mathlib.Core.Path.{_∙_}
+use native.Mathlib.Omega.{arith}
 use borrow.Author.Needs.{needs}
 use Rattle.leaf.proofs.Widening.{not-nan-bits, not-nan, loses-nothing, number-widened, nan-widened}
 use Rattle.leaf.proofs.widen_bits.Statement.{statement}
@@ -8,19 +9,19 @@ widen-nan-requires : tie.Need-widen-nan-requires
 widen-nan-requires c κs = search needs
 
 float-from-bits-x : tie.Need-float-from-bits-x
-float-from-bits-x c = not-nan-bits (c .before .args .low) (c .if1 .left)
+float-from-bits-x c = not-nan-bits (c .before .args .low) (omega arith)
 
 float-to-float-result : tie.Need-float-to-float-result
-float-to-float-result c = loses-nothing (c .before .before .args .low) (c .before .if1 .left)
+float-to-float-result c = loses-nothing (c .before .before .args .low) (omega arith)
 
 float-to-bits-result : tie.Need-float-to-bits-result
-float-to-bits-result c = not-nan (c .before .before .args .low) (c .before .if1 .left)
+float-to-bits-result c = not-nan (c .before .before .args .low) (omega arith)
 
 returns : tie.Need-returns
-returns c = c .widen-nan .ensures ∙ nan-widened (c .before .before .args .low) (c .before .if1 .taken)
+returns c = c .widen-nan .ensures ∙ nan-widened (c .before .before .args .low) (omega arith)
 
 returns-2 : tie.Need-returns-2
-returns-2 c = number-widened (c .before .before .args .low) (c .before .if1 .left)
+returns-2 c = number-widened (c .before .before .args .low) (omega arith)
 
 pub widen-bits-spec : {M : Type 1} → statement M
 widen-bits-spec =

@@ -1,7 +1,8 @@
-use mathlib.Core.Path.{_∙_}
-use borrow.Author.Tests.{eq-eqb, ne-eqb}
+use mathlib.Core.Path.{ap, _∙_}
+use native.Mathlib.Omega.{arith}
 use borrow.Author.Needs.{needs}
-use Rattle.rules.specs.Value.{yesNoValue}
+use Rattle.rules.specs.Value.{boolValue}
+use Rattle.leaf.proofs.Values.{yes-empty, yes-byte, yes-longer}
 use Rattle.leaf.proofs.yes_no_value.Statement.{statement}
 use Rattle.leaf.proofs.yes_no_value.Tie as tie
 
@@ -9,8 +10,7 @@ valued-requires : tie.Need-valued-requires
 valued-requires c κs = search needs
 
 returns : tie.Need-returns
-unfolding yesNoValue
-returns c = c .valued .ensures ∙ simp (eq-eqb _ _ (c .before .if1 .taken))
+returns c = c .valued .ensures ∙ yes-empty (c .before .before .before .args .bytes .now) (omega arith)
 
 byte-at-requires : tie.Need-byte-at-requires
 byte-at-requires c κs = search needs
@@ -19,15 +19,13 @@ bool-value-requires : tie.Need-bool-value-requires
 bool-value-requires c κs = search needs
 
 returns-2 : tie.Need-returns-2
-unfolding yesNoValue
-returns-2 c = c .bool-value .ensures ∙ simp (c .before .byte-at .ensures, ne-eqb _ _ (c .before .before .before .if1 .left), eq-eqb _ _ (c .before .before .if2 .taken))
+returns-2 c = c .bool-value .ensures ∙ ap boolValue (c .before .byte-at .ensures) ∙ yes-byte (c .before .before .before .before .before .args .bytes .now) (omega arith)
 
 long-value-requires : tie.Need-long-value-requires
 long-value-requires c κs = search needs
 
 returns-3 : tie.Need-returns-3
-unfolding yesNoValue
-returns-3 c = c .long-value .ensures ∙ simp (ne-eqb _ _ (c .before .before .if1 .left), ne-eqb _ _ (c .before .if2 .left))
+returns-3 c = c .long-value .ensures ∙ yes-longer (c .before .before .before .before .args .bytes .now) (λ e. omega arith) (λ e. omega arith)
 
 pub yes-no-value-spec : {M : Type 1} → statement M
 yes-no-value-spec =
