@@ -250,7 +250,8 @@ unfit =
     replicate 14 0 ++ prop 0x07 0x00 0x01 (1 ∷ []) 255 ++ (1 ∷ 1 ∷ []) ++ opened 0x98 ++ prop 0x14 0x00 0x0A (0x47 ∷ 0 ∷ []) 253
     ++ stored (0x14 ∷ 0 ∷ []) (0x0A ∷ 0 ∷ 1 ∷ 0 ∷ []) (1 ∷ 0 ∷ 0 ∷ 0 ∷ []) (1 ∷ []) none4
 
--- with one node and no more, count 0x0101; and a property of which all but the trailer is there
+-- with one node and no more, count 0x0101; a property of which all but the trailer is there; and a byte
+-- behind the nodes
 pub falls-to-scan :
     (exit table unfit (replicate 6 old) (replicate 12 old) ≡ record {
       answer = answer 0 1 2 1;
@@ -259,8 +260,9 @@ pub falls-to-scan :
     })
     × (exit table (take 61 unfit) (replicate 6 old) (replicate 12 old) .controls ≡ 0 ∷ 0 ∷ 55 ∷ 2 ∷ 1 ∷ 1 ∷ [])
     × (exit table (replicate 14 0 ++ stored (7 ∷ 0 ∷ []) (1 ∷ 0 ∷ 0 ∷ 0 ∷ []) none4 [] []) [] [] .answer ≡ answer 0 0 0 0)
+    × (exit table (replicate 14 0 ++ flag 254 ++ opened 0x98 ++ flag 253 ++ (0 ∷ [])) (replicate 6 old) (replicate 12 old) .answer ≡ answer 0 0 1 1)
 unfolding rules-open
-falls-to-scan = (refl, refl, refl)
+falls-to-scan = (refl, refl, refl, refl)
 
 -- ---- 5. the refusals of a Blob, in their order
 pub refusals :
