@@ -1,0 +1,4 @@
+pub mod NulLaws
+pub mod EntryLaws
+pub mod HeaderLaws
+pub mod ExitLaws

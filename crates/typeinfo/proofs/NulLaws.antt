@@ -1,0 +1,65 @@
+-- Names that a NUL or the end of the stream ends.
+use Prim.Native.Nat.{ℕ, suc, _+_, _-_, _≤_, _<_, min}
+use native.Mathlib.Omega.{arith}
+use native.Mathlib.Numerals.{add-one}
+use mathlib.Core.Path.{_≡_, refl, ap, _∙_}
+use mathlib.Core.Bool.{Bool, true, false, cond}
+use mathlib.Core.List.{List, [], _∷_}
+use lib.Dec.{eqb}
+use lib.ListN.{length, getD, drop, length-drop}
+use lib.Seq.{drop-cons}
+use borrow.Author.Tests.{eq-eqb, ne-eqb}
+use Rattle.rules.specs.TypeInfo.{beforeNul, nulTerminated}
+use Rattle.typeinfo.specs.Entries.{asNamed}
+use Rattle.typeinfo.specs.declared.Named.{Named}
+
+-- ---- the bytes before a NUL, one at a time
+pub nul-here : (s : List ℕ) (i : ℕ) → i < length s → getD s i 0 ≡ 0 → beforeNul (drop i s) ≡ 0
+unfolding beforeNul
+nul-here s i h e = rw (drop-cons s i 0 h, eq-eqb (getD s i 0) 0 e)
+
+pub nul-next : (s : List ℕ) (i : ℕ) → i < length s → (getD s i 0 ≡ 0 → ⊥) → beforeNul (drop i s) ≡ beforeNul (drop (i + 1) s) + 1
+unfolding beforeNul
+nul-next s i h e = rw (drop-cons s i 0 h, ne-eqb (getD s i 0) 0 e, add-one i)
+
+no-nul : (l : List ℕ) → length l ≡ 0 → beforeNul l ≡ 0
+unfolding beforeNul
+no-nul [] e = refl
+no-nul (b ∷ l) e = absurd (omega arith)
+
+pub nul-end : (s : List ℕ) (i : ℕ) → length s ≤ i → beforeNul (drop i s) ≡ 0
+nul-end s i h = no-nul (drop i s) (length-drop i s ∙ omega arith)
+
+-- ---- a name ends within the stream, and so does what is passed over for it
+within-by : (n m : ℕ) (b : Bool) → n ≤ m → cond b 0 (n + 1) ≤ suc m
+within-by n m true h = omega arith
+within-by n m false h = omega arith
+
+within : (l : List ℕ) → beforeNul l ≤ length l
+unfolding beforeNul
+within [] = omega arith
+within (b ∷ l) = within-by (beforeNul l) (length l) (eqb b 0) (within l)
+
+pub name-within : (s : List ℕ) (p : ℕ) → p ≤ length s → p + beforeNul (drop p s) ≤ length s
+name-within s p h = omega (arith, within (drop p s), length-drop p s)
+
+pub next-within : (s : List ℕ) (p : ℕ) → nulTerminated s p .next ≤ length s
+unfolding nulTerminated
+next-within s p = omega arith
+
+pub next-of : (s : List ℕ) (p : ℕ) (n : Named) → n ≡ asNamed (nulTerminated s p) → n .next ≤ length s
+next-of s p n e = rw e (next-within s p)
+
+-- ---- the name at p, where its bytes end at e
+named : (s : List ℕ) (p size next : ℕ) → size ≡ beforeNul (drop p s) → next ≡ min (p + beforeNul (drop p s) + 1) (length s)
+    → _≡_ {A = Named} (record { start = p; size = size; next = next }) (asNamed (nulTerminated s p))
+unfolding nulTerminated
+named s p size next a b = λ i. record { start = p; size = a i; next = b i }
+
+pub ended-by-nul : (s : List ℕ) (p e : ℕ) → e ≡ p + beforeNul (drop p s) → e < length s
+    → _≡_ {A = Named} (record { start = p; size = e - p; next = e + 1 }) (asNamed (nulTerminated s p))
+ended-by-nul s p e h k = named s p (e - p) (e + 1) (omega arith) (omega arith)
+
+pub ended-by-end : (s : List ℕ) (p e : ℕ) → e ≡ p + beforeNul (drop p s) → p ≤ length s → length s ≤ e
+    → _≡_ {A = Named} (record { start = p; size = e - p; next = e }) (asNamed (nulTerminated s p))
+ended-by-end s p e h k l = named s p (e - p) e (omega arith) (omega (arith, name-within s p k))

@@ -1,0 +1,66 @@
+-- `count_entries` counts the reported entries. Invariant: those found and those from `p` on are all of them.
+use Prim.Native.Nat.{_+_, _≤_}
+use native.Mathlib.Omega.{arith}
+use mathlib.Core.Path.{_≡_, ap}
+use lib.ListN.{length}
+use Rattle.typeinfo.specs.Entries.{reportedAt}
+use Rattle.typeinfo.proofs.EntryLaws.{none-left, none-asked, at-most-one, inside, counted-more}
+use Rattle.typeinfo.proofs.count_entries.Statement.{statement}
+use Rattle.typeinfo.proofs.count_entries.Tie as tie
+
+abbrev Inv-loop : tie.InvT-loop
+Inv-loop s count p₀ left₀ found₀ p left found =
+    (p ≤ length s) × (found + left ≤ count) × (found + length (reportedAt s p left) ≡ length (reportedAt s 32 count))
+
+abbrev μ-loop : tie.MeasureT-loop
+μ-loop s count p₀ left₀ found₀ p left found = left
+
+loop-holds : tie.Need-loop-holds Inv-loop μ-loop
+loop-holds c = omega arith
+
+sub-if1 : tie.Need-sub-if1 Inv-loop μ-loop
+sub-if1 c = omega arith
+
+returns : tie.Need-returns Inv-loop μ-loop
+returns c = omega (arith, ap length (none-left (c .before .before .before .before .args .s .now) (c .before .before .loop .p) (c .before .before .loop .left) (omega arith)))
+
+type-info-entry-requires : tie.Need-type-info-entry-requires Inv-loop μ-loop
+type-info-entry-requires c κs = omega arith
+
+counted-requires : tie.Need-counted-requires Inv-loop μ-loop
+counted-requires c κs = omega arith
+
+sub-left : tie.Need-sub-left Inv-loop μ-loop
+sub-left c = omega arith
+
+loop-less : tie.Need-loop-less Inv-loop μ-loop
+loop-less c = omega arith
+
+loop-again : tie.Need-loop-again Inv-loop μ-loop
+loop-again c =
+    let s = c .before .before .before .before .before .before .args .s .now in
+    let p = c .before .before .before .before .loop .p in
+    let left = c .before .before .before .before .loop .left in
+    let e = c .before .type-info-entry .result in
+    let is = c .before .type-info-entry .ensures in
+    let h : p + 8 ≤ length s = omega arith in
+    omega (arith, inside s p left e is h (omega arith), at-most-one (e .«type_code»), counted-more s p left e is h (omega arith))
+
+returns-2 : tie.Need-returns-2 Inv-loop μ-loop
+returns-2 c = omega (arith, ap length (none-asked (c .before .before .before .args .s .now) (c .before .loop .p) (c .before .loop .left) (omega arith)))
+
+pub count-entries-spec : {M : Type 1} → statement M
+count-entries-spec =
+    tie.close
+    (tie.spec
+    Inv-loop
+    μ-loop
+    loop-holds
+    sub-if1
+    returns
+    type-info-entry-requires
+    counted-requires
+    sub-left
+    loop-less
+    loop-again
+    returns-2)

@@ -1,0 +1,49 @@
+-- `put_reported` writes the entry's row where it is reported, and nothing where it isn't.
+use native.Mathlib.Omega.{arith}
+use mathlib.Core.Path.{_∙_}
+use borrow.Author.Needs.{needs}
+use Rattle.typeinfo.proofs.EntryLaws.{not-one, one, put-nothing, put-row}
+use Rattle.typeinfo.proofs.put_reported.Statement.{statement}
+use Rattle.typeinfo.proofs.put_reported.Tie as tie
+
+returns : tie.Need-returns
+returns c =
+    let e = c .before .before .before .args .e in
+    (omega (arith, not-one (e .«type_code») (omega arith)), put-nothing (c .before .before .before .args .rows .now) (c .before .before .before .args .at) e (omega arith))
+
+cast-t8 : tie.Need-cast-t8
+cast-t8 c = search needs
+
+cast-t9 : tie.Need-cast-t9
+cast-t9 c = search needs
+
+cast-t10 : tie.Need-cast-t10
+cast-t10 c = search needs
+
+put-info-requires : tie.Need-put-info-requires
+put-info-requires c κs = omega (arith, one (c .before .before .before .before .before .before .before .args .e .«type_code») (c .before .before .before .before .if1 .left))
+
+add-result : tie.Need-add-result
+add-result c = search needs
+
+same-length : tie.Need-same-length
+same-length c = search needs
+
+returns-2 : tie.Need-returns-2
+returns-2 c =
+    let e = c .before .before .before .before .before .before .before .before .before .before .args .e in
+    let reported = c .before .before .before .before .before .before .before .if1 .left in
+    (omega (arith, one (e .«type_code») reported), c .before .before .put-info .ensures ∙ put-row (c .before .before .before .before .before .before .before .before .before .before .args .rows .now) (c .before .before .before .before .before .before .before .before .before .before .args .at) e reported)
+
+pub put-reported-spec : {M : Type 1} → statement M
+put-reported-spec =
+    tie.close
+    (tie.spec
+    returns
+    cast-t8
+    cast-t9
+    cast-t10
+    put-info-requires
+    add-result
+    same-length
+    returns-2)

@@ -1,0 +1,49 @@
+-- `type_info_count` tries the refusals in the order 5, 1, 2, 3.
+use native.Mathlib.Omega.{arith}
+use mathlib.Core.Path.{ap, _∙_}
+use borrow.Author.Needs.{needs}
+use Rattle.typeinfo.proofs.HeaderLaws.{too-long, too-short, other-magic, too-many, as-many}
+use Rattle.typeinfo.specs.declared.Header.the-variants.{Entries}
+use Rattle.typeinfo.proofs.type_info_count.Statement.{statement}
+use Rattle.typeinfo.proofs.type_info_count.Tie as tie
+
+returns : tie.Need-returns
+returns c = too-long (c .before .before .args .s .now) (omega arith)
+
+returns-2 : tie.Need-returns-2
+returns-2 c = too-short (c .before .before .before .args .s .now) (omega arith) (omega arith)
+
+u32-at-requires : tie.Need-u32-at-requires
+u32-at-requires c κs = search needs
+
+returns-3 : tie.Need-returns-3
+returns-3 c = other-magic (c .before .before .before .before .before .args .s .now) (omega arith) (omega arith) (λ e. c .if3 .taken (c .before .u32-at .ensures ∙ e))
+
+u32-at-requires-2 : tie.Need-u32-at-requires-2
+u32-at-requires-2 c κs = search needs
+
+sub-most : tie.Need-sub-most
+sub-most c = search needs
+
+cast-if4 : tie.Need-cast-if4
+cast-if4 c = search needs
+
+returns-4 : tie.Need-returns-4
+returns-4 c = too-many (c .before .before .before .before .before .before .before .args .s .now) (omega arith) (omega arith) (omega arith) (omega arith)
+
+returns-5 : tie.Need-returns-5
+returns-5 c = ap Entries (c .before .u32-at2 .ensures) ∙ as-many (c .before .before .before .before .before .before .before .args .s .now) (omega arith) (omega arith) (omega arith) (omega arith)
+
+pub type-info-count-spec : {M : Type 1} → statement M
+type-info-count-spec =
+    tie.close
+    (tie.spec
+    returns
+    returns-2
+    u32-at-requires
+    returns-3
+    u32-at-requires-2
+    sub-most
+    cast-if4
+    returns-4
+    returns-5)

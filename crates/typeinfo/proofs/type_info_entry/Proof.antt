@@ -1,0 +1,50 @@
+-- `type_info_entry` gives the entry at `at`, and the place behind it.
+use native.Mathlib.Omega.{arith}
+use borrow.Author.Needs.{needs}
+use Rattle.typeinfo.proofs.NulLaws.{next-of}
+use Rattle.typeinfo.proofs.EntryLaws.{uses-first, uses-second}
+use Rattle.typeinfo.proofs.type_info_entry.Statement.{statement}
+use Rattle.typeinfo.proofs.type_info_entry.Tie as tie
+
+u16-at-requires : tie.Need-u16-at-requires
+u16-at-requires c κs = search needs
+
+add-u32-at : tie.Need-add-u32-at
+add-u32-at c = search needs
+
+u32-at-requires : tie.Need-u32-at-requires
+u32-at-requires c κs = search needs
+
+add-nul-terminated : tie.Need-add-nul-terminated
+add-nul-terminated c = search needs
+
+nul-terminated-requires : tie.Need-nul-terminated-requires
+nul-terminated-requires c κs = search needs
+
+nul-terminated-requires-2 : tie.Need-nul-terminated-requires-2
+nul-terminated-requires-2 c κs = next-of _ _ _ (c .nul-terminated .ensures)
+
+past-tail-requires : tie.Need-past-tail-requires
+past-tail-requires c κs = next-of _ _ _ (c .nul-terminated2 .ensures)
+
+returns : tie.Need-returns
+returns c =
+    uses-first _ _ _ _ _ _ _ (c .before .before .before .before .before .before .u16-at .ensures) (c .before .before .before .before .before .u32-at .ensures) (c .before .before .before .before .nul-terminated .ensures) (c .before .before .before .nul-terminated2 .ensures) (c .before .before .past-tail .ensures) (omega arith)
+
+returns-2 : tie.Need-returns-2
+returns-2 c =
+    uses-second _ _ _ _ _ _ _ (c .before .before .before .before .before .before .u16-at .ensures) (c .before .before .before .before .before .u32-at .ensures) (c .before .before .before .before .nul-terminated .ensures) (c .before .before .before .nul-terminated2 .ensures) (c .before .before .past-tail .ensures) (c .if1 .left)
+
+pub type-info-entry-spec : {M : Type 1} → statement M
+type-info-entry-spec =
+    tie.close
+    (tie.spec
+    u16-at-requires
+    add-u32-at
+    u32-at-requires
+    add-nul-terminated
+    nul-terminated-requires
+    nul-terminated-requires-2
+    past-tail-requires
+    returns
+    returns-2)

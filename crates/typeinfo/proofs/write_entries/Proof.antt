@@ -1,0 +1,91 @@
+-- `write_entries` writes a row for each reported entry. Invariant: the rows from `p` on, put from row `at` on, are all that is left to write.
+use Prim.Native.Nat.{_+_, _*_, _-_, _≤_, _<_}
+use native.Mathlib.Omega.{arith}
+use mathlib.Core.Path.{_≡_, refl, sym, ap₂, _∙_}
+use mathlib.Core.List.{map}
+use lib.ListN.{length}
+use Rattle.rules.specs.Rows.{typeInfoWidth}
+use Rattle.rules.specs.TypeInfo.{typeInfoRow}
+use Rattle.rows.specs.Put.{put}
+use Rattle.typeinfo.specs.Entries.{reportedAt}
+use Rattle.typeinfo.proofs.EntryLaws.{none-left, none-asked, put-end, inside, counted-more, put-more, row-room}
+use Rattle.typeinfo.proofs.write_entries.Statement.{statement}
+use Rattle.typeinfo.proofs.write_entries.Tie as tie
+
+abbrev Inv-loop : tie.InvT-loop
+Inv-loop s count rows₀ p₀ left₀ at₀ rows p left at =
+    (p ≤ length s) × (length rows ≡ length rows₀) × ((at + length (reportedAt s p left)) * typeInfoWidth ≤ length rows)
+    × (put typeInfoWidth rows at (map typeInfoRow (reportedAt s p left)) ≡ put typeInfoWidth rows₀ 0 (map typeInfoRow (reportedAt s 32 count)))
+
+abbrev μ-loop : tie.MeasureT-loop
+μ-loop s count rows₀ p₀ left₀ at₀ rows p left at = left
+
+loop-holds : tie.Need-loop-holds Inv-loop μ-loop
+loop-holds c = (c .before .before .pre .header, refl, omega arith, refl)
+
+sub-if1 : tie.Need-sub-if1 Inv-loop μ-loop
+sub-if1 c = omega arith
+
+same-length : tie.Need-same-length Inv-loop μ-loop
+same-length c = c .before .before .loop .inv .1
+
+returns : tie.Need-returns Inv-loop μ-loop
+returns c =
+    let at-p = c .before .before .loop in
+    put-end (c .before .before .before .before .before .args .s .now) (at-p .p) (at-p .left) (at-p .rows) (at-p .at) (none-left (c .before .before .before .before .before .args .s .now) (at-p .p) (at-p .left) (omega arith)) ∙ at-p .inv .3
+
+type-info-entry-requires : tie.Need-type-info-entry-requires Inv-loop μ-loop
+type-info-entry-requires c κs = omega arith
+
+put-reported-requires : tie.Need-put-reported-requires Inv-loop μ-loop
+put-reported-requires c κs =
+    let at-p = c .before .before .before .before .loop in
+    let read = c .before .type-info-entry in
+    row-room (c .before .before .before .before .before .before .before .args .s .now) (at-p .p) (at-p .left) (read .result) (read .ensures) (omega arith) (omega arith) (at-p .rows) (at-p .at) (c .before .before .before .before .before .before .before .pre .not-long) (at-p .inv .2)
+
+sub-left : tie.Need-sub-left Inv-loop μ-loop
+sub-left c = omega arith
+
+loop-less : tie.Need-loop-less Inv-loop μ-loop
+loop-less c = omega arith
+
+loop-again : tie.Need-loop-again Inv-loop μ-loop
+loop-again c =
+    let s = c .before .before .before .before .before .before .before .before .before .before .args .s .now in
+    let at-p = c .before .before .before .before .before .before .before .loop in
+    let p = at-p .p in
+    let left = at-p .left in
+    let e = c .before .before .before .before .type-info-entry .result in
+    let is = c .before .before .before .before .type-info-entry .ensures in
+    let call = c .before .before .put-reported in
+    let h : p + 8 ≤ length s = omega arith in
+    let k : 0 < left = omega arith in
+    (inside s p left e is h k, call .kept .0 ∙ at-p .inv .1, omega (arith, call .ensures .0, call .kept .0, counted-more s p left e is h k),
+    ap₂ (λ l a. put typeInfoWidth l a (map typeInfoRow (reportedAt s (e .next) (left - 1)))) (call .ensures .1) (call .ensures .0)
+    ∙ sym (put-more s p left e is h k (at-p .rows) (at-p .at)) ∙ at-p .inv .3)
+
+same-length-2 : tie.Need-same-length-2 Inv-loop μ-loop
+same-length-2 c = c .before .loop .inv .1
+
+returns-2 : tie.Need-returns-2 Inv-loop μ-loop
+returns-2 c =
+    let at-p = c .before .loop in
+    put-end (c .before .before .before .before .args .s .now) (at-p .p) (at-p .left) (at-p .rows) (at-p .at) (none-asked (c .before .before .before .before .args .s .now) (at-p .p) (at-p .left) (omega arith)) ∙ at-p .inv .3
+
+pub write-entries-spec : {M : Type 1} → statement M
+write-entries-spec =
+    tie.close
+    (tie.spec
+    Inv-loop
+    μ-loop
+    loop-holds
+    sub-if1
+    same-length
+    returns
+    type-info-entry-requires
+    put-reported-requires
+    sub-left
+    loop-less
+    loop-again
+    same-length-2
+    returns-2)
