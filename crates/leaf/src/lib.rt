@@ -6,7 +6,7 @@ ghost use Prim.Native.Nat.{_+_, _*_};
 ghost use lib.Ieee.{binary32, binary64, ofBits};
 ghost use Rattle.rules.specs.Bytes.{byte, u16, u32};
 ghost use Rattle.rules.specs.Utf16.{isUtf16, isHigh, isLow};
-ghost use Rattle.rules.specs.Value.{value, signed, word32, integerValue, widened, widenedNan, textValue, longOr, shortOr, boolValue, binaryValue, yesNoValue, entryValue, storedValue, valueAs};
+ghost use Rattle.rules.specs.Value.{value, signed, word32, integerValue, widened, widenedNan, longOr, shortOr, boolValue, binaryValue, yesNoValue, entryValue, storedValue, valueAs};
 ghost use Rattle.leaf.specs.Int.{intOf, shortOf};
 ghost use Rattle.leaf.specs.Wide.{wordsOf, bitsOf};
 ghost use Rattle.leaf.specs.Parts.{singleOrBinary, doubleOrBinary, guidOrBinary};

@@ -23,10 +23,10 @@ loop-less : tie.Need-loop-less Inv-loop μ-loop
 loop-less c = omega arith
 
 loop-again : tie.Need-loop-again Inv-loop μ-loop
-loop-again c = let r = c .before .loop .rest in omega (arith, longer-label r (c .loop-test .taken))
+loop-again c = let r = c .before .loop .rest in omega (arith, longer-label r (omega arith))
 
 returns : tie.Need-returns Inv-loop μ-loop
-returns c = let r = c .before .loop .rest in omega (arith, short-label r (c .loop-test .left))
+returns c = let r = c .before .loop .rest in omega (arith, short-label r (omega arith))
 
 pub label-length-spec : {M : Type 1} → statement M
 label-length-spec =
