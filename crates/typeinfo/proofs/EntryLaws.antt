@@ -1,19 +1,18 @@
 -- Entries, one at a time: what the code reads of one, and the reported ones from it on.
-use Prim.Native.Nat.{ℕ, zero, suc, _+_, _*_, _-_, _%_, _≤_, _<_, _^_, min}
+use Prim.Native.Nat.{ℕ, zero, suc, _+_, _*_, _-_, _%_, _≤_, _<_, min}
 use native.Mathlib.Omega.{arith}
 use mathlib.Core.Path.{_≡_, refl, sym, ap, ap₂, _∙_}
 use mathlib.Core.Bool.{Bool, true, false, cond, not}
 use mathlib.Core.List.{List, [], _∷_, _++_, map}
 use lib.Bits.{bitAnd, and-mask}
-use lib.Dec.{leb, eqb}
+use lib.Dec.{eqb}
 use lib.ListN.{length}
 use borrow.Author.Tests.{le-leb, lt-leb, eq-eqb, ne-eqb}
 use Rattle.rules.specs.Lists.{keep}
 use Rattle.rules.specs.Bytes.{u16, u32}
 use Rattle.rules.specs.Answer.{longest}
 use Rattle.rules.specs.Rows.{typeInfoWidth}
-use Rattle.rules.specs.TypeInfo as info
-use Rattle.rules.specs.TypeInfo.{Info, used, firstName, secondName, nulTerminated, infoAt, nextInfo, infosAt, isReportedInfo, typeInfoRow}
+use Rattle.rules.specs.TypeInfo.{Info, firstName, secondName, nulTerminated, infoAt, nextInfo, infosAt, isReportedInfo, typeInfoRow}
 use Rattle.rules.proofs.ListLaws.{map-append}
 use Rattle.rules.proofs.RowsLaws.{Wide}
 use Rattle.rows.specs.Put.{put}

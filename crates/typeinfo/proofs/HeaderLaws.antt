@@ -7,7 +7,6 @@ use borrow.Author.Tests.{lt-ltb, le-ltb, eq-eqb, ne-eqb}
 use Rattle.rules.specs.Bytes.{u32}
 use Rattle.rules.specs.Answer.{tooShort, otherMagic, tooManyEntries, tooLong, longest}
 use Rattle.typeinfo.specs.Entries.{headerOf}
-use Rattle.typeinfo.specs.declared.Header.{Header}
 use Rattle.typeinfo.specs.declared.Header.the-variants.{Entries, Refused}
 
 module _ (s : List ℕ) where

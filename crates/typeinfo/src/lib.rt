@@ -3,7 +3,7 @@ use rows::InfoRow;
 use rules::Answer;
 ghost use mathlib.Core.Path.{_≡_};
 ghost use mathlib.Core.List.{map};
-ghost use Prim.Native.Nat.{_+_, _*_, _≤_, _<_, _^_};
+ghost use Prim.Native.Nat.{_+_, _≤_, _<_, _^_};
 ghost use lib.ListN.{length, drop};
 ghost use Rattle.rules.specs.Rows.{typeInfoWidth};
 ghost use Rattle.rules.specs.TypeInfo.{beforeNul, nulTerminated, infoAt, nextInfo, typeInfoRow, typeInfoExit};
@@ -118,12 +118,14 @@ fn type_info_count(s: &[u8]) -> Header
     if s.len() < 32 {
         return Header::Refused(1);
     }
-    if leaf::u32_at(s, 0) != 0xACCD_EAF7 {
+    let magic = leaf::u32_at(s, 0);
+    let count = leaf::u32_at(s, 12);
+    let asked = count as usize;
+    let most = (s.len() - 32) / 8;
+    if magic != 0xACCD_EAF7 {
         return Header::Refused(2);
     }
-    let count = leaf::u32_at(s, 12);
-    let most = (s.len() - 32) / 8;
-    if most < count as usize {
+    if most < asked {
         return Header::Refused(3);
     }
     Header::Entries(count)

@@ -16,23 +16,23 @@ returns-2 c = too-short (c .before .before .before .args .s .now) (omega arith) 
 u32-at-requires : tie.Need-u32-at-requires
 u32-at-requires c κs = search needs
 
-returns-3 : tie.Need-returns-3
-returns-3 c = other-magic (c .before .before .before .before .before .args .s .now) (omega arith) (omega arith) (λ e. c .if3 .taken (c .before .u32-at .ensures ∙ e))
-
 u32-at-requires-2 : tie.Need-u32-at-requires-2
 u32-at-requires-2 c κs = search needs
+
+cast-asked : tie.Need-cast-asked
+cast-asked c = search needs
 
 sub-most : tie.Need-sub-most
 sub-most c = search needs
 
-cast-if4 : tie.Need-cast-if4
-cast-if4 c = search needs
+returns-3 : tie.Need-returns-3
+returns-3 c = other-magic (c .before .before .before .before .before .before .args .s .now) (omega arith) (omega arith) (λ e. c .if3 .taken (c .before .before .u32-at .ensures ∙ e))
 
 returns-4 : tie.Need-returns-4
 returns-4 c = too-many (c .before .before .before .before .before .before .before .args .s .now) (omega arith) (omega arith) (omega arith) (omega arith)
 
 returns-5 : tie.Need-returns-5
-returns-5 c = ap Entries (c .before .u32-at2 .ensures) ∙ as-many (c .before .before .before .before .before .before .before .args .s .now) (omega arith) (omega arith) (omega arith) (omega arith)
+returns-5 c = ap Entries (c .before .before .u32-at2 .ensures) ∙ as-many (c .before .before .before .before .before .before .before .args .s .now) (omega arith) (omega arith) (omega arith) (omega arith)
 
 pub type-info-count-spec : {M : Type 1} → statement M
 type-info-count-spec =
@@ -41,9 +41,9 @@ type-info-count-spec =
     returns
     returns-2
     u32-at-requires
-    returns-3
     u32-at-requires-2
+    cast-asked
     sub-most
-    cast-if4
+    returns-3
     returns-4
     returns-5)

@@ -59,10 +59,13 @@ loop-again c =
     let is = c .before .before .before .before .type-info-entry .ensures in
     let call = c .before .before .put-reported in
     let h : p + 8 ≤ length s = omega arith in
-    let k : 0 < left = omega arith in
-    (inside s p left e is h k, call .kept .0 ∙ at-p .inv .1, omega (arith, call .ensures .0, call .kept .0, counted-more s p left e is h k),
-    ap₂ (λ l a. put typeInfoWidth l a (map typeInfoRow (reportedAt s (e .next) (left - 1)))) (call .ensures .1) (call .ensures .0)
-    ∙ sym (put-more s p left e is h k (at-p .rows) (at-p .at)) ∙ at-p .inv .3)
+    let k : 0 < left = omega arith in (
+      inside s p left e is h k,
+      call .kept .0 ∙ at-p .inv .1,
+      omega (arith, call .ensures .0, call .kept .0, counted-more s p left e is h k),
+      ap₂ (λ l a. put typeInfoWidth l a (map typeInfoRow (reportedAt s (e .next) (left - 1)))) (call .ensures .1) (call .ensures .0)
+          ∙ sym (put-more s p left e is h k (at-p .rows) (at-p .at)) ∙ at-p .inv .3,
+    )
 
 same-length-2 : tie.Need-same-length-2 Inv-loop μ-loop
 same-length-2 c = c .before .loop .inv .1
