@@ -1,5 +1,5 @@
 -- `count_entries` counts the reported entries. Invariant: those found and those from `p` on are all of them.
-use Prim.Native.Nat.{_+_, _≤_}
+use Prim.Native.Nat.{_+_, _≤_, _<_}
 use native.Mathlib.Omega.{arith}
 use mathlib.Core.Path.{_≡_, ap}
 use lib.ListN.{length}
@@ -22,7 +22,9 @@ sub-if1 : tie.Need-sub-if1 Inv-loop μ-loop
 sub-if1 c = omega arith
 
 returns : tie.Need-returns Inv-loop μ-loop
-returns c = omega (arith, ap length (none-left (c .before .before .before .before .args .s .now) (c .before .before .loop .p) (c .before .before .loop .left) (omega arith)))
+returns c =
+    let top = c .before .before in
+    omega (arith, ap length (none-left (top .before .before .args .s .now) (top .loop .p) (top .loop .left) (omega arith)))
 
 type-info-entry-requires : tie.Need-type-info-entry-requires Inv-loop μ-loop
 type-info-entry-requires c κs = omega arith
@@ -38,16 +40,21 @@ loop-less c = omega arith
 
 loop-again : tie.Need-loop-again Inv-loop μ-loop
 loop-again c =
-    let s = c .before .before .before .before .before .before .args .s .now in
-    let p = c .before .before .before .before .loop .p in
-    let left = c .before .before .before .before .loop .left in
-    let e = c .before .type-info-entry .result in
-    let is = c .before .type-info-entry .ensures in
+    let top = c .before .before .before .before in
+    let s = top .before .before .args .s .now in
+    let p = top .loop .p in
+    let left = top .loop .left in
+    let read = c .before .type-info-entry in
+    let e = read .result in
+    let is = read .ensures in
     let h : p + 8 ≤ length s = omega arith in
-    omega (arith, inside s p left e is h (omega arith), at-most-one (e .«type_code»), counted-more s p left e is h (omega arith))
+    let k : 0 < left = omega arith in
+    omega (arith, inside s p left e is h k, at-most-one (e .«type_code»), counted-more s p left e is h k)
 
 returns-2 : tie.Need-returns-2 Inv-loop μ-loop
-returns-2 c = omega (arith, ap length (none-asked (c .before .before .before .args .s .now) (c .before .loop .p) (c .before .loop .left) (omega arith)))
+returns-2 c =
+    let top = c .before in
+    omega (arith, ap length (none-asked (top .before .before .args .s .now) (top .loop .p) (top .loop .left) (omega arith)))
 
 pub count-entries-spec : {M : Type 1} → statement M
 count-entries-spec =

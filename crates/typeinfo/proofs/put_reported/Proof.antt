@@ -8,8 +8,8 @@ use Rattle.typeinfo.proofs.put_reported.Tie as tie
 
 returns : tie.Need-returns
 returns c =
-    let e = c .before .before .before .args .e in
-    (omega (arith, not-one (e .«type_code») (omega arith)), put-nothing (c .before .before .before .args .rows .now) (c .before .before .before .args .at) e (omega arith))
+    let start = c .before .before .before in
+    (omega (arith, not-one (start .args .e .«type_code») (omega arith)), put-nothing _ _ (start .args .e) (omega arith))
 
 cast-t8 : tie.Need-cast-t8
 cast-t8 c = search needs
@@ -31,9 +31,8 @@ same-length c = search needs
 
 returns-2 : tie.Need-returns-2
 returns-2 c =
-    let e = c .before .before .before .before .before .before .before .before .before .before .args .e in
     let reported = c .before .before .before .before .before .before .before .if1 .left in
-    (omega (arith, one (e .«type_code») reported), c .before .before .put-info .ensures ∙ put-row (c .before .before .before .before .before .before .before .before .before .before .args .rows .now) (c .before .before .before .before .before .before .before .before .before .before .args .at) e reported)
+    (omega (arith, one (c .before .before .before .before .before .before .before .before .before .before .args .e .«type_code») reported), c .before .before .put-info .ensures ∙ put-row _ _ _ reported)
 
 pub put-reported-spec : {M : Type 1} → statement M
 put-reported-spec =

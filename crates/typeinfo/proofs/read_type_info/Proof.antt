@@ -1,10 +1,16 @@
 -- `read_type_info` meets `typeInfoExit`: a refusal leaves the rows, and with number 0 all reported entries are written.
 use native.Mathlib.Omega.{arith}
-use mathlib.Core.Path.{sym, _∙_}
+use mathlib.Core.Path.{_≡_, sym, _∙_}
 use borrow.Author.Needs.{needs}
+use Rattle.typeinfo.specs.Entries.{headerOf}
+use Rattle.typeinfo.specs.declared.Header.the-variants.{Entries}
 use Rattle.typeinfo.proofs.ExitLaws.{accepted, refused, no-room, all-written}
 use Rattle.typeinfo.proofs.read_type_info.Statement.{statement}
 use Rattle.typeinfo.proofs.read_type_info.Tie as tie
+
+-- the header gives the count that the arm binds
+accepts : (c : tie.After-header2) → headerOf (c .before .before .before .before .before .args .stream .now) ≡ Entries (c .header2 .given .0 .0)
+accepts c = sym (c .before .before .type-info-count .ensures) ∙ c .header2 .given .1
 
 type-info-count-requires : tie.Need-type-info-count-requires
 type-info-count-requires c κs = search needs
@@ -16,37 +22,27 @@ enum-known-header-2 : tie.Need-enum-known-header-2
 enum-known-header-2 c = search needs
 
 count-entries-requires : tie.Need-count-entries-requires
-count-entries-requires c κs = accepted _ _ (sym (c .before .before .before .type-info-count .ensures) ∙ c .before .header2 .given .1) .header
+count-entries-requires c κs = accepted _ _ (accepts (c .before)) .header
 
 cast-if1 : tie.Need-cast-if1
 cast-if1 c = search needs
 
 returns : tie.Need-returns
-returns c =
-    let count = c .before .before .before .header2 .given in
-    let all = c .before .count-entries in
-    no-room (c .before .before .before .before .before .before .before .before .args .stream .now) (c .before .before .before .before .before .before .before .before .args .rows .now) (count .0 .0) (sym (c .before .before .before .before .before .type-info-count .ensures) ∙ count .1) (all .result) (all .ensures) (omega arith)
+returns c = no-room _ _ _ (accepts (c .before .before .before)) _ (c .before .count-entries .ensures) (omega arith)
 
 write-entries-requires : tie.Need-write-entries-requires
 write-entries-requires c κs =
-    let count = c .before .before .before .before .header2 .given in
-    let told = accepted (c .before .before .before .before .before .before .before .before .before .args .stream .now) (count .0 .0) (sym (c .before .before .before .before .before .before .type-info-count .ensures) ∙ count .1) in
+    let told = accepted _ _ (accepts (c .before .before .before .before)) in
     record { header = told .header; not-long = told .not-long; all-rows = omega arith }
 
 returns-2 : tie.Need-returns-2
-returns-2 c =
-    let number = c .before .header .given in
-    refused (c .before .before .before .before .before .before .args .stream .now) (c .before .before .before .before .before .before .args .rows .now) (number .0 .0) (sym (c .before .before .before .type-info-count .ensures) ∙ number .1)
+returns-2 c = refused _ _ _ (sym (c .before .before .before .type-info-count .ensures) ∙ c .before .header .given .1)
 
 same-length : tie.Need-same-length
 same-length c = search needs
 
 returns-3 : tie.Need-returns-3
-returns-3 c =
-    let count = c .before .before .before .before .before .before .before .header2 .given in
-    let all = c .before .before .before .before .before .count-entries in
-    all-written (c .before .before .before .before .before .before .before .before .before .before .before .before .args .stream .now) (c .before .before .before .before .before .before .before .before .before .before .before .before .args .rows .now) (count .0 .0) (sym (c .before .before .before .before .before .before .before .before .before .type-info-count .ensures) ∙ count .1) (all .result) (all .ensures) (omega arith)
-    _ (c .before .before .write-entries .ensures)
+returns-3 c = all-written _ _ _ (accepts (c .before .before .before .before .before .before .before)) _ (c .before .before .before .before .before .count-entries .ensures) (omega arith) _ (c .before .before .write-entries .ensures)
 
 pub read-type-info-spec : {M : Type 1} → statement M
 read-type-info-spec =

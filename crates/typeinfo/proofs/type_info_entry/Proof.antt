@@ -29,11 +29,15 @@ past-tail-requires c κs = next-of _ _ _ (c .nul-terminated2 .ensures)
 
 returns : tie.Need-returns
 returns c =
-    uses-first _ _ _ _ _ _ _ (c .before .before .before .before .before .before .u16-at .ensures) (c .before .before .before .before .before .u32-at .ensures) (c .before .before .before .before .nul-terminated .ensures) (c .before .before .before .nul-terminated2 .ensures) (c .before .before .past-tail .ensures) (omega arith)
+    let names = c .before .before .before in
+    let words = names .before .before in
+    uses-first _ _ _ _ _ _ _ (words .before .u16-at .ensures) (words .u32-at .ensures) (names .before .nul-terminated .ensures) (names .nul-terminated2 .ensures) (c .before .before .past-tail .ensures) (omega arith)
 
 returns-2 : tie.Need-returns-2
 returns-2 c =
-    uses-second _ _ _ _ _ _ _ (c .before .before .before .before .before .before .u16-at .ensures) (c .before .before .before .before .before .u32-at .ensures) (c .before .before .before .before .nul-terminated .ensures) (c .before .before .before .nul-terminated2 .ensures) (c .before .before .past-tail .ensures) (c .if1 .left)
+    let names = c .before .before .before in
+    let words = names .before .before in
+    uses-second _ _ _ _ _ _ _ (words .before .u16-at .ensures) (words .u32-at .ensures) (names .before .nul-terminated .ensures) (names .nul-terminated2 .ensures) (c .before .before .past-tail .ensures) (c .if1 .left)
 
 pub type-info-entry-spec : {M : Type 1} → statement M
 type-info-entry-spec =

@@ -31,17 +31,19 @@ same-length c = c .before .before .loop .inv .1
 
 returns : tie.Need-returns Inv-loop μ-loop
 returns c =
-    let at-p = c .before .before .loop in
-    put-end (c .before .before .before .before .before .args .s .now) (at-p .p) (at-p .left) (at-p .rows) (at-p .at) (none-left (c .before .before .before .before .before .args .s .now) (at-p .p) (at-p .left) (omega arith)) ∙ at-p .inv .3
+    let top = c .before .before in
+    let s = top .before .before .before .args .s .now in
+    put-end s _ _ _ _ (none-left s (top .loop .p) (top .loop .left) (omega arith)) ∙ top .loop .inv .3
 
 type-info-entry-requires : tie.Need-type-info-entry-requires Inv-loop μ-loop
 type-info-entry-requires c κs = omega arith
 
 put-reported-requires : tie.Need-put-reported-requires Inv-loop μ-loop
 put-reported-requires c κs =
-    let at-p = c .before .before .before .before .loop in
+    let top = c .before .before .before .before in
+    let start = top .before .before .before in
     let read = c .before .type-info-entry in
-    row-room (c .before .before .before .before .before .before .before .args .s .now) (at-p .p) (at-p .left) (read .result) (read .ensures) (omega arith) (omega arith) (at-p .rows) (at-p .at) (c .before .before .before .before .before .before .before .pre .not-long) (at-p .inv .2)
+    row-room (start .args .s .now) (top .loop .p) (top .loop .left) (read .result) (read .ensures) (omega arith) (omega arith) _ _ (start .pre .not-long) (top .loop .inv .2)
 
 sub-left : tie.Need-sub-left Inv-loop μ-loop
 sub-left c = omega arith
@@ -51,20 +53,21 @@ loop-less c = omega arith
 
 loop-again : tie.Need-loop-again Inv-loop μ-loop
 loop-again c =
-    let s = c .before .before .before .before .before .before .before .before .before .before .args .s .now in
-    let at-p = c .before .before .before .before .before .before .before .loop in
-    let p = at-p .p in
-    let left = at-p .left in
-    let e = c .before .before .before .before .type-info-entry .result in
-    let is = c .before .before .before .before .type-info-entry .ensures in
+    let top = c .before .before .before .before .before .before .before in
+    let s = top .before .before .before .args .s .now in
+    let p = top .loop .p in
+    let left = top .loop .left in
+    let read = c .before .before .before .before .type-info-entry in
+    let e = read .result in
+    let is = read .ensures in
     let call = c .before .before .put-reported in
     let h : p + 8 ≤ length s = omega arith in
     let k : 0 < left = omega arith in (
       inside s p left e is h k,
-      call .kept .0 ∙ at-p .inv .1,
+      call .kept .0 ∙ top .loop .inv .1,
       omega (arith, call .ensures .0, call .kept .0, counted-more s p left e is h k),
       ap₂ (λ l a. put typeInfoWidth l a (map typeInfoRow (reportedAt s (e .next) (left - 1)))) (call .ensures .1) (call .ensures .0)
-          ∙ sym (put-more s p left e is h k (at-p .rows) (at-p .at)) ∙ at-p .inv .3,
+          ∙ sym (put-more s p left e is h k (top .loop .rows) (top .loop .at)) ∙ top .loop .inv .3,
     )
 
 same-length-2 : tie.Need-same-length-2 Inv-loop μ-loop
@@ -72,8 +75,9 @@ same-length-2 c = c .before .loop .inv .1
 
 returns-2 : tie.Need-returns-2 Inv-loop μ-loop
 returns-2 c =
-    let at-p = c .before .loop in
-    put-end (c .before .before .before .before .args .s .now) (at-p .p) (at-p .left) (at-p .rows) (at-p .at) (none-asked (c .before .before .before .before .args .s .now) (at-p .p) (at-p .left) (omega arith)) ∙ at-p .inv .3
+    let top = c .before in
+    let s = top .before .before .before .args .s .now in
+    put-end s _ _ _ _ (none-asked s (top .loop .p) (top .loop .left) (omega arith)) ∙ top .loop .inv .3
 
 pub write-entries-spec : {M : Type 1} → statement M
 write-entries-spec =
