@@ -1,0 +1,96 @@
+-- From what the counting functions answer back to what the definition says.
+use Prim.Native.Nat.{ℕ}
+use native.Mathlib.Omega.{arith}
+use mathlib.Core.Path.{_≡_, refl}
+use mathlib.Core.Bool.{Bool}
+use mathlib.Core.List.{List}
+use mathlib.Core.Option.{Option, none, some}
+use lib.ListN.{length}
+use Rattle.rules.specs.Tree.{Entry, Entries, isReported}
+use Rattle.rules.specs.Access2000.{Prop}
+use Rattle.rows.specs.Counting.{size1, size, props1, props}
+use Rattle.count2000.specs.Told as told
+use Rattle.count2000.specs.declared.Word.{Word}
+use Rattle.count2000.specs.declared.Spot.{Spot}
+use Rattle.count2000.specs.declared.Run.{Run}
+use Rattle.count2000.specs.declared.Opens.{Opens}
+use Rattle.count2000.specs.declared.One.{One}
+use Rattle.count2000.specs.declared.Part.{Part}
+
+pub word-of : (o : Option ℕ) (r : Word) (n : ℕ) → r ≡ told.half o → r ≡ Word.Of n → o ≡ some n
+word-of none r n e k = cc
+word-of (some m) r n e k = cc
+
+pub word-short : (o : Option ℕ) (r : Word) → r ≡ told.half o → r ≡ Word.Short → o ≡ none
+word-short none r e k = cc
+word-short (some m) r e k = cc
+
+pub extent-at : (o : Option (ℕ × ℕ)) (r : Spot) (p n : ℕ) → r ≡ told.extent o → r ≡ Spot.At p n → o ≡ some (p, n)
+extent-at none r p n e k = cc
+extent-at (some x) r p n e k =
+    let p₀ : x .0 ≡ p = cc in
+    let p₁ : x .1 ≡ n = cc in
+    λ i. some (p₀ i, p₁ i)
+
+pub extent-bad : (o : Option (ℕ × ℕ)) (r : Spot) → r ≡ told.extent o → r ≡ Spot.Bad → o ≡ none
+extent-bad none r e k = cc
+extent-bad (some x) r e k = cc
+
+pub run-of : (o : Option (List Prop × ℕ)) (r : Run) (n e : ℕ) → r ≡ told.run o → r ≡ Run.Of n e → (ps : List Prop) × (length ps ≡ n) × (o ≡ some (ps, e))
+run-of none r n e p k = absurd (let z : _≡_ {A = ℕ} 0 1 = cc in omega arith)
+run-of (some x) r n e p k =
+    let p₁ : x .1 ≡ e = cc in
+    (x .0, cc, λ i. some (x .0, p₁ i))
+
+pub run-bad : (o : Option (List Prop × ℕ)) (r : Run) → r ≡ told.run o → r ≡ Run.Bad → o ≡ none
+run-bad none r p k = cc
+run-bad (some x) r p k = cc
+
+pub opens-plain : (o : Option (Option ℕ × ℕ)) (r : Opens) (e : ℕ) → r ≡ told.head o → r ≡ Opens.Plain e → o ≡ some (none, e)
+opens-plain none r e p k = cc
+opens-plain (some x) r e p k = go (x .0) refl
+  where
+    go : (y : Option ℕ) → x .0 ≡ y → some x ≡ some (none, e)
+    go none q =
+        let p₁ : x .1 ≡ e = cc in
+        λ i. some (q i, p₁ i)
+    go (some n) q = cc
+
+pub opens-listed : (o : Option (Option ℕ × ℕ)) (r : Opens) (n e : ℕ) → r ≡ told.head o → r ≡ Opens.Listed n e → o ≡ some (some n, e)
+opens-listed none r n e p k = cc
+opens-listed (some x) r n e p k = go (x .0) refl
+  where
+    go : (y : Option ℕ) → x .0 ≡ y → some x ≡ some (some n, e)
+    go none q = cc
+    go (some m) q =
+        let p₀ : x .0 ≡ some n = cc in
+        let p₁ : x .1 ≡ e = cc in
+        λ i. some (p₀ i, p₁ i)
+
+pub opens-bad : (o : Option (Option ℕ × ℕ)) (r : Opens) → r ≡ told.head o → r ≡ Opens.Bad → o ≡ none
+opens-bad none r p k = cc
+opens-bad (some x) r p k = go (x .0) refl
+  where
+    go : (y : Option ℕ) → x .0 ≡ y → some x ≡ none
+    go none q = cc
+    go (some m) q = cc
+
+pub one-of : (o : Option (Entry Prop × ℕ)) (r : One) (b : Bool) (c n e : ℕ) → r ≡ told.one o → r ≡ One.Of b c n e → (x : Entry Prop) × (isReported x ≡ b) × (size1 x ≡ c) × (props1 x ≡ n) × (o ≡ some (x, e))
+one-of none r b c n e p k = absurd (let z : _≡_ {A = ℕ} 0 1 = cc in omega arith)
+one-of (some x) r b c n e p k =
+    let p₁ : x .1 ≡ e = cc in
+    (x .0, cc, cc, cc, λ i. some (x .0, p₁ i))
+
+pub one-bad : (o : Option (Entry Prop × ℕ)) (r : One) → r ≡ told.one o → r ≡ One.Bad → o ≡ none
+one-bad none r p k = cc
+one-bad (some x) r p k = cc
+
+pub part-of : (o : Option (Entries Prop × ℕ)) (r : Part) (c n e : ℕ) → r ≡ told.part o → r ≡ Part.Of c n e → (es : Entries Prop) × (size es ≡ c) × (props es ≡ n) × (o ≡ some (es, e))
+part-of none r c n e p k = absurd (let z : _≡_ {A = ℕ} 0 1 = cc in omega arith)
+part-of (some x) r c n e p k =
+    let p₁ : x .1 ≡ e = cc in
+    (x .0, cc, cc, λ i. some (x .0, p₁ i))
+
+pub part-bad : (o : Option (Entries Prop × ℕ)) (r : Part) → r ≡ told.part o → r ≡ Part.Bad → o ≡ none
+part-bad none r p k = cc
+part-bad (some x) r p k = cc

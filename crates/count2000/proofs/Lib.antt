@@ -1,0 +1,8 @@
+-- What the proofs of several functions use.
+pub mod SharedTree
+pub mod Inverse
+pub mod Extents
+pub mod Runs
+pub mod Grows
+pub mod Lists
+pub mod Reported

@@ -1,0 +1,72 @@
+use Rattle.count2000.proofs.Inverse.{word-of, word-short}
+use Rattle.rules.specs.Bytes.{halfAt, byteAt}
+use Rattle.rules.specs.Access2000.{headAt}
+use borrow.Author.Tests.{le-ltb, lt-ltb, le-leb, lt-leb, eq-eqb, ne-eqb}
+use mathlib.Core.Path.{ap, sym, _∙_}
+use borrow.Author.Needs.{needs}
+use Rattle.count2000.proofs.head.Statement.{statement}
+use Rattle.count2000.proofs.head.Tie as tie
+use Rattle.count2000.proofs.head.Reads as reads
+use Rattle.count2000.proofs.head.Lts as lts
+use Rattle.count2000.proofs.half.Reads as half-reads
+
+returns : tie.Need-returns
+unfolding headAt byteAt
+returns c = simp (le-ltb _ _ (c .if1 .taken))
+
+shared-slice-read-b : tie.Need-shared-slice-read-b
+shared-slice-read-b c = search needs
+
+add-p : tie.Need-add-p
+add-p c = search needs
+
+returns-2 : tie.Need-returns-2
+unfolding headAt byteAt
+returns-2 c = simp (lt-ltb _ _ (c .before .before .if1 .left), eq-eqb _ _ (c .if2 .taken))
+
+returns-3 : tie.Need-returns-3
+unfolding headAt byteAt
+returns-3 c = simp (lt-ltb _ _ (c .before .before .before .if1 .left), ne-eqb _ _ (c .before .if2 .left), eq-eqb _ _ (c .if3 .taken))
+
+half-requires : tie.Need-half-requires
+half-requires c κs = search needs
+
+enum-known-n : tie.Need-enum-known-n
+enum-known-n c = search needs
+
+add-t13 : tie.Need-add-t13
+add-t13 c = search needs
+
+enum-told : tie.Need-enum-told
+enum-told c = search needs
+
+returns-4 : tie.Need-returns-4
+unfolding headAt byteAt
+returns-4 c = let b = c .before .before .before .before in
+    simp (lt-ltb _ _ (b .before .before .before .before .if1 .left), ne-eqb _ _ (b .before .before .if2 .left), ne-eqb _ _ (b .before .if3 .left), eq-eqb _ _ (b .if4 .taken), word-of (halfAt _ _) _ _ (c .before .before .before .half .ensures) (c .before .n .given .1))
+
+returns-5 : tie.Need-returns-5
+unfolding headAt byteAt
+returns-5 c = let b = c .before .before .before in
+    simp (lt-ltb _ _ (b .before .before .before .before .if1 .left), ne-eqb _ _ (b .before .before .if2 .left), ne-eqb _ _ (b .before .if3 .left), eq-eqb _ _ (b .if4 .taken), word-short (halfAt _ _) _ (c .before .before .half .ensures) (c .enum-told .given .1))
+
+returns-6 : tie.Need-returns-6
+unfolding headAt byteAt
+returns-6 c = simp (lt-ltb _ _ (c .before .before .before .before .if1 .left), ne-eqb _ _ (c .before .before .if2 .left), ne-eqb _ _ (c .before .if3 .left), ne-eqb _ _ (c .if4 .left))
+
+pub head-spec : {M : Type 1} → statement M
+head-spec =
+    tie.close
+    (tie.spec
+    returns
+    shared-slice-read-b
+    add-p
+    returns-2
+    returns-3
+    half-requires
+    enum-known-n
+    add-t13
+    enum-told
+    returns-4
+    returns-5
+    returns-6)

@@ -1,0 +1,64 @@
+use Rattle.count2000.proofs.Inverse.{word-of, word-short}
+use Rattle.rules.specs.Bytes.{byteAt, halfAt}
+use Rattle.rules.specs.Access2000.{lengthAt}
+use borrow.Author.Tests.{le-ltb, lt-ltb, eq-eqb, ne-eqb}
+use borrow.Author.Needs.{needs}
+use Rattle.count2000.proofs.length.Statement.{statement}
+use Rattle.count2000.proofs.length.Tie as tie
+use Rattle.count2000.proofs.length.Reads as reads
+use Rattle.count2000.proofs.length.Lts as lts
+use Rattle.count2000.proofs.half.Reads as half-reads
+use Rattle.count2000.proofs.wide.Reads as wide-reads
+
+returns : tie.Need-returns
+unfolding lengthAt byteAt
+returns c = simp (le-ltb _ _ (c .if1 .taken))
+
+shared-slice-read-n : tie.Need-shared-slice-read-n
+shared-slice-read-n c = search needs
+
+add-p : tie.Need-add-p
+add-p c = search needs
+
+half-requires : tie.Need-half-requires
+half-requires c κs = search needs
+
+enum-known-m : tie.Need-enum-known-m
+enum-known-m c = search needs
+
+add-t13 : tie.Need-add-t13
+add-t13 c = search needs
+
+enum-told : tie.Need-enum-told
+enum-told c = search needs
+
+wide-requires : tie.Need-wide-requires
+wide-requires c κs = search needs
+
+returns-2 : tie.Need-returns-2
+unfolding lengthAt byteAt
+returns-2 c = simp (lt-ltb _ _ (c .before .before .before .before .before .before .if1 .left), eq-eqb _ _ (c .before .before .before .before .if2 .taken), word-of (halfAt _ _) _ _ (c .before .before .before .half .ensures) (c .before .m .given .1))
+
+returns-3 : tie.Need-returns-3
+unfolding lengthAt byteAt
+returns-3 c = simp (lt-ltb _ _ (c .before .before .before .before .before .if1 .left), eq-eqb _ _ (c .before .before .before .if2 .taken), word-short (halfAt _ _) _ (c .before .before .half .ensures) (c .enum-told .given .1))
+
+returns-4 : tie.Need-returns-4
+unfolding lengthAt byteAt
+returns-4 c = simp (lt-ltb _ _ (c .before .before .before .if1 .left), ne-eqb _ _ (c .before .if2 .left), c .wide .ensures .0)
+
+pub length-spec : {M : Type 1} → statement M
+length-spec =
+    tie.close
+    (tie.spec
+    returns
+    shared-slice-read-n
+    add-p
+    half-requires
+    enum-known-m
+    add-t13
+    enum-told
+    wide-requires
+    returns-2
+    returns-3
+    returns-4)

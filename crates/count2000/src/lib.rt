@@ -1,0 +1,359 @@
+// Counts what an Access 2000 stream has. A cursor is a place in the stream, by value.
+ghost use mathlib.Core.Path.{_≡_};
+ghost use Prim.Native.Nat.{_<_};
+ghost use lib.ListN.{length};
+ghost use Rattle.rules.specs.Bytes.{halfAt};
+ghost use Rattle.rules.specs.Tree.{isSection, levels};
+ghost use Rattle.rules.specs.Access2000.{lengthAt, extentAt, propertyAt, runAt, headAt, entryAt, entriesAt, streamOf};
+ghost use Rattle.count2000.specs.Told as told;
+
+// Two bytes, low byte first.
+pub enum Word {
+    Short,
+    Of(usize),
+}
+
+// How many bytes a value has: the id tells, or a length before them.
+enum Size {
+    Told(usize),
+    Stored,
+}
+
+// Where a value's bytes stand.
+pub enum Spot {
+    Bad,
+    At { start: usize, size: usize },
+}
+
+// How many properties a run has, and the place behind it.
+pub enum Run {
+    Bad,
+    Of { count: usize, next: usize },
+}
+
+// What stands behind a run: the end of an entry, or a list.
+pub enum Opens {
+    Bad,
+    Plain { next: usize },
+    Listed { count: usize, next: usize },
+}
+
+// An entry with all below it. `kept` says whether it is reported at the top.
+enum One {
+    Bad,
+    Of {
+        kept: bool,
+        controls: usize,
+        props: usize,
+        next: usize,
+    },
+}
+
+// The entries of a list with all below them.
+enum Part {
+    Bad,
+    Of {
+        controls: usize,
+        props: usize,
+        next: usize,
+    },
+}
+
+// What a whole stream has: reported entries, property rows, and those of the object.
+pub enum Counted {
+    Bad,
+    Of {
+        controls: usize,
+        props: usize,
+        own: usize,
+    },
+}
+
+fn wide(x: u8) -> usize
+    ensures { λ r. ⌜ (r ≡ x) × (r < 256) ⌝ }
+{
+    x as usize
+}
+
+pub fn half(s: &[u8], at: usize) -> Word
+    ensures { λ r. ⌜ r ≡ told.half (halfAt (now (s .entry)) at) ⌝ }
+{
+    if s.len() <= at {
+        return Word::Short;
+    }
+    let next = at + 1;
+    if s.len() <= next {
+        return Word::Short;
+    }
+    Word::Of(wide(s[at]) + 256 * wide(s[next]))
+}
+
+// ---- properties
+fn value_size(id: u8) -> Size
+    ensures { λ r. ⌜ r ≡ told.sizeOf id ⌝ }
+{
+    if id <= 0x2F {
+        return Size::Told(0);
+    }
+    if id <= 0x5F {
+        return Size::Told(1);
+    }
+    if id <= 0x7F {
+        return Size::Told(2);
+    }
+    if id <= 0xBC {
+        return Size::Told(4);
+    }
+    Size::Stored
+}
+
+// The length at `at`, and where the bytes behind it start.
+fn length(s: &[u8], at: usize) -> Spot
+    ensures { λ r. ⌜ r ≡ told.extent (lengthAt (now (s .entry)) at) ⌝ }
+{
+    if s.len() <= at {
+        return Spot::Bad;
+    }
+    let n = s[at];
+    let p = at + 1;
+    if n == 0xFF {
+        match half(s, p) {
+            Word::Of(m) => Spot::At {
+                start: p + 2,
+                size: m,
+            },
+            Word::Short => Spot::Bad,
+        }
+    } else {
+        Spot::At {
+            start: p,
+            size: wide(n),
+        }
+    }
+}
+
+fn extent(s: &[u8], id: u8, at: usize) -> Spot
+    ensures { λ r. ⌜ r ≡ told.extent (extentAt (now (s .entry)) id at) ⌝ }
+{
+    let Size::Told(size) = value_size(id) else {
+        return length(s, at);
+    };
+    Spot::At { start: at, size }
+}
+
+// The value of the property at `at`, where one starts there.
+pub fn value(s: &[u8], at: usize) -> Spot
+    requires { ⌜ at < length (now s) ⌝ }
+    ensures { λ r. ⌜ r ≡ told.spot (propertyAt (now (s .entry)) at) ⌝ }
+{
+    match extent(s, s[at], at + 1) {
+        Spot::At { start, size } => {
+            if s.len() < start {
+                return Spot::Bad;
+            }
+            if s.len() - start < size {
+                return Spot::Bad;
+            }
+            Spot::At { start, size }
+        }
+        Spot::Bad => Spot::Bad,
+    }
+}
+
+// The run at `at`: up to the next FD, FE or FF, or the end.
+pub fn props(s: &[u8], at: usize) -> Run
+    ensures { λ r. ⌜ r ≡ told.run (runAt (now (s .entry)) at) ⌝ }
+{
+    let mut p = at;
+    let mut n: usize = 0;
+    while p < s.len() {
+        if 0xFD <= s[p] {
+            return Run::Of { count: n, next: p };
+        }
+        match value(s, p) {
+            Spot::At { start, size } => {
+                p = start + size;
+                n = n + 1;
+            }
+            Spot::Bad => {
+                return Run::Bad;
+            }
+        }
+    }
+    Run::Of { count: n, next: p }
+}
+
+// ---- counting
+pub fn head(s: &[u8], at: usize) -> Opens
+    ensures { λ r. ⌜ r ≡ told.head (headAt (now (s .entry)) at) ⌝ }
+{
+    if s.len() <= at {
+        return Opens::Bad;
+    }
+    let b = s[at];
+    let p = at + 1;
+    if b == 0xFD {
+        return Opens::Plain { next: p };
+    }
+    if b == 0xFE {
+        return Opens::Listed { count: 1, next: p };
+    }
+    if b == 0xFF {
+        match half(s, p) {
+            Word::Of(n) => Opens::Listed {
+                count: n,
+                next: p + 2,
+            },
+            Word::Short => Opens::Bad,
+        }
+    } else {
+        Opens::Bad
+    }
+}
+
+// A type of sections. At the top, an entry without a list is reported where it has one.
+pub fn is_section(kind: usize) -> bool
+    ensures { λ r. ⌜ r ≡ isSection kind ⌝ }
+{
+    0x98 <= kind && kind <= 0x9E
+}
+
+// The entry at `at`; `left` levels are left below it.
+fn entry(s: &[u8], at: usize, left: usize) -> One
+    ensures { λ r. ⌜ r ≡ told.one (entryAt (now (s .entry)) (entriesAt left (now (s .entry))) at) ⌝ }
+{
+    let Word::Of(kind) = half(s, at) else {
+        return One::Bad;
+    };
+    let Run::Of { count, next } = props(s, at + 2) else {
+        return One::Bad;
+    };
+    match head(s, next) {
+        Opens::Bad => One::Bad,
+        Opens::Plain { next: e } => One::Of {
+            kept: is_section(kind),
+            controls: 1,
+            props: count,
+            next: e,
+        },
+        Opens::Listed { count: n, next: q } => match list(s, q, n, left) {
+            Part::Bad => One::Bad,
+            Part::Of {
+                controls,
+                props,
+                next: e,
+            } => One::Of {
+                kept: true,
+                controls: 1 + controls,
+                props: count + props,
+                next: e,
+            },
+        },
+    }
+}
+
+// `n` entries from `at` on, with `left` levels left: with none left there may be no entry.
+fn list(s: &[u8], at: usize, n: usize, left: usize) -> Part
+    ensures { λ r. ⌜ r ≡ told.part (entriesAt left (now (s .entry)) n at) ⌝ }
+{
+    let mut p = at;
+    let mut k = n;
+    let mut all: usize = 0;
+    let mut theirs: usize = 0;
+    while 0 < k {
+        if left == 0 {
+            return Part::Bad;
+        }
+        match entry(s, p, left - 1) {
+            One::Bad => {
+                return Part::Bad;
+            }
+            One::Of {
+                kept: _,
+                controls,
+                props,
+                next,
+            } => {
+                all = all + controls;
+                theirs = theirs + props;
+                p = next;
+                k = k - 1;
+            }
+        }
+    }
+    Part::Of {
+        controls: all,
+        props: theirs,
+        next: p,
+    }
+}
+
+// The top list, of which only some entries are reported.
+fn top(s: &[u8], at: usize, n: usize) -> Part
+    ensures { λ r. ⌜ r ≡ told.top (entriesAt levels (now (s .entry)) n at) ⌝ }
+{
+    let mut p = at;
+    let mut k = n;
+    let mut all: usize = 0;
+    let mut theirs: usize = 0;
+    while 0 < k {
+        match entry(s, p, 255) {
+            One::Bad => {
+                return Part::Bad;
+            }
+            One::Of {
+                kept,
+                controls,
+                props,
+                next,
+            } => {
+                if kept {
+                    all = all + controls;
+                    theirs = theirs + props;
+                }
+                p = next;
+                k = k - 1;
+            }
+        }
+    }
+    Part::Of {
+        controls: all,
+        props: theirs,
+        next: p,
+    }
+}
+
+// Counts a whole stream: the object's run at 10, the top list, and no byte more.
+pub fn count(s: &[u8]) -> Counted
+    ensures { λ r. ⌜ r ≡ told.counted (streamOf (now (s .entry))) ⌝ }
+{
+    let Run::Of {
+        count: own,
+        next: p,
+    } = props(s, 10)
+    else {
+        return Counted::Bad;
+    };
+    match head(s, p) {
+        Opens::Listed { count: n, next: q } => match top(s, q, n) {
+            Part::Of {
+                controls,
+                props,
+                next,
+            } => {
+                if next == s.len() {
+                    Counted::Of {
+                        controls,
+                        props: own + props,
+                        own,
+                    }
+                } else {
+                    Counted::Bad
+                }
+            }
+            Part::Bad => Counted::Bad,
+        },
+        Opens::Plain { next: _ } => Counted::Bad,
+        Opens::Bad => Counted::Bad,
+    }
+}
