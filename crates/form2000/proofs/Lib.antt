@@ -1,0 +1,9 @@
+-- What the proofs of several functions use.
+pub mod SharedActLaws
+pub mod RunSteps
+pub mod Shows
+pub mod Nodes
+pub mod Remains
+pub mod Skipping
+pub mod NodeLaws
+pub mod Whole

@@ -1,0 +1,271 @@
+-- The whole stream: its counts are those of the reading, and its rows are written in two goes.
+use Prim.Native.Nat.{ℕ, _+_, _*_, _/_, _≤_, _<_}
+use native.Mathlib.Omega.{arith}
+use mathlib.Core.Path.{_≡_, refl, sym, ap, _∙_}
+use mathlib.Core.Bool.{Bool, true, false, cond}
+use mathlib.Core.List.{List, [], _∷_, _++_, map}
+use mathlib.Core.Option.{Option, none, some}
+use lib.Dec.{ltb, eqb}
+use lib.ListN.{length, length-append, length-map}
+use borrow.Author.Tests.{eqb-true, lt-ltb, le-ltb}
+use Rattle.rules.specs.Lists.{concat}
+use Rattle.rules.specs.Answer.{longest, moreControls, moreProperties, noReading, refusal}
+use Rattle.rules.specs.CodeTable.{wellFormed}
+use Rattle.rules.specs.Tree.{Entries, reported, nodesOf, levels}
+use Rattle.rules.specs.Access2000.{Prop, runAt, headAt, entriesAt, streamOf}
+use Rattle.rules.specs.Reading.{Reading, properties, propertiesOf, controlRows, propertyRows}
+use Rattle.rules.specs.Rows.{controlWidth, propertyWidth, room, written}
+use Rattle.rules.specs.Read2000.{objectPlace, propertyIn, controlOf, read2000}
+use Rattle.rules.specs.Blob.{Outcome, fit, readBy, exitBy, counted}
+use Rattle.rules.specs.declared.Answer.{Answer}
+use Rattle.rules.proofs.ListLaws.{none-some, Every, every-if, every-when, every-at}
+use Rattle.rules.proofs.Read2000Laws.{controls-many, own-many}
+use Rattle.rows.specs.Counting.{size, props, propsIn}
+use Rattle.rows.specs.Writing.{State, state, theirs, writeControls, writeProperties}
+use Rattle.rows.proofs.CountingLaws as counting
+use Rattle.rows.proofs.WritingLaws.{properties-length, reading-written}
+use Rattle.codetable.specs.Look.{Finds, bodyRows}
+use Rattle.codetable.specs.declared.Found.{Found}
+use Rattle.count2000.specs.Told as told
+use Rattle.count2000.specs.declared.Opens.{Opens}
+use Rattle.count2000.specs.declared.Counted.{Counted}
+use Rattle.count2000.proofs.Inverse.{opens-plain, opens-listed, opens-bad}
+use Rattle.count2000.proofs.SharedTree.{EntriesGrow, fewer}
+use Rattle.count2000.proofs.Grows.{run-grows, head-grows, entries-grow}
+use Rattle.form2000.specs.SharedActs.{Held, Stood}
+use Rattle.form2000.specs.Acts.{answer, shownIn, ran, runAct, RunReady, topNodes, stood, act, Ready, Roomy, StreamReady, StreamDone, exited, outcome}
+use Rattle.form2000.proofs.SharedActLaws.{held-some, held-none}
+use Rattle.form2000.proofs.NodeLaws.{RunOf, run-written, shown-same}
+
+-- ---- the parts of a stream
+pub record StreamParts (s : List ℕ) (x : List Prop × Entries Prop) : Type 0 where
+  pub place : ℕ
+  pub many : ℕ
+  pub first : ℕ
+  pub run : runAt s 10 ≡ some (x .0, place)
+  pub head : headAt s place ≡ some (some many, first)
+  pub list : entriesAt levels s many first ≡ some (x .1, length s)
+
+pub stream-parts : (s : List ℕ) → Every (StreamParts s) (streamOf s)
+unfolding streamOf
+stream-parts s =
+    every-when (StreamParts s) (runAt s 10) _ λ a ae.
+    every-when (StreamParts s) (headAt s (a .1)) _ λ h he.
+    every-when (StreamParts s) (h .0) _ λ n ne.
+    every-when (StreamParts s) (entriesAt levels s n (h .1)) _ λ l le.
+    every-if (StreamParts s) (eqb (l .1) (length s)) _ _
+    (λ t. let e : l .1 ≡ length s = eqb-true _ _ t in record {
+      place = a .1;
+      many = n;
+      first = h .1;
+      run = ae;
+      head = he ∙ (λ i. some (ne i, h .1));
+      list = le ∙ (λ i. some (l .0, e i));
+    }) λ _. tt
+
+-- ---- counts
+module _ (t s : List ℕ) (x : List Prop × Entries Prop) where
+  pub controls-are : length (read2000 t s x .controls) ≡ size (reported (x .1))
+  unfolding nodesOf
+  controls-are = controls-many t s x ∙ counting.nodes (reported (x .1))
+
+  same-properties : (n : _) → length (controlOf t s n .properties) ≡ length (n .props)
+  unfolding controlOf
+  same-properties n = simp length-map
+
+  pub theirs-are : length (theirs (map (controlOf t s) (nodesOf (x .1)))) ≡ props (reported (x .1))
+  unfolding nodesOf
+  theirs-are = counting.theirs-many (controlOf t s) same-properties (nodesOf (x .1)) ∙ counting.in-all (reported (x .1))
+
+  pub properties-are : length (properties (read2000 t s x)) ≡ length (x .0) + props (reported (x .1))
+  unfolding properties read2000 theirs
+  properties-are = length-append (read2000 t s x .own) (concat (map propertiesOf (read2000 t s x .controls))) ∙ omega (arith, own-many t s x, theirs-are)
+
+  -- a stream is longer than all that is counted of it
+  pub few : streamOf s ≡ some x → length (x .0) + (size (reported (x .1)) + props (reported (x .1))) ≤ length s
+  few e =
+      let p = every-at (StreamParts s) (streamOf s) x (stream-parts s) e in
+      let a = every-at _ (runAt s 10) (x .0, p .place) (run-grows s 10) (p .run) in
+      let b = every-at _ (headAt s (p .place)) (some (p .many), p .first) (head-grows s (p .place)) (p .head) in
+      let c = every-at (EntriesGrow (p .first)) (entriesAt levels s (p .many) (p .first)) (x .1, length s) (entries-grow levels s (p .many) (p .first)) (p .list) in
+      omega (arith, a, b, c, fewer (x .1))
+
+-- ---- writing
+-- what is known of a stream that is written
+record Known (t s controls rows : List ℕ) : Type 0 where
+  tree : List Prop × Entries Prop
+  reads : streamOf s ≡ some tree
+  fits : Roomy controls rows (read2000 t s tree)
+
+known : (t s controls rows : List ℕ) → StreamReady t s controls rows → Known t s controls rows
+known t s controls rows h = go (streamOf s) refl (h .fits)
+  where
+    go : (o : Option (List Prop × Entries Prop)) → streamOf s ≡ o → Held {A = List Prop × Entries Prop} (λ x. Roomy controls rows (read2000 t s x)) o → Known t s controls rows
+    go none e k = absurd k
+    go (some x) e k = record { tree = x; reads = e; fits = k }
+
+module _ (t s controls rows : List ℕ) (h : StreamReady t s controls rows) where
+  is : Known t s controls rows
+  is = known t s controls rows h
+
+  parts : StreamParts s (is .tree)
+  parts = every-at (StreamParts s) (streamOf s) (is .tree) (stream-parts s) (is .reads)
+
+  module _ (kind : ℕ) (ke : kind ≡ objectPlace s .kind) (body : Found) (be : Finds t kind 0 body) where
+    pub own-ready : RunReady t body s 10 rows 0
+    own-ready = record {
+      small = h .small;
+      sorted = be .sorted (h .formed);
+      fits = rw (parts .run) (omega (arith, is .fits .1, properties-are t s (is .tree)));
+    }
+
+    module _ (rows′ : List ℕ) (row end : ℕ) (we : some (ran rows′ row end) ≡ runAct (shownIn (bodyRows t body) s) (runAt s 10) rows 0) where
+      own-run : RunOf (shownIn (bodyRows t body) s) (is .tree .0, parts .place) rows 0 rows′ row end
+      own-run = run-written (shownIn (bodyRows t body) s) (runAt s 10) (is .tree .0, parts .place) rows 0 rows′ row end (parts .run) we
+
+      own-rows : rows′ ≡ writeProperties (read2000 t s (is .tree) .own) rows 0
+      unfolding read2000 objectPlace
+      own-rows =
+          let f : shownIn (bodyRows t body) s ≡ propertyIn t s (objectPlace s) = shown-same t s kind 0 body (h .formed) be ∙ ap (λ k. propertyIn t s (record { kind = k; code = 0 })) ke in
+          own-run .rows ∙ ap (λ g. writeProperties (map g (is .tree .0)) rows 0) f
+
+      module _ (o : Opens) (oe : o ≡ told.head (headAt s end)) where
+        head-is : headAt s end ≡ some (some (parts .many), parts .first)
+        head-is = ap (headAt s) (own-run .next-is) ∙ parts .head
+
+        pub write-plain : (e : ℕ) → o ≡ Opens.Plain e → ⊥
+        write-plain e k =
+            let z : _≡_ {A = Option (Option ℕ × ℕ)} (some (none, e)) (some (some (parts .many), parts .first)) = sym (opens-plain (headAt s end) o e oe k) ∙ head-is in
+            let w : _≡_ {A = Option ℕ × ℕ} (none, e) (some (parts .many), parts .first) = cc in
+            none-some (ap (λ v. v .0) w)
+
+        pub write-bad : o ≡ Opens.Bad → ⊥
+        write-bad k =
+            let z : _≡_ {A = Option (Option ℕ × ℕ)} none (some (some (parts .many), parts .first)) = sym (opens-bad (headAt s end) o oe k) ∙ head-is in
+            none-some z
+
+        module _ (n next : ℕ) (k : o ≡ Opens.Listed n next) where
+          list-is : entriesAt levels s n next ≡ some (is .tree .1, length s)
+          list-is =
+              let z : _≡_ {A = Option (Option ℕ × ℕ)} (some (some n, next)) (some (some (parts .many), parts .first)) = sym (opens-listed (headAt s end) o n next oe k) ∙ head-is in
+              let w : _≡_ {A = Option ℕ × ℕ} (some n, next) (some (parts .many), parts .first) = cc in
+              let a : some n ≡ some (parts .many) = ap (λ v. v .0) w in
+              let b : n ≡ parts .many = cc in
+              let c : next ≡ parts .first = ap (λ v. v .1) w in
+              (λ i. entriesAt levels s (b i) (c i)) ∙ parts .list
+
+          pub top-ready : Ready t s (topNodes (entriesAt levels s n next)) (state controls 0 rows′ row)
+          unfolding read2000
+          top-ready =
+              let l : length rows′ ≡ length rows = ap length own-rows ∙ properties-length (read2000 t s (is .tree) .own) rows 0 in
+              let m = theirs-are t s (is .tree) in
+              let c = controls-are t s (is .tree) in
+              record {
+                formed = h .formed;
+                small = h .small;
+                fits = rw list-is (record {
+                  room = record { controls = omega (arith, is .fits .0); properties = omega (arith, is .fits .1, l, own-run .row-is, properties-are t s (is .tree), m) };
+                  few = omega (arith, few t s (is .tree) (is .reads), h .small, own-run .row-is, m, c);
+                });
+              }
+
+          pub top-done : (controls′ : List ℕ) (c : ℕ) (rows″ : List ℕ) (p e : ℕ)
+              → some (stood controls′ c rows″ p e) ≡ act t s (topNodes (entriesAt levels s n next)) (state controls 0 rows′ row) → StreamDone t s controls rows controls′ rows″
+          unfolding read2000
+          top-done controls′ c rows″ p e w =
+              let r = read2000 t s (is .tree) in
+              let q : row ≡ length (r .own) = own-run .row-is ∙ omega (arith, own-many t s (is .tree)) in
+              let z : some (stood controls′ c rows″ p e) ≡ some (record { state = writeControls (r .controls) (state controls 0 rows′ row); next = length s }) = w ∙ ap (λ o. act t s (topNodes o) (state controls 0 rows′ row)) list-is in
+              let y : stood controls′ c rows″ p e ≡ record { state = writeControls (r .controls) (state controls 0 rows′ row); next = length s } = cc in
+              let v : state controls′ c rows″ p ≡ state (written (controlRows r) controls) (length (r .controls)) (written (propertyRows r) rows) (length (properties r)) =
+              ap (λ (g : Stood). g .state) y ∙ (λ i. writeControls (r .controls) (state controls 0 (own-rows i) (q i))) ∙ reading-written r controls rows in
+              record {
+                done = λ x xe.
+                    let g : some (is .tree) ≡ some x = sym (is .reads) ∙ xe in
+                    let f : is .tree ≡ x = cc in
+                    (ap (λ st. st .cs) v ∙ ap (λ u. written (controlRows (read2000 t s u)) controls) f, ap (λ st. st .ps) v ∙ ap (λ u. written (propertyRows (read2000 t s u)) rows) f);
+              }
+
+-- ---- the answer
+-- what is known of a stream that was counted
+record Facts (t s : List ℕ) (all theirs own : ℕ) : Type 0 where
+  tree : List Prop × Entries Prop
+  reads : streamOf s ≡ some tree
+  all-is : all ≡ length (read2000 t s tree .controls)
+  theirs-is : theirs ≡ length (properties (read2000 t s tree))
+  own-is : own ≡ length (read2000 t s tree .own)
+  small : all + theirs ≤ length s
+  fewer : own ≤ theirs
+
+module _ (t s controls rows : List ℕ) (formed : wellFormed t ≡ true) (small : length s ≤ longest) (r : Counted) (re : r ≡ told.counted (streamOf s)) where
+  none-of : (o : Option (List Prop × Entries Prop)) → r ≡ told.counted o → r ≡ Counted.Bad → o ≡ none
+  none-of none e k = refl
+  none-of (some x) e k = cc
+
+  pub read-bad : r ≡ Counted.Bad → (a : Answer) → a ≡ answer noReading 0 0 0 → exited a controls rows ≡ exitBy (outcome t s controls rows) controls rows
+  unfolding outcome concat
+  read-bad k a ae = rw (none-of (streamOf s) re k, ae)
+
+  module _ (all theirs own : ℕ) (k : r ≡ Counted.Of all theirs own) where
+    facts : (o : Option (List Prop × Entries Prop)) → streamOf s ≡ o → r ≡ told.counted o → Facts t s all theirs own
+    facts none e re = absurd (let z : _≡_ {A = ℕ} 0 1 = cc in omega arith)
+    facts (some x) e re =
+        let a : all ≡ size (reported (x .1)) = cc in
+        let b : theirs ≡ length (x .0) + props (reported (x .1)) = cc in
+        let c : own ≡ length (x .0) = cc in
+        let f = few t s x e in
+        record {
+          tree = x;
+          reads = e;
+          all-is = a ∙ sym (controls-are t s x);
+          theirs-is = b ∙ sym (properties-are t s x);
+          own-is = c ∙ sym (own-many t s x);
+          small = omega (arith, f, a, b, c);
+          fewer = omega (arith, b, c);
+        }
+
+    now : Facts t s all theirs own
+    now = facts (streamOf s) refl re
+
+    pub read-small : (all ≤ longest) × (theirs ≤ longest) × (own ≤ longest)
+    read-small = omega (arith, now .small, small, now .fewer)
+
+    counted-is : (number : ℕ) (a : Answer) → a ≡ answer number all theirs own → a ≡ counted number (read2000 t s (now .tree))
+    counted-is number a ae = ae ∙ (λ i. answer number (now .all-is i) (now .theirs-is i) (now .own-is i))
+
+    by-fit : outcome t s controls rows ≡ fit (room controlWidth controls) (room propertyWidth rows) (some (read2000 t s (now .tree)))
+    unfolding outcome
+    by-fit = ap (λ o. fit (room controlWidth controls) (room propertyWidth rows) (readBy t s o)) (now .reads)
+
+    pub read-controls : room controlWidth controls < all → (a : Answer) → a ≡ answer moreControls all theirs own → exited a controls rows ≡ exitBy (outcome t s controls rows) controls rows
+    unfolding concat
+    read-controls l a ae =
+        let b : ltb (room controlWidth controls) (length (read2000 t s (now .tree) .controls)) ≡ true = lt-ltb _ _ (rw (now .all-is) at l) in
+        rw (by-fit, b) (ap (λ z. exited z controls rows) (counted-is moreControls a ae))
+
+    module _ (g : all ≤ room controlWidth controls) where
+      enough : ltb (room controlWidth controls) (length (read2000 t s (now .tree) .controls)) ≡ false
+      enough = le-ltb _ _ (rw (now .all-is) at g)
+
+      pub read-properties : room propertyWidth rows < theirs → (a : Answer) → a ≡ answer moreProperties all theirs own → exited a controls rows ≡ exitBy (outcome t s controls rows) controls rows
+      unfolding concat
+      read-properties l a ae =
+          let b : ltb (room propertyWidth rows) (length (properties (read2000 t s (now .tree)))) ≡ true = lt-ltb _ _ (rw (now .theirs-is) at l) in
+          rw (by-fit, enough, b) (ap (λ z. exited z controls rows) (counted-is moreProperties a ae))
+
+      module _ (m : theirs ≤ room propertyWidth rows) where
+        pub read-ready : StreamReady t s controls rows
+        read-ready = record {
+          formed = formed;
+          small = small;
+          fits = rw (now .reads) (let a : length (read2000 t s (now .tree) .controls) * controlWidth ≤ length controls = omega (arith, now .all-is, g) in
+              let b : length (properties (read2000 t s (now .tree))) * propertyWidth ≤ length rows = omega (arith, now .theirs-is, m) in
+              (a, b));
+        }
+
+        pub read-done : (controls′ rows′ : List ℕ) → StreamDone t s controls rows controls′ rows′ → (a : Answer) → a ≡ answer 0 all theirs own → exited a controls′ rows′ ≡ exitBy (outcome t s controls rows) controls rows
+        read-done controls′ rows′ d a ae =
+            let w = d .done (now .tree) (now .reads) in
+            let b : ltb (room propertyWidth rows) (length (properties (read2000 t s (now .tree)))) ≡ false = le-ltb _ _ (rw (now .theirs-is) at m) in
+            let c = counted-is 0 a ae in
+            rw (by-fit, enough, b) (λ i. exited (c i) (w .0 i) (w .1 i))

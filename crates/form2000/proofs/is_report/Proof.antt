@@ -1,0 +1,20 @@
+use mathlib.Core.Path.{_≡_, refl, sym, ap, _∙_}
+use Prim.Native.Nat.{ℕ}
+use lib.Dec.{eqb}
+use Rattle.rules.specs.Read2000.{isReport}
+use borrow.Author.Needs.{needs}
+use Rattle.form2000.proofs.is_report.Statement.{statement}
+use Rattle.form2000.proofs.is_report.Tie as tie
+use Rattle.form2000.proofs.is_report.Reads as reads
+use Rattle.form2000.proofs.is_report.Lts as lts
+use Rattle.leaf.proofs.byte_at.Reads as byte-at-reads
+
+byte-at-requires : tie.Need-byte-at-requires
+byte-at-requires c κs = search needs
+
+returns : tie.Need-returns
+unfolding isReport
+returns c = ap (λ (b : ℕ). eqb b 0x97) (c .byte-at .ensures)
+
+pub is-report-spec : {M : Type 1} → statement M
+is-report-spec = tie.close (tie.spec byte-at-requires returns)

@@ -1,0 +1,20 @@
+use mathlib.Core.Path.{_≡_, refl, sym, ap, _∙_}
+use mathlib.Core.Bool.{Bool, cond}
+use borrow.Author.Needs.{needs}
+use Rattle.form2000.proofs.name_id.Statement.{statement}
+use Rattle.form2000.proofs.name_id.Tie as tie
+use Rattle.form2000.proofs.name_id.Reads as reads
+use Rattle.form2000.proofs.name_id.Lts as lts
+use Rattle.count2000.proofs.is_section.Reads as is-section-reads
+
+is-section-requires : tie.Need-is-section-requires
+is-section-requires c κs = search needs
+
+returns : tie.Need-returns
+returns c = sym (ap (λ (b : Bool). cond b 0xDF 0xDC) (sym (c .before .is-section .ensures) ∙ c .if1 .taken))
+
+returns-2 : tie.Need-returns-2
+returns-2 c = sym (ap (λ (b : Bool). cond b 0xDF 0xDC) (sym (c .before .is-section .ensures) ∙ c .if1 .left))
+
+pub name-id-spec : {M : Type 1} → statement M
+name-id-spec = tie.close (tie.spec is-section-requires returns returns-2)

@@ -1,0 +1,23 @@
+use mathlib.Core.Path.{_≡_, refl, sym, ap, _∙_}
+use mathlib.Core.Bool.{Bool, cond}
+use Rattle.rules.specs.Read2000.{objectPlace}
+use borrow.Author.Needs.{needs}
+use Rattle.form2000.proofs.object_kind.Statement.{statement}
+use Rattle.form2000.proofs.object_kind.Tie as tie
+use Rattle.form2000.proofs.object_kind.Reads as reads
+use Rattle.form2000.proofs.object_kind.Lts as lts
+use Rattle.form2000.proofs.is_report.Reads as is-report-reads
+
+is-report-requires : tie.Need-is-report-requires
+is-report-requires c κs = search needs
+
+returns : tie.Need-returns
+unfolding objectPlace
+returns c = sym (ap (λ (b : Bool). cond b 1 0) (sym (c .before .is-report .ensures) ∙ c .if1 .taken))
+
+returns-2 : tie.Need-returns-2
+unfolding objectPlace
+returns-2 c = sym (ap (λ (b : Bool). cond b 1 0) (sym (c .before .is-report .ensures) ∙ c .if1 .left))
+
+pub object-kind-spec : {M : Type 1} → statement M
+object-kind-spec = tie.close (tie.spec is-report-requires returns returns-2)

@@ -1,0 +1,84 @@
+use native.Mathlib.Omega.{arith}
+use borrow.Author.Needs.{needs}
+use mathlib.Core.Path.{_≡_, refl, _∙_}
+use lib.ListN.{length}
+use Rattle.rules.specs.Tree.{levels}
+use Rattle.rules.specs.Access2000.{entriesAt}
+use Rattle.rows.specs.Writing.{state}
+use Rattle.form2000.specs.Acts.{topNodes}
+use Rattle.form2000.proofs.Remains.{Remain, remain-start, top-all, top-over, top-entry, top-more}
+use Rattle.form2000.proofs.put_top.Statement.{statement}
+use Rattle.form2000.proofs.put_top.Tie as tie
+use Rattle.form2000.proofs.put_top.Reads as reads
+use Rattle.form2000.proofs.put_top.Lts as lts
+use Rattle.form2000.proofs.put_entry.Reads as put-entry-reads
+use Rattle.form2000.proofs.skip.Reads as skip-reads
+
+abbrev Inv-loop : tie.InvT-loop
+Inv-loop table s at n controls₀ c rows₀ p pos₀ k₀ i₀ j₀ controls rows pos k i j = Remain table s (topNodes (entriesAt levels s k pos)) (topNodes (entriesAt levels s n at)) (state controls₀ c rows₀ p) (state controls i rows j) × (length controls ≡ length controls₀) × (length rows ≡ length rows₀)
+
+abbrev μ-loop : tie.MeasureT-loop
+μ-loop table s at n controls₀ c rows₀ p pos₀ k₀ i₀ j₀ controls rows pos k i j = k
+
+loop-holds : tie.Need-loop-holds Inv-loop μ-loop
+loop-holds c = (remain-start _ _ _ _ _ refl (c .before .before .before .before .pre), refl, refl)
+
+skip-requires : tie.Need-skip-requires Inv-loop μ-loop
+skip-requires c κs = search needs
+
+enum-known-next : tie.Need-enum-known-next Inv-loop μ-loop
+enum-known-next c = search needs
+
+sub-k : tie.Need-sub-k Inv-loop μ-loop
+sub-k c = omega (arith, c .before .before .before .before .loop-test .taken)
+
+loop-less : tie.Need-loop-less Inv-loop μ-loop
+loop-less c = omega (arith, c .before .before .before .before .loop-test .taken)
+
+loop-again : tie.Need-loop-again Inv-loop μ-loop
+loop-again c = (top-over _ _ (c .before .before .before .before .before .loop .k) (c .before .before .before .before .before .loop .pos) _ _ _ (c .before .before .before .before .before .loop .inv .0) (c .before .before .before .before .loop-test .taken) _ (c .before .before .before .skip .ensures) _ (c .before .next .given .1), c .before .before .before .before .before .loop .inv .1, c .before .before .before .before .before .loop .inv .2)
+
+enum-told : tie.Need-enum-told Inv-loop μ-loop
+enum-told c = search needs
+
+put-entry-requires : tie.Need-put-entry-requires Inv-loop μ-loop
+put-entry-requires c κs = top-entry _ _ (c .before .before .before .before .before .before .loop .k) (c .before .before .before .before .before .before .loop .pos) _ _ _ (c .before .before .before .before .before .before .loop .inv .0) (c .before .before .before .before .before .loop-test .taken) _ (c .before .before .before .before .skip .ensures) (c .before .before .enum-told .given .1)
+
+sub-k-2 : tie.Need-sub-k-2 Inv-loop μ-loop
+sub-k-2 c = omega (arith, c .before .before .before .before .before .before .before .before .before .before .loop-test .taken)
+
+loop-less-2 : tie.Need-loop-less-2 Inv-loop μ-loop
+loop-less-2 c = omega (arith, c .before .before .before .before .before .before .before .before .before .before .loop-test .taken)
+
+loop-again-2 : tie.Need-loop-again-2 Inv-loop μ-loop
+loop-again-2 c = (top-more _ _ (c .before .before .before .before .before .before .before .before .before .before .before .loop .k) (c .before .before .before .before .before .before .before .before .before .before .before .loop .pos) _ _ _ (c .before .before .before .before .before .before .before .before .before .before .before .loop .inv .0) (c .before .before .before .before .before .before .before .before .before .before .loop-test .taken) _ (c .before .before .before .before .before .before .before .before .before .skip .ensures) (c .before .before .before .before .before .before .before .enum-told .given .1) _ _ (c .before .before .before .before .put-entry .ensures), c .before .before .before .before .put-entry .kept .1 .1 .1 .1 .0 ∙ c .before .before .before .before .before .before .before .before .before .before .before .loop .inv .1, c .before .before .before .before .put-entry .kept .1 .1 .1 .1 .1 .1 .0 ∙ c .before .before .before .before .before .before .before .before .before .before .before .loop .inv .2)
+
+same-length : tie.Need-same-length Inv-loop μ-loop
+same-length c = c .before .loop .inv .1
+
+same-length-2 : tie.Need-same-length-2 Inv-loop μ-loop
+same-length-2 c = c .before .loop .inv .2
+
+returns : tie.Need-returns Inv-loop μ-loop
+returns c = top-all _ _ (c .before .loop .k) (c .before .loop .pos) _ _ _ (c .before .loop .inv .0) (c .loop-test .left)
+
+pub put-top-spec : {M : Type 1} → statement M
+put-top-spec =
+    tie.close
+    (tie.spec
+    Inv-loop
+    μ-loop
+    loop-holds
+    skip-requires
+    enum-known-next
+    sub-k
+    loop-less
+    loop-again
+    enum-told
+    put-entry-requires
+    sub-k-2
+    loop-less-2
+    loop-again-2
+    same-length
+    same-length-2
+    returns)

@@ -1,0 +1,2 @@
+pub mod SharedActs
+pub mod Acts
