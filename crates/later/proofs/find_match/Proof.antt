@@ -1,0 +1,50 @@
+use native.Mathlib.Omega.{arith}
+use borrow.Author.Needs.{needs}
+use mathlib.Core.Path.{_≡_, refl, sym, ap, _∙_}
+use Prim.Native.Nat.{_+_, _-_, _≤_}
+use lib.ListN.{length}
+use Rattle.rules.specs.Later.{matchesFrom}
+use Rattle.later.proofs.MatchLaws.{match-on}
+use Rattle.later.proofs.find_match.Statement.{statement}
+use Rattle.later.proofs.find_match.Tie as tie
+
+abbrev Inv-loop : tie.InvT-loop
+Inv-loop s from p₀ p = (from ≤ p) × (p ≤ length s) × (matchesFrom s from ≡ matchesFrom s p)
+
+abbrev μ-loop : tie.MeasureT-loop
+μ-loop s from p₀ p = length s - p
+
+loop-holds : tie.Need-loop-holds Inv-loop μ-loop
+loop-holds c = (omega arith, omega arith, refl)
+
+match-at-requires : tie.Need-match-at-requires Inv-loop μ-loop
+match-at-requires c κs = search needs
+
+returns : tie.Need-returns Inv-loop μ-loop
+returns c = record { same = c .before .before .before .loop .inv .2; behind = omega arith; within = omega arith; here = λ _. sym (c .before .match-at .ensures) ∙ c .if1 .taken }
+
+add-p : tie.Need-add-p Inv-loop μ-loop
+add-p c = omega arith
+
+loop-less : tie.Need-loop-less Inv-loop μ-loop
+loop-less c = omega arith
+
+loop-again : tie.Need-loop-again Inv-loop μ-loop
+loop-again c = (omega arith, omega arith, c .before .before .before .loop .inv .2 ∙ match-on _ _ (sym (c .before .match-at .ensures) ∙ c .if1 .left))
+
+returns-2 : tie.Need-returns-2 Inv-loop μ-loop
+returns-2 c = record { same = c .before .loop .inv .2; behind = omega arith; within = omega arith; here = λ h. absurd (omega arith) }
+
+pub find-match-spec : {M : Type 1} → statement M
+find-match-spec =
+    tie.close
+    (tie.spec
+    Inv-loop
+    μ-loop
+    loop-holds
+    match-at-requires
+    returns
+    add-p
+    loop-less
+    loop-again
+    returns-2)
