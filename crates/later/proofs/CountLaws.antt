@@ -54,20 +54,28 @@ pub tops-grow : (d : ℕ) (s : List ℕ) (n p : ℕ) → Every (Grown p) (top (n
 tops-grow d s n p = top-grown p (nodesAt d s n p) (nodes-grow d s n p)
 
 -- ---- the tree that must use up the stream
-abbrev whole : List ℕ → List (Node Prop) × ℕ → Option (List (Node Prop) × ℕ)
+abbrev pub whole : List ℕ → List (Node Prop) × ℕ → Option (List (Node Prop) × ℕ)
 whole s y = cond (eqb (y .1) (length s)) (some y) none
 
 -- the same of entries
 abbrev full : List ℕ → Entries Prop × ℕ → Option (Entries Prop × ℕ)
 full s x = cond (eqb (x .1) (length s)) (some (x .0, x .1)) none
 
-abbrev entriesIn : Option (Entries Prop × ℕ) → Option (Entries Prop)
+abbrev pub entriesIn : Option (Entries Prop × ℕ) → Option (Entries Prop)
 entriesIn none = none
 entriesIn (some x) = some (x .0)
 
 top-cond : (b : Bool) (x : Entries Prop × ℕ) → top (cond b (some x) none) ≡ cond b (some (nodesOf (x .0), x .1)) none
 top-cond true x = refl
 top-cond false x = refl
+
+pub whole-by : (s : List ℕ) (t p n q : ℕ) → childrenAt s t p ≡ some (n, q) → top (wholeTree s t p) ≡ (top (nodesAt 256 s n q) >>= whole s)
+unfolding wholeTree
+whole-by s t p n q e = rw e (go (nodesAt 256 s n q))
+  where
+    go : (o : Option (Entries Prop × ℕ)) → top (o >>= full s) ≡ (top o >>= whole s)
+    go none = refl
+    go (some x) = top-cond (eqb (x .1) (length s)) x
 
 module _ (s : List ℕ) (t p : ℕ) (u : Children) (ue : u ≡ children (childrenAt s t p)) where
   pub tree-bad : u ≡ Children.Bad → Part.Bad ≡ part (top (wholeTree s t p))
@@ -76,12 +84,7 @@ module _ (s : List ℕ) (t p : ℕ) (u : Children) (ue : u ≡ children (childre
 
   module _ (n q : ℕ) (uk : u ≡ Children.Of n q) (v : Part) (ve : v ≡ part (top (nodesAt 256 s n q))) where
     whole-is : top (wholeTree s t p) ≡ (top (nodesAt 256 s n q) >>= whole s)
-    unfolding wholeTree
-    whole-is = rw (children-of (childrenAt s t p) u n q ue uk) (go (nodesAt 256 s n q))
-      where
-        go : (o : Option (Entries Prop × ℕ)) → top (o >>= full s) ≡ (top o >>= whole s)
-        go none = refl
-        go (some x) = top-cond (eqb (x .1) (length s)) x
+    whole-is = whole-by s t p n q (children-of (childrenAt s t p) u n q ue uk)
 
     pub tree-none : v ≡ Part.Bad → Part.Bad ≡ part (top (wholeTree s t p))
     tree-none vk = sym (ap part (whole-is ∙ ap (λ o. o >>= whole s) (part-bad (top (nodesAt 256 s n q)) v ve vk)))

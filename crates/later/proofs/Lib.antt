@@ -8,3 +8,7 @@ pub mod NodeLaws
 pub mod LoopLaws
 pub mod ScanLaws
 pub mod CountLaws
+pub mod WriteGroupLaws
+pub mod RemainLaws
+pub mod WriteNodeLaws
+pub mod ReadLaws

@@ -49,6 +49,17 @@ item-outside s limit p r re rk = go (isInside s limit p) (sym rk ∙ re)
     go true h = absurd (let z : _≡_ {A = ℕ} 0 1 = cc in omega arith)
     go false h = refl
 
+-- a group has a property where its first one is whole
+pub props-some : (s : List ℕ) (limit p : ℕ) → limit ≤ length s → isInside s limit p ≡ true → 1 ≤ length (groupAt s limit p .props)
+props-some s limit p h t = go (endsGroup (trailerAt s p)) refl
+  where
+    go : (b : Bool) → endsGroup (trailerAt s p) ≡ b → 1 ≤ length (groupAt s limit p .props)
+    go true b = omega (arith, ap (λ g. length (g .props)) (group-last s limit p h t b))
+    go false b = omega (arith, ap (λ g. length (g .props)) (group-more s limit p h t b))
+
+pub props-none : (s : List ℕ) (limit p : ℕ) → limit ≤ length s → isInside s limit p ≡ false → length (groupAt s limit p .props) ≤ 0
+props-none s limit p h t = omega (arith, ap (λ g. length (g .props)) (group-none s limit p h t))
+
 -- ---- n properties more than the answer says
 abbrev pub addGroup : ℕ → Group → Group
 addGroup n (Group.Unended c st) = Group.Unended (n + c) st

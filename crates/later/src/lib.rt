@@ -1,14 +1,29 @@
 // The later layout: streams counted, then written as rows.
+use leaf::entry_value;
 use leaf::u16_at;
 use leaf::u32_at;
+use rows::ControlRow;
+use rows::put_control;
+use rows::put_property;
+use rules::Answer;
+use rules::Name;
+use rules::Property;
+use text::label_length;
 ghost use mathlib.Core.Path.{_≡_};
+ghost use mathlib.Core.List.{[], _∷_, _++_};
 ghost use Prim.Native.Nat.{_+_, _≤_};
 ghost use lib.ListN.{length};
-ghost use Rattle.rules.specs.Later.{endsGroup, groupAt, childrenAt, nodesAt, matchAt, scanFrom};
+ghost use Rattle.rules.specs.Answer.{answer, longest};
+ghost use Rattle.rules.specs.Later.{endsGroup, propertyAt, groupAt, childrenAt, nodesAt, matchAt};
+ghost use Rattle.rules.specs.ReadLater.{propertyOf, nameBy};
+ghost use Rattle.rules.specs.Reading.{nameWords};
 ghost use Rattle.rules.specs.Tree.{isSection};
-ghost use Rattle.rows.specs.Counting.{propsIn};
+ghost use Rattle.rules.specs.declared.Name.the-variants.{Numbered};
+ghost use Rattle.rows.specs.Put.{controlWords};
+ghost use Rattle.rows.specs.Writing.{state};
 ghost use Rattle.later.specs.Flat.{flat1, flat, top};
 ghost use Rattle.later.specs.Count.{item, group, children, part, oneNode, section, wholeTree, NextMatch, ScanCounted, CountedBy, Counted};
+ghost use Rattle.later.specs.Write.{orName, firstName, PropertyInside, GroupReady, GroupDone, ControlReady, ControlDone, NodesReady, NodesDone, scanned, ScanReady, BlobReady, BlobDone, Ended};
 
 // ---- properties and groups
 pub enum Item {
@@ -423,4 +438,412 @@ fn count(s: &[u8]) -> Counts
             },
         },
     }
+}
+
+// ---- writing
+// A control's name, where a property has told it.
+pub enum Named {
+    Not,
+    As(Name),
+}
+
+// What was written of a group; the trailer is 0 where none ended it.
+pub struct Wrote {
+    pub count: usize,
+    pub stop: usize,
+    pub trailer: u32,
+    pub name: Name,
+}
+
+// The place behind what was written, and the rows behind it.
+pub struct Next {
+    pub at: usize,
+    pub control: usize,
+    pub property: usize,
+}
+
+// The property at `at`, whose value has `size` bytes.
+fn property_at(s: &[u8], at: usize, size: usize) -> Property
+    requires { ⌜ PropertyInside (now s) at size ⌝ }
+    ensures { λ r. ⌜ r ≡ propertyOf (now (s .entry)) (propertyAt (now (s .entry)) at) ⌝ }
+{
+    let start = at + 14;
+    let end = start + size;
+    let value = entry_value(u32_at(s, at + 2), &s[start..end]);
+    Property {
+        id: u16_at(s, at) as u32,
+        value,
+        start: start as u32,
+        size: size as u32,
+    }
+}
+
+fn name_by(q: Property) -> Name
+    ensures { λ r. ⌜ r ≡ nameBy q ⌝ }
+{
+    let v = q.value;
+    if v.mark == 6 {
+        return Name::Text {
+            start: q.start,
+            size: q.size,
+        };
+    }
+    if v.mark == 8 {
+        return Name::Loose {
+            start: q.start,
+            size: q.size,
+        };
+    }
+    Name::Numbered
+}
+
+// The first property 0x0014 tells the name.
+fn first_name(known: Named, q: Property) -> Named
+    ensures { λ r. ⌜ r ≡ firstName known q ⌝ }
+{
+    match known {
+        Named::As(name) => Named::As(name),
+        Named::Not => {
+            if q.id == 0x14 {
+                Named::As(name_by(q))
+            } else {
+                Named::Not
+            }
+        }
+    }
+}
+
+fn name_or_number(known: Named) -> Name
+    ensures { λ r. ⌜ r ≡ orName known Numbered ⌝ }
+{
+    match known {
+        Named::As(name) => name,
+        Named::Not => Name::Numbered,
+    }
+}
+
+// Writes a row for each property of the group at `at`, from row `first` on.
+fn write_group(s: &[u8], limit: usize, at: usize, rows: &mut [u32], first: usize) -> Wrote
+    requires { ⌜ GroupReady (now s) limit at (length (now rows)) first ⌝ }
+    ensures { λ r. ⌜ GroupDone (now (s .entry)) limit at (now (rows .entry)) first (now (rows .exit)) r ⌝ }
+{
+    let mut p = at;
+    let mut n = first;
+    let mut known = Named::Not;
+    loop {
+        match parse_entry(s, limit, p) {
+            Item::Outside => {
+                let name = name_or_number(known);
+                return Wrote {
+                    count: n - first,
+                    stop: p,
+                    trailer: 0,
+                    name,
+                };
+            }
+            Item::Inside {
+                size,
+                next,
+                trailer,
+            } => {
+                let q = property_at(s, p, size);
+                known = first_name(known, q);
+                put_property(rows, n, q);
+                n = n + 1;
+                p = next;
+                if ends_group(trailer) {
+                    let name = name_or_number(known);
+                    return Wrote {
+                        count: n - first,
+                        stop: p,
+                        trailer,
+                        name,
+                    };
+                }
+            }
+        }
+    }
+}
+
+// The row of the control `number`, whose properties start in row `first`.
+fn control_row(kind: u16, name: Name, number: usize, first: usize, count: usize) -> ControlRow
+    requires { ⌜ (number ≤ longest) × (first ≤ longest) × (count ≤ longest) ⌝ }
+    ensures { λ r. ⌜ controlWords r ≡ kind ∷ nameWords number name ++ (first ∷ count ∷ []) ⌝ }
+{
+    let n = number as u32;
+    match name {
+        Name::Text { start, size } => ControlRow {
+            type_code: kind as u32,
+            mark: 0,
+            start,
+            size,
+            first: first as u32,
+            count: count as u32,
+        },
+        Name::Numbered => ControlRow {
+            type_code: kind as u32,
+            mark: 1,
+            start: n,
+            size: label_length(n),
+            first: first as u32,
+            count: count as u32,
+        },
+        Name::Loose { start, size } => ControlRow {
+            type_code: kind as u32,
+            mark: 2,
+            start,
+            size,
+            first: first as u32,
+            count: count as u32,
+        },
+    }
+}
+
+// Writes the group at `at` and its control's row.
+fn write_control(
+    s: &[u8],
+    kind: u16,
+    limit: usize,
+    at: usize,
+    controls: &mut [u32],
+    control: usize,
+    properties: &mut [u32],
+    property: usize,
+) -> Wrote
+    requires { ⌜ ControlReady (now s) kind limit at (state (now controls) control (now properties) property) ⌝ }
+    ensures { λ r. ⌜ ControlDone (now (s .entry)) kind limit at (state (now (controls .entry)) control (now (properties .entry)) property) (now (controls .exit)) (now (properties .exit)) r ⌝ }
+{
+    let w = write_group(s, limit, at, properties, property);
+    let name = w.name;
+    put_control(
+        controls,
+        control,
+        control_row(kind, name, control, property, w.count),
+    );
+    w
+}
+
+// Writes the node at `at` and all below it, where `left` levels are left below it.
+fn write_node(
+    s: &[u8],
+    at: usize,
+    left: usize,
+    controls: &mut [u32],
+    control: usize,
+    properties: &mut [u32],
+    property: usize,
+) -> Next
+    requires { ⌜ NodesReady (now s) (flat1 (oneNode left (now s) at)) (state (now controls) control (now properties) property) ⌝ }
+    ensures { λ r. ⌜ NodesDone (now (s .entry)) (flat1 (oneNode left (now (s .entry)) at)) (state (now (controls .entry)) control (now (properties .entry)) property) (state (now (controls .exit)) (r .control) (now (properties .exit)) (r .property)) (r .at) ⌝ }
+{
+    let kind = u16_at(s, at);
+    let w = write_control(
+        s,
+        kind,
+        s.len(),
+        at + 6,
+        controls,
+        control,
+        properties,
+        property,
+    );
+    match children_at(s, w.trailer, w.stop) {
+        Children::Bad => Next {
+            at,
+            control,
+            property,
+        },
+        Children::Of { count, next } => write_nodes(
+            s,
+            count,
+            next,
+            left,
+            controls,
+            control + 1,
+            properties,
+            property + w.count,
+        ),
+    }
+}
+
+// Writes `n` nodes from `at` on, with `left` levels left.
+fn write_nodes(
+    s: &[u8],
+    n: usize,
+    at: usize,
+    left: usize,
+    controls: &mut [u32],
+    control: usize,
+    properties: &mut [u32],
+    property: usize,
+) -> Next
+    requires { ⌜ NodesReady (now s) (flat (nodesAt left (now s) n at)) (state (now controls) control (now properties) property) ⌝ }
+    ensures { λ r. ⌜ NodesDone (now (s .entry)) (flat (nodesAt left (now (s .entry)) n at)) (state (now (controls .entry)) control (now (properties .entry)) property) (state (now (controls .exit)) (r .control) (now (properties .exit)) (r .property)) (r .at) ⌝ }
+{
+    let mut p = at;
+    let mut k = n;
+    let mut i = control;
+    let mut j = property;
+    while 0 < k {
+        let next = write_node(s, p, left - 1, controls, i, properties, j);
+        p = next.at;
+        i = next.control;
+        j = next.property;
+        k = k - 1;
+    }
+    Next {
+        at: p,
+        control: i,
+        property: j,
+    }
+}
+
+// Writes the reported of the `n` top nodes from `at` on, with all below them.
+fn write_sections(
+    s: &[u8],
+    n: usize,
+    at: usize,
+    controls: &mut [u32],
+    properties: &mut [u32],
+    property: usize,
+) -> Next
+    requires { ⌜ NodesReady (now s) (top (nodesAt 256 (now s) n at)) (state (now controls) 0 (now properties) property) ⌝ }
+    ensures { λ r. ⌜ NodesDone (now (s .entry)) (top (nodesAt 256 (now (s .entry)) n at)) (state (now (controls .entry)) 0 (now (properties .entry)) property) (state (now (controls .exit)) (r .control) (now (properties .exit)) (r .property)) (r .at) ⌝ }
+{
+    let mut p = at;
+    let mut k = n;
+    let mut i: usize = 0;
+    let mut j = property;
+    while 0 < k {
+        match section_at(s, p) {
+            Section::Left { next } => {
+                p = next;
+                k = k - 1;
+            }
+            Section::Kept => {
+                let next = write_node(s, p, 255, controls, i, properties, j);
+                p = next.at;
+                i = next.control;
+                j = next.property;
+                k = k - 1;
+            }
+        }
+    }
+    Next {
+        at: p,
+        control: i,
+        property: j,
+    }
+}
+
+// Writes what the scan from `from` on finds.
+fn write_scanned(
+    s: &[u8],
+    from: usize,
+    controls: &mut [u32],
+    properties: &mut [u32],
+    property: usize,
+) -> Next
+    requires { ⌜ ScanReady (now s) from (state (now controls) 0 (now properties) property) ⌝ }
+    ensures { λ r. ⌜ NodesDone (now (s .entry)) (scanned (now (s .entry)) from) (state (now (controls .entry)) 0 (now (properties .entry)) property) (state (now (controls .exit)) (r .control) (now (properties .exit)) (r .property)) (r .at) ⌝ }
+{
+    let mut a = find_match(s, from);
+    let mut i: usize = 0;
+    let mut j = property;
+    while a < s.len() {
+        let b = find_match(s, a + 6);
+        match parse_entry(s, b, a) {
+            Item::Outside => {
+                a = b;
+            }
+            Item::Inside {
+                size: _,
+                next: _,
+                trailer: _,
+            } => {
+                let w = write_control(s, 0, b, a, controls, i, properties, j);
+                i = i + 1;
+                j = j + w.count;
+                a = b;
+            }
+        }
+    }
+    Next {
+        at: a,
+        control: i,
+        property: j,
+    }
+}
+
+// Writes the tree behind the object's group, which ended by `trailer` at `at`.
+fn write_tree(
+    s: &[u8],
+    trailer: u32,
+    at: usize,
+    controls: &mut [u32],
+    properties: &mut [u32],
+    property: usize,
+) -> Next
+    requires { ⌜ NodesReady (now s) (top (wholeTree (now s) trailer at)) (state (now controls) 0 (now properties) property) ⌝ }
+    ensures { λ r. ⌜ NodesDone (now (s .entry)) (top (wholeTree (now (s .entry)) trailer at)) (state (now (controls .entry)) 0 (now (properties .entry)) property) (state (now (controls .exit)) (r .control) (now (properties .exit)) (r .property)) (r .at) ⌝ }
+{
+    match children_at(s, trailer, at) {
+        Children::Bad => Next {
+            at,
+            control: 0,
+            property,
+        },
+        Children::Of { count, next } => {
+            write_sections(s, count, next, controls, properties, property)
+        }
+    }
+}
+
+// Writes a stream of 14 bytes or more: the object's properties, then its controls.
+fn write_blob(s: &[u8], tree: bool, controls: &mut [u32], properties: &mut [u32])
+    requires { ⌜ BlobReady (now s) tree (now controls) (now properties) ⌝ }
+    ensures { λ _. ⌜ BlobDone (now (s .entry)) (now (controls .entry)) (now (properties .entry)) (now (controls .exit)) (now (properties .exit)) ⌝ }
+{
+    let w = write_group(s, s.len(), 14, properties, 0);
+    if tree {
+        write_tree(s, w.trailer, w.stop, controls, properties, w.count);
+    } else {
+        write_scanned(s, w.stop, controls, properties, w.count);
+    }
+}
+
+fn counted(number: u32, n: Counts) -> Answer
+    requires { ⌜ n .own + n .controls + n .props ≤ longest ⌝ }
+    ensures { λ r. ⌜ r ≡ answer number (n .controls) (n .own + n .props) (n .own) ⌝ }
+{
+    Answer {
+        number,
+        first: n.controls as u32,
+        second: (n.own + n.props) as u32,
+        third: n.own as u32,
+    }
+}
+
+// Counts a stream, then writes its rows if there is room for them.
+pub fn read(stream: &[u8], controls: &mut [u32], properties: &mut [u32]) -> Answer
+    requires { ⌜ length (now stream) ≤ longest ⌝ }
+    ensures { λ r. ⌜ Ended (now (stream .entry)) (now (controls .entry)) (now (properties .entry)) r (now (controls .exit)) (now (properties .exit)) ⌝ }
+{
+    if stream.len() < 14 {
+        return Answer {
+            number: 0,
+            first: 0,
+            second: 0,
+            third: 0,
+        };
+    }
+    let n = count(stream);
+    if controls.len() / 6 < n.controls {
+        return counted(6, n);
+    }
+    if properties.len() / 6 < n.own + n.props {
+        return counted(7, n);
+    }
+    write_blob(stream, n.tree, controls, properties);
+    counted(0, n)
 }
