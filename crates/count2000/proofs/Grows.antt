@@ -1,12 +1,10 @@
 -- What is read takes a byte for each entry and each property, or more.
 use Prim.Native.Nat.{ℕ, zero, suc, _+_, _≤_, _<_}
 use native.Mathlib.Omega.{arith}
-use mathlib.Core.Path.{_≡_, refl}
-use mathlib.Core.Bool.{Bool, true, false}
-use mathlib.Core.List.{List, [], _∷_}
+use mathlib.Core.List.{List}
 use mathlib.Core.Option.{Option, none, some}
-use lib.ListN.{length, getD}
-use lib.Dec.{ltb, leb, eqb}
+use lib.ListN.{length}
+use lib.Dec.{ltb, eqb}
 use borrow.Author.Tests.{ltb-true}
 use Rattle.rules.specs.Lists.{_>>=_}
 use Rattle.rules.specs.Bytes.{byteAt, halfAt}

@@ -12,7 +12,7 @@ use Rattle.rules.specs.Bytes.{halfAt}
 use Rattle.rules.specs.Tree.{Entry, Entries, end, more, isSection}
 use Rattle.rules.specs.Access2000.{Prop, runAt, headAt, closeAt, entryAt, entriesAt}
 use Rattle.rules.proofs.ListLaws.{every-at}
-use Rattle.rows.specs.Counting.{size, size1, props, props1}
+use Rattle.rows.specs.Counting.{size1, props1}
 use Rattle.count2000.specs.Told as told
 use Rattle.count2000.specs.declared.Word.{Word}
 use Rattle.count2000.specs.declared.Run.{Run}

@@ -8,25 +8,25 @@ use mathlib.Core.Option.{Option, none, some}
 use lib.Dec.{ltb}
 use lib.ListN.{length, length-map}
 use borrow.Author.Tests.{ltb-true}
-use Rattle.rules.specs.Lists.{_>>=_, find}
+use Rattle.rules.specs.Lists.{_>>=_}
 use Rattle.rules.specs.Bytes.{byte, u16, byteAt, halfAt}
 use Rattle.rules.specs.Answer.{longest}
-use Rattle.rules.specs.CodeTable.{header, wellFormed, scopeRows, rowOf}
+use Rattle.rules.specs.CodeTable.{header, rowOf}
 use Rattle.rules.specs.Tree.{Node, node}
 use Rattle.rules.specs.Access2000.{Prop, runAt}
 use Rattle.rules.specs.Reading.{nameWords, controlRow}
-use Rattle.rules.specs.Rows.{controlWidth, propertyWidth}
-use Rattle.rules.specs.Read2000.{Place, propertyIn, typeCode, isReport, nameId, nameOf, controlOf}
+use Rattle.rules.specs.Rows.{controlWidth}
+use Rattle.rules.specs.Read2000.{propertyIn, typeCode, isReport, nameId, nameOf, controlOf}
 use Rattle.rules.specs.declared.Name.{Name}
 use Rattle.rules.specs.declared.Property.{Property}
 use Rattle.rules.proofs.ListLaws.{Every, every-if, every-then}
 use Rattle.rows.specs.Put.{put}
-use Rattle.rows.specs.Writing.{State, state, theirs, writeControls, writeProperties}
+use Rattle.rows.specs.Writing.{State, state, theirs, writeProperties}
 use Rattle.rows.proofs.WritingLaws.{theirs-one, write-one}
 use Rattle.codetable.specs.Look.{Finds, Formed, bodyRows}
 use Rattle.codetable.specs.declared.Found.{Found}
 use Rattle.form2000.specs.SharedActs.{Held, Fit}
-use Rattle.form2000.specs.Acts.{shownIn, Ran, ran, runAct, RunFits, RunReady, RunGood, nameIn, nodeAt, stood, act, Ready}
+use Rattle.form2000.specs.Acts.{shownIn, ran, runAct, RunReady, RunGood, nameIn, nodeAt, stood, act, Ready}
 
 -- ---- two bytes
 byte-is : (s : List ℕ) (p : ℕ) → Every (λ b. (b ≡ byte s p) × (p < length s)) (byteAt s p)

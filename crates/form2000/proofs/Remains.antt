@@ -2,9 +2,8 @@
 use Prim.Native.Nat.{ℕ, zero, suc, _-_, _≤_, _<_}
 use native.Mathlib.Omega.{arith}
 use mathlib.Core.Path.{_≡_, refl, sym, ap, _∙_}
-use mathlib.Core.List.{List, [], _∷_}
-use mathlib.Core.Option.{Option, none, some}
-use lib.ListN.{length}
+use mathlib.Core.List.{List, []}
+use mathlib.Core.Option.{Option, some}
 use Rattle.rules.specs.Tree.{Entries, levels}
 use Rattle.rules.specs.Access2000.{Prop, headAt, entryAt, entriesAt}
 use Rattle.rules.specs.Read2000.{controlOf}
@@ -13,7 +12,7 @@ use Rattle.count2000.specs.Told as told
 use Rattle.count2000.specs.declared.Opens.{Opens}
 use Rattle.count2000.proofs.Inverse.{opens-plain, opens-listed, opens-bad}
 use Rattle.count2000.proofs.Lists.{entries-deep}
-use Rattle.form2000.specs.SharedActs.{Nodes, _then_, Held}
+use Rattle.form2000.specs.SharedActs.{Nodes, _then_}
 use Rattle.form2000.specs.Acts.{entryNodes, listNodes, topNodes, keptNodes, nodeAt, belowBy, belowAt, act, Ready, Skips}
 use Rattle.form2000.specs.declared.Pass.{Pass}
 use Rattle.form2000.proofs.SharedActLaws.{at-place, act-then, act-none, fit-then, fit-rest}

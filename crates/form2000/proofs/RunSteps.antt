@@ -2,10 +2,10 @@
 use Prim.Native.Nat.{ℕ, _+_, _*_, _≤_}
 use native.Mathlib.Omega.{arith}
 use mathlib.Core.Path.{_≡_, refl, sym, ap, _∙_}
-use mathlib.Core.Bool.{Bool, true, false, cond}
+use mathlib.Core.Bool.{true, false}
 use mathlib.Core.List.{List, [], _∷_, map}
 use mathlib.Core.Option.{Option, none, some}
-use lib.Dec.{leb, eqb}
+use lib.Dec.{leb}
 use lib.ListN.{length}
 use borrow.Author.Tests.{eq-eqb, ne-eqb}
 use Rattle.rules.specs.Lists.{_>>=_, find}
@@ -13,19 +13,17 @@ use Rattle.rules.specs.Bytes.{byte}
 use Rattle.rules.specs.Rows.{propertyWidth}
 use Rattle.rules.specs.Access2000.{Prop, extentAt, propertyAt, goesOn, runAt}
 use Rattle.rules.specs.Reading.{propertyRow}
-use Rattle.rules.specs.Read2000.{nameBy}
 use Rattle.rules.specs.declared.Name.{Name}
 use Rattle.rules.specs.declared.Property.{Property}
 use Rattle.rules.proofs.ListLaws.{Every, every-if, every-when}
 use Rattle.rules.proofs.Access2000Laws.{after, run-step}
 use Rattle.rows.specs.Put.{put}
-use Rattle.rows.specs.Writing.{writeProperties}
 use Rattle.rows.proofs.PutLaws.{put-length}
 use Rattle.rows.proofs.WritingLaws.{properties-none, properties-more}
 use Rattle.count2000.specs.Told as told
 use Rattle.count2000.specs.declared.Spot.{Spot}
 use Rattle.form2000.specs.SharedActs.{Held}
-use Rattle.form2000.specs.Acts.{prop, Ran, ran, runAct, RunFits, nameAt, nameIn}
+use Rattle.form2000.specs.Acts.{prop, ran, runAct, RunFits, nameAt, nameIn}
 
 property-id : (s : List ℕ) (p : ℕ) → Every (λ q. q .id ≡ byte s p) (propertyAt s p)
 unfolding propertyAt

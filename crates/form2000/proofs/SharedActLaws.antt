@@ -1,17 +1,15 @@
 -- Nodes written in several goes, whatever the layout.
-use Prim.Native.Nat.{ℕ, _+_, _*_, _≤_}
+use Prim.Native.Nat.{ℕ, _+_}
 use native.Mathlib.Omega.{arith}
 use mathlib.Core.Path.{_≡_, refl, sym, ap, _∙_}
-use mathlib.Core.List.{List, [], _∷_, _++_, map}
+use mathlib.Core.List.{List, [], _++_, map}
 use mathlib.Core.Option.{Option, none, some}
 use lib.ListN.{length, length-append}
 use Rattle.rules.specs.Lists.{_>>=_}
-use Rattle.rules.specs.Answer.{longest}
-use Rattle.rules.specs.Rows.{controlWidth, propertyWidth}
 use Rattle.rules.specs.Tree.{Node}
 use Rattle.rules.specs.Reading.{Control}
 use Rattle.rules.proofs.ListLaws.{map-append}
-use Rattle.rows.specs.Writing.{State, theirs, writeControls, Room}
+use Rattle.rows.specs.Writing.{State, theirs, writeControls}
 use Rattle.rows.proofs.WritingLaws.{theirs-append, write-append, write-lengths, write-none}
 use Rattle.form2000.specs.SharedActs.{Nodes, _then_, Held, Fit, Stood, actBy}
 

@@ -1,7 +1,7 @@
 -- A property, a name and a type code as they are shown.
 use Prim.Native.Nat.{ℕ, _+_}
 use native.Mathlib.Omega.{arith}
-use mathlib.Core.Path.{_≡_, refl, sym, ap, _∙_}
+use mathlib.Core.Path.{_≡_, sym, ap, _∙_}
 use mathlib.Core.Bool.{Bool, true, false, cond}
 use mathlib.Core.List.{List, [], _∷_, _++_}
 use mathlib.Core.Option.{Option, none, some}
@@ -17,7 +17,6 @@ use Rattle.rules.specs.Reading.{nameWords}
 use Rattle.rules.specs.Read2000.{property, shown, typeCode}
 use Rattle.rules.specs.declared.Name.{Name}
 use Rattle.rules.specs.declared.Value.{Value}
-use Rattle.rules.specs.declared.Property.{Property}
 use Rattle.codetable.specs.Look.{asRow}
 use Rattle.codetable.specs.declared.Row.{Row}
 use Rattle.form2000.specs.Acts.{prop, shownIn, nameAt}

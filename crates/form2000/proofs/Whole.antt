@@ -1,27 +1,27 @@
 -- The whole stream: its counts are those of the reading, and its rows are written in two goes.
-use Prim.Native.Nat.{ℕ, _+_, _*_, _/_, _≤_, _<_}
+use Prim.Native.Nat.{ℕ, _+_, _*_, _≤_, _<_}
 use native.Mathlib.Omega.{arith}
 use mathlib.Core.Path.{_≡_, refl, sym, ap, _∙_}
-use mathlib.Core.Bool.{Bool, true, false, cond}
-use mathlib.Core.List.{List, [], _∷_, _++_, map}
+use mathlib.Core.Bool.{true, false}
+use mathlib.Core.List.{List, map}
 use mathlib.Core.Option.{Option, none, some}
 use lib.Dec.{ltb, eqb}
 use lib.ListN.{length, length-append, length-map}
 use borrow.Author.Tests.{eqb-true, lt-ltb, le-ltb}
 use Rattle.rules.specs.Lists.{concat}
-use Rattle.rules.specs.Answer.{longest, moreControls, moreProperties, noReading, refusal}
+use Rattle.rules.specs.Answer.{longest, moreControls, moreProperties, noReading}
 use Rattle.rules.specs.CodeTable.{wellFormed}
 use Rattle.rules.specs.Tree.{Entries, reported, nodesOf, levels}
 use Rattle.rules.specs.Access2000.{Prop, runAt, headAt, entriesAt, streamOf}
-use Rattle.rules.specs.Reading.{Reading, properties, propertiesOf, controlRows, propertyRows}
+use Rattle.rules.specs.Reading.{properties, propertiesOf, controlRows, propertyRows}
 use Rattle.rules.specs.Rows.{controlWidth, propertyWidth, room, written}
 use Rattle.rules.specs.Read2000.{objectPlace, propertyIn, controlOf, read2000}
-use Rattle.rules.specs.Blob.{Outcome, fit, readBy, exitBy, counted}
+use Rattle.rules.specs.Blob.{fit, readBy, exitBy, counted}
 use Rattle.rules.specs.declared.Answer.{Answer}
 use Rattle.rules.proofs.ListLaws.{none-some, Every, every-if, every-when, every-at}
 use Rattle.rules.proofs.Read2000Laws.{controls-many, own-many}
-use Rattle.rows.specs.Counting.{size, props, propsIn}
-use Rattle.rows.specs.Writing.{State, state, theirs, writeControls, writeProperties}
+use Rattle.rows.specs.Counting.{size, props}
+use Rattle.rows.specs.Writing.{state, theirs, writeControls, writeProperties}
 use Rattle.rows.proofs.CountingLaws as counting
 use Rattle.rows.proofs.WritingLaws.{properties-length, reading-written}
 use Rattle.codetable.specs.Look.{Finds, bodyRows}
@@ -34,7 +34,6 @@ use Rattle.count2000.proofs.SharedTree.{EntriesGrow, fewer}
 use Rattle.count2000.proofs.Grows.{run-grows, head-grows, entries-grow}
 use Rattle.form2000.specs.SharedActs.{Held, Stood}
 use Rattle.form2000.specs.Acts.{answer, shownIn, ran, runAct, RunReady, topNodes, stood, act, Ready, Roomy, StreamReady, StreamDone, exited, outcome}
-use Rattle.form2000.proofs.SharedActLaws.{held-some, held-none}
 use Rattle.form2000.proofs.NodeLaws.{RunOf, run-written, shown-same}
 
 -- ---- the parts of a stream

@@ -1,7 +1,7 @@
 -- What the functions that write an Access 2000 reading ask and do.
 use Prim.Native.Nat.{ℕ, _+_, _*_, _≤_}
 use mathlib.Core.Path.{_≡_}
-use mathlib.Core.Bool.{Bool, true, false, cond}
+use mathlib.Core.Bool.{true, cond}
 use mathlib.Core.List.{List, [], _∷_, map}
 use mathlib.Core.Option.{Option, none, some}
 use lib.Dec.{eqb}
@@ -11,8 +11,8 @@ use Rattle.rules.specs.Bytes.{part, halfAt}
 use Rattle.rules.specs.Utf16.{isUtf16}
 use Rattle.rules.specs.Answer.{longest}
 use Rattle.rules.specs.CodeTable.{Tie, isTied, wellFormed}
-use Rattle.rules.specs.Tree.{Entry, Entries, Node, node, preorder1, isReported, levels}
-use Rattle.rules.specs.Access2000.{Prop, runAt, headAt, entryAt, entriesAt, streamOf}
+use Rattle.rules.specs.Tree.{Entry, Entries, node, preorder1, isReported}
+use Rattle.rules.specs.Access2000.{Prop, runAt, headAt, entryAt, streamOf}
 use Rattle.rules.specs.Reading.{Reading, properties, controlRows, propertyRows}
 use Rattle.rules.specs.Rows.{controlWidth, propertyWidth, room, written}
 use Rattle.rules.specs.Read2000.{shown, nameBy, controlOf, read2000}

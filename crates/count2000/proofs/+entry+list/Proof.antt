@@ -35,6 +35,10 @@ entry-at t = and 1 entry-kinds.ps (is 1 entry-kinds.ps μ-entry t) entry.Pre
 abbrev entry-below : ℕ → In 1 entry-kinds.ps
 entry-below t = and 1 entry-kinds.ps (falls 1 entry-kinds.ps _<_ μ-entry t) entry.Pre
 
+-- what each member's callees ask and tell
+abbrev list-calls : ℕ → list-lts.Claims
+list-calls t = (entry-below t, entry.Post)
+
 abbrev entry-calls : ℕ → entry-lts.Claims
 entry-calls t = (half-reads.Asked, half-reads.Learnt, props-reads.Asked, props-reads.Learnt, head-reads.Asked, head-reads.Learnt, is-section-reads.Asked, is-section-reads.Learnt, list-below t, list.Post)
 
@@ -44,43 +48,45 @@ list-Inv-loop s at n left p₀ k₀ all₀ theirs₀ p k all theirs = (at + all 
 abbrev list-μ-loop : list-lts.MeasureT-loop
 list-μ-loop s at n left p₀ k₀ all₀ theirs₀ p k all theirs = k
 
-list-loop-holds : (t : ℕ) → list-lts.Need-loop-holds (entry-below t, entry.Post) (list-at t) list.Post list-Inv-loop list-μ-loop
+list-loop-holds : (t : ℕ) → list-lts.Need-loop-holds (list-calls t) (list-at t) list.Post list-Inv-loop list-μ-loop
 list-loop-holds t c = (omega arith, taken-none _ _ _ _)
 
-list-returns : (t : ℕ) → list-lts.Need-returns (entry-below t, entry.Post) (list-at t) list.Post list-Inv-loop list-μ-loop
+list-returns : (t : ℕ) → list-lts.Need-returns (list-calls t) (list-at t) list.Post list-Inv-loop list-μ-loop
 list-returns t c = taken-deep _ _ _ _ _ _ _ _ (c .before .before .loop .inv .1) (c .if1 .taken) (c .before .loop-test .taken)
 
-list-sub-entry : (t : ℕ) → list-lts.Need-sub-entry (entry-below t, entry.Post) (list-at t) list.Post list-Inv-loop list-μ-loop
+list-sub-entry : (t : ℕ) → list-lts.Need-sub-entry (list-calls t) (list-at t) list.Post list-Inv-loop list-μ-loop
 list-sub-entry t c = search needs
 
-list-entry-requires : (t : ℕ) → list-lts.Need-entry-requires (entry-below t, entry.Post) (list-at t) list.Post list-Inv-loop list-μ-loop
+list-entry-requires : (t : ℕ) → list-lts.Need-entry-requires (list-calls t) (list-at t) list.Post list-Inv-loop list-μ-loop
 list-entry-requires t c κs = omega arith
 
-list-enum-told : (t : ℕ) → list-lts.Need-enum-told (entry-below t, entry.Post) (list-at t) list.Post list-Inv-loop list-μ-loop
+list-enum-told : (t : ℕ) → list-lts.Need-enum-told (list-calls t) (list-at t) list.Post list-Inv-loop list-μ-loop
 list-enum-told t c = search needs
 
-list-returns-2 : (t : ℕ) → list-lts.Need-returns-2 (entry-below t, entry.Post) (list-at t) list.Post list-Inv-loop list-μ-loop
+list-returns-2 : (t : ℕ) → list-lts.Need-returns-2 (list-calls t) (list-at t) list.Post list-Inv-loop list-μ-loop
 list-returns-2 t c = taken-bad _ _ _ _ _ _ _ _ (c .before .before .before .before .before .loop .inv .1) (c .before .before .before .if1 .left) (c .before .before .before .before .loop-test .taken) _ (c .before .before .entry .ensures) (c .enum-told .given .1)
 
-list-enum-known-controls : (t : ℕ) → list-lts.Need-enum-known-controls (entry-below t, entry.Post) (list-at t) list.Post list-Inv-loop list-μ-loop
+list-enum-known-controls : (t : ℕ) → list-lts.Need-enum-known-controls (list-calls t) (list-at t) list.Post list-Inv-loop list-μ-loop
 list-enum-known-controls t c = search needs
 
-list-add-all : (t : ℕ) → list-lts.Need-add-all (entry-below t, entry.Post) (list-at t) list.Post list-Inv-loop list-μ-loop
+list-add-all : (t : ℕ) → list-lts.Need-add-all (list-calls t) (list-at t) list.Post list-Inv-loop list-μ-loop
 list-add-all t c = omega (arith, one-room _ _ _ _ _ _ _ _ (c .before .before .before .entry .ensures) (c .before .controls .given .1))
 
-list-add-theirs : (t : ℕ) → list-lts.Need-add-theirs (entry-below t, entry.Post) (list-at t) list.Post list-Inv-loop list-μ-loop
+list-add-theirs : (t : ℕ) → list-lts.Need-add-theirs (list-calls t) (list-at t) list.Post list-Inv-loop list-μ-loop
 list-add-theirs t c = omega (arith, one-room _ _ _ _ _ _ _ _ (c .before .before .before .entry .ensures) (c .before .controls .given .1))
 
-list-sub-k : (t : ℕ) → list-lts.Need-sub-k (entry-below t, entry.Post) (list-at t) list.Post list-Inv-loop list-μ-loop
+list-sub-k : (t : ℕ) → list-lts.Need-sub-k (list-calls t) (list-at t) list.Post list-Inv-loop list-μ-loop
 list-sub-k t c = search needs
 
-list-loop-less : (t : ℕ) → list-lts.Need-loop-less (entry-below t, entry.Post) (list-at t) list.Post list-Inv-loop list-μ-loop
+list-loop-less : (t : ℕ) → list-lts.Need-loop-less (list-calls t) (list-at t) list.Post list-Inv-loop list-μ-loop
 list-loop-less t c = search needs
 
-list-loop-again : (t : ℕ) → list-lts.Need-loop-again (entry-below t, entry.Post) (list-at t) list.Post list-Inv-loop list-μ-loop
-list-loop-again t c = (omega (arith, one-room _ _ _ _ _ _ _ _ (c .before .before .before .entry .ensures) (c .before .controls .given .1)), taken-more _ _ _ _ _ _ _ _ (c .before .before .before .before .before .before .loop .inv .1) (c .before .before .before .before .if1 .left) (c .before .before .before .before .before .loop-test .taken) _ (c .before .before .before .entry .ensures) _ _ _ _ (c .before .controls .given .1))
+list-loop-again : (t : ℕ) → list-lts.Need-loop-again (list-calls t) (list-at t) list.Post list-Inv-loop list-μ-loop
+list-loop-again t c =
+    let b3 = c .before .before .before in
+    (omega (arith, one-room _ _ _ _ _ _ _ _ (b3 .entry .ensures) (c .before .controls .given .1)), taken-more _ _ _ _ _ _ _ _ (c .before .before .before .before .before .before .loop .inv .1) (c .before .before .before .before .if1 .left) (c .before .before .before .before .before .loop-test .taken) _ (b3 .entry .ensures) _ _ _ _ (c .before .controls .given .1))
 
-list-returns-3 : (t : ℕ) → list-lts.Need-returns-3 (entry-below t, entry.Post) (list-at t) list.Post list-Inv-loop list-μ-loop
+list-returns-3 : (t : ℕ) → list-lts.Need-returns-3 (list-calls t) (list-at t) list.Post list-Inv-loop list-μ-loop
 list-returns-3 t c = taken-all _ _ _ _ _ _ _ _ (c .before .loop .inv .1) (c .loop-test .left)
 
 entry-half-requires : (t : ℕ) → entry-lts.Need-half-requires (entry-calls t) (entry-at t) entry.Post
@@ -153,4 +159,4 @@ entry-returns-6 : (t : ℕ) → entry-lts.Need-returns-6 (entry-calls t) (entry-
 entry-returns-6 t c = entry-parent _ _ _ _ (c .before .before .before .before .before .before .before .before .before .before .before .before .before .before .before .half .ensures) _ (c .before .before .before .before .before .before .before .before .before .before .before .before .before .kind .given .1) _ (c .before .before .before .before .before .before .before .before .before .before .before .props .ensures) _ _ (c .before .before .before .before .before .before .before .before .before .count .given .1) _ (c .before .before .before .before .before .before .before .head .ensures) _ _ (c .before .before .before .before .before .n .given .1) _ (c .before .before .before .list .ensures) _ _ _ (c .before .controls .given .1)
 
 pub +entry+list-spec : {M : Type 1} → statement M
-+entry+list-spec = close μ-entry μ-list (λ t. entry-lts.spec (entry-calls t) (entry-at t) entry.Post (entry-half-requires t) (entry-enum-known-kind t) (entry-enum-told t) (entry-returns t) (entry-add-props t) (entry-props-requires t) (entry-enum-known-count t) (entry-enum-told-2 t) (entry-returns-2 t) (entry-head-requires t) (entry-enum-told-3 t) (entry-enum-known-e t) (entry-is-section-requires t) (entry-enum-known-n t) (entry-list-requires t) (entry-enum-told-4 t) (entry-enum-known-controls t) (entry-add-t21 t) (entry-add-t22 t) (entry-returns-3 t) (entry-returns-4 t) (entry-returns-5 t) (entry-returns-6 t)) λ t. list-lts.spec (entry-below t, entry.Post) (list-at t) list.Post list-Inv-loop list-μ-loop (list-loop-holds t) (list-returns t) (list-sub-entry t) (list-entry-requires t) (list-enum-told t) (list-returns-2 t) (list-enum-known-controls t) (list-add-all t) (list-add-theirs t) (list-sub-k t) (list-loop-less t) (list-loop-again t) (list-returns-3 t)
++entry+list-spec = close μ-entry μ-list (λ t. entry-lts.spec (entry-calls t) (entry-at t) entry.Post (entry-half-requires t) (entry-enum-known-kind t) (entry-enum-told t) (entry-returns t) (entry-add-props t) (entry-props-requires t) (entry-enum-known-count t) (entry-enum-told-2 t) (entry-returns-2 t) (entry-head-requires t) (entry-enum-told-3 t) (entry-enum-known-e t) (entry-is-section-requires t) (entry-enum-known-n t) (entry-list-requires t) (entry-enum-told-4 t) (entry-enum-known-controls t) (entry-add-t21 t) (entry-add-t22 t) (entry-returns-3 t) (entry-returns-4 t) (entry-returns-5 t) (entry-returns-6 t)) λ t. list-lts.spec (list-calls t) (list-at t) list.Post list-Inv-loop list-μ-loop (list-loop-holds t) (list-returns t) (list-sub-entry t) (list-entry-requires t) (list-enum-told t) (list-returns-2 t) (list-enum-known-controls t) (list-add-all t) (list-add-theirs t) (list-sub-k t) (list-loop-less t) (list-loop-again t) (list-returns-3 t)

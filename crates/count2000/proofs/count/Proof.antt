@@ -4,11 +4,6 @@ use native.Mathlib.Omega.{arith}
 use borrow.Author.Needs.{needs}
 use Rattle.count2000.proofs.count.Statement.{statement}
 use Rattle.count2000.proofs.count.Tie as tie
-use Rattle.count2000.proofs.count.Reads as reads
-use Rattle.count2000.proofs.count.Lts as lts
-use Rattle.count2000.proofs.head.Reads as head-reads
-use Rattle.count2000.proofs.top.Reads as top-reads
-use Rattle.count2000.proofs.props.Reads as props-reads
 
 props-requires : tie.Need-props-requires
 props-requires c κs = search needs
@@ -47,10 +42,10 @@ enum-told-4 : tie.Need-enum-told-4
 enum-told-4 c = search needs
 
 returns-2 : tie.Need-returns-2
-returns-2 c = stream-whole _ _ (c .before .before .before .before .before .before .before .before .before .before .before .before .props .ensures) _ _ (c .before .before .before .before .before .before .before .before .before .before .own .given .1) _ (c .before .before .before .before .before .before .before .before .head .ensures) _ _ (c .before .before .before .before .before .before .n .given .1) _ (c .before .before .before .before .top .ensures) _ _ _ (c .before .before .controls .given .1) (c .if1 .taken)
+returns-2 c = stream-whole _ _ (c .before .before .before .before .before .before .before .before .before .before .before .before .props .ensures) _ _ (c .before .before .before .before .before .before .before .before .before .before .own .given .1) _ (c .before .before .before .before .before .before .before .before .head .ensures) _ _ (c .before .before .before .before .before .before .n .given .1) _ (c .before .before .before .before .top .ensures) _ _ _ (c .before .before .controls .given .1) (omega (arith, c .if1 .taken))
 
 returns-3 : tie.Need-returns-3
-returns-3 c = stream-more _ _ (c .before .before .before .before .before .before .before .before .before .before .before .before .props .ensures) _ _ (c .before .before .before .before .before .before .before .before .before .before .own .given .1) _ (c .before .before .before .before .before .before .before .before .head .ensures) _ _ (c .before .before .before .before .before .before .n .given .1) _ (c .before .before .before .before .top .ensures) _ _ _ (c .before .before .controls .given .1) (c .if1 .left)
+returns-3 c = stream-more _ _ (c .before .before .before .before .before .before .before .before .before .before .before .before .props .ensures) _ _ (c .before .before .before .before .before .before .before .before .before .before .own .given .1) _ (c .before .before .before .before .before .before .before .before .head .ensures) _ _ (c .before .before .before .before .before .before .n .given .1) _ (c .before .before .before .before .top .ensures) _ _ _ (c .before .before .controls .given .1) (λ z. omega (arith, z, c .if1 .left))
 
 returns-4 : tie.Need-returns-4
 returns-4 c = stream-list-bad _ _ (c .before .before .before .before .before .before .before .before .before .before .props .ensures) _ _ (c .before .before .before .before .before .before .before .before .own .given .1) _ (c .before .before .before .before .before .before .head .ensures) _ _ (c .before .before .before .before .n .given .1) _ (c .before .before .top .ensures) (c .enum-told2 .given .1)

@@ -2,10 +2,6 @@ use Rattle.count2000.proofs.Extents.{extent-told, extent-stored}
 use borrow.Author.Needs.{needs}
 use Rattle.count2000.proofs.extent.Statement.{statement}
 use Rattle.count2000.proofs.extent.Tie as tie
-use Rattle.count2000.proofs.extent.Reads as reads
-use Rattle.count2000.proofs.extent.Lts as lts
-use Rattle.count2000.proofs.length.Reads as length-reads
-use Rattle.count2000.proofs.value_size.Reads as value-size-reads
 
 value-size-requires : tie.Need-value-size-requires
 value-size-requires c κs = search needs

@@ -1,13 +1,8 @@
 use Rattle.rules.specs.Bytes.{halfAt, byteAt}
-use borrow.Author.Tests.{le-ltb, lt-ltb, le-leb, lt-leb, eq-eqb, ne-eqb}
-use mathlib.Core.Path.{ap, sym, _∙_}
-use native.Mathlib.Omega.{arith}
+use borrow.Author.Tests.{le-ltb, lt-ltb}
 use borrow.Author.Needs.{needs}
 use Rattle.count2000.proofs.half.Statement.{statement}
 use Rattle.count2000.proofs.half.Tie as tie
-use Rattle.count2000.proofs.half.Reads as reads
-use Rattle.count2000.proofs.half.Lts as lts
-use Rattle.count2000.proofs.wide.Reads as wide-reads
 
 returns : tie.Need-returns
 unfolding halfAt byteAt

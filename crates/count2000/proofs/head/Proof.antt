@@ -1,14 +1,10 @@
 use Rattle.count2000.proofs.Inverse.{word-of, word-short}
 use Rattle.rules.specs.Bytes.{halfAt, byteAt}
 use Rattle.rules.specs.Access2000.{headAt}
-use borrow.Author.Tests.{le-ltb, lt-ltb, le-leb, lt-leb, eq-eqb, ne-eqb}
-use mathlib.Core.Path.{ap, sym, _∙_}
+use borrow.Author.Tests.{le-ltb, lt-ltb, eq-eqb, ne-eqb}
 use borrow.Author.Needs.{needs}
 use Rattle.count2000.proofs.head.Statement.{statement}
 use Rattle.count2000.proofs.head.Tie as tie
-use Rattle.count2000.proofs.head.Reads as reads
-use Rattle.count2000.proofs.head.Lts as lts
-use Rattle.count2000.proofs.half.Reads as half-reads
 
 returns : tie.Need-returns
 unfolding headAt byteAt

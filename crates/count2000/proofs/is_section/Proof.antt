@@ -1,8 +1,6 @@
-use borrow.Author.Tests.{le-ltb, lt-ltb, le-leb, lt-leb, eq-eqb, ne-eqb}
+use borrow.Author.Tests.{le-leb, lt-leb}
 use Rattle.count2000.proofs.is_section.Statement.{statement}
 use Rattle.count2000.proofs.is_section.Tie as tie
-use Rattle.count2000.proofs.is_section.Reads as reads
-use Rattle.count2000.proofs.is_section.Lts as lts
 
 returns : tie.Need-returns
 returns c = simp (le-leb _ _ (c .if1 .taken))

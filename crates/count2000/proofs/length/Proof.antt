@@ -5,10 +5,6 @@ use borrow.Author.Tests.{le-ltb, lt-ltb, eq-eqb, ne-eqb}
 use borrow.Author.Needs.{needs}
 use Rattle.count2000.proofs.length.Statement.{statement}
 use Rattle.count2000.proofs.length.Tie as tie
-use Rattle.count2000.proofs.length.Reads as reads
-use Rattle.count2000.proofs.length.Lts as lts
-use Rattle.count2000.proofs.half.Reads as half-reads
-use Rattle.count2000.proofs.wide.Reads as wide-reads
 
 returns : tie.Need-returns
 unfolding lengthAt byteAt

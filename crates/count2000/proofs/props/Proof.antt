@@ -6,9 +6,6 @@ use Rattle.count2000.proofs.Runs.{Passed, passed-none, passed-more, pas
 use Rattle.rules.proofs.Access2000Laws.{past-end}
 use Rattle.count2000.proofs.props.Statement.{statement}
 use Rattle.count2000.proofs.props.Tie as tie
-use Rattle.count2000.proofs.props.Reads as reads
-use Rattle.count2000.proofs.props.Lts as lts
-use Rattle.count2000.proofs.value.Reads as value-reads
 
 abbrev Inv-loop : tie.InvT-loop
 Inv-loop s at p₀ n₀ p n = (at + n ≤ p) × Passed s at n p
@@ -23,7 +20,7 @@ shared-slice-read-if1 : tie.Need-shared-slice-read-if1 Inv-loop μ-loop
 shared-slice-read-if1 c = search needs
 
 returns : tie.Need-returns Inv-loop μ-loop
-returns c = passed-stop _ _ _ _ (c .before .before .before .loop .inv .1) (stops _ _ (c .before .before .loop-test .taken) (c .if1 .taken))
+returns c = passed-stop _ _ _ _ (c .before .before .before .loop .inv .1) (stops _ _ (omega (arith, c .before .before .loop-test .taken)) (omega (arith, c .if1 .taken)))
 
 value-requires : tie.Need-value-requires Inv-loop μ-loop
 value-requires c κs = search needs
@@ -41,16 +38,18 @@ loop-less : tie.Need-loop-less Inv-loop μ-loop
 loop-less c = omega (arith, ends _ _ _ _ _ (c .before .before .before .value .ensures) (c .before .start .given .1))
 
 loop-again : tie.Need-loop-again Inv-loop μ-loop
-loop-again c = (omega (arith, ends _ _ _ _ _ (c .before .before .before .value .ensures) (c .before .start .given .1)), passed-more _ _ _ _ (c .before .before .before .before .before .before .before .loop .inv .1) _ _ _ (starts _ _ (c .before .before .before .before .before .before .loop-test .taken) (c .before .before .before .before .if1 .left)) (c .before .before .before .value .ensures) (c .before .start .given .1))
+loop-again c =
+    let b3 = c .before .before .before in
+    (omega (arith, ends _ _ _ _ _ (b3 .value .ensures) (c .before .start .given .1)), passed-more _ _ _ _ (c .before .before .before .before .before .before .before .loop .inv .1) _ _ _ (starts _ _ (omega (arith, c .before .before .before .before .before .before .loop-test .taken)) (omega (arith, c .before .before .before .before .if1 .left))) (b3 .value .ensures) (c .before .start .given .1))
 
 enum-told : tie.Need-enum-told Inv-loop μ-loop
 enum-told c = search needs
 
 returns-2 : tie.Need-returns-2 Inv-loop μ-loop
-returns-2 c = passed-bad _ _ _ _ (c .before .before .before .before .before .before .loop .inv .1) _ (starts _ _ (c .before .before .before .before .before .loop-test .taken) (c .before .before .before .if1 .left)) (c .before .before .value .ensures) (c .enum-told .given .1)
+returns-2 c = passed-bad _ _ _ _ (c .before .before .before .before .before .before .loop .inv .1) _ (starts _ _ (omega (arith, c .before .before .before .before .before .loop-test .taken)) (omega (arith, c .before .before .before .if1 .left))) (c .before .before .value .ensures) (c .enum-told .given .1)
 
 returns-3 : tie.Need-returns-3 Inv-loop μ-loop
-returns-3 c = passed-stop _ _ _ _ (c .before .loop .inv .1) (past-end _ _ (c .loop-test .left))
+returns-3 c = passed-stop _ _ _ _ (c .before .loop .inv .1) (past-end _ _ (omega (arith, c .loop-test .left)))
 
 pub props-spec : {M : Type 1} → statement M
 props-spec =

@@ -2,15 +2,12 @@ use Prim.Native.Nat.{_+_, _≤_}
 use native.Mathlib.Omega.{arith}
 use borrow.Author.Needs.{needs}
 use borrow.Author.Tests.{eqb-false}
-use mathlib.Core.Path.{refl, subst}
+use mathlib.Core.Path.{refl}
 use mathlib.Core.Logic.{⊎-elim}
 use Rattle.count2000.proofs.Lists.{one-room}
 use Rattle.count2000.proofs.Reported.{Kept, kept-none, kept-all, kept-bad, kept-more, kept-same}
 use Rattle.count2000.proofs.top.Statement.{statement}
 use Rattle.count2000.proofs.top.Tie as tie
-use Rattle.count2000.proofs.top.Reads as reads
-use Rattle.count2000.proofs.top.Lts as lts
-use Rattle.count2000.proofs.entry.Reads as entry-reads
 
 abbrev Inv-loop : tie.InvT-loop
 Inv-loop s at n p₀ k₀ all₀ theirs₀ p k all theirs = (at + all + theirs ≤ p) × Kept s 256 n at all theirs k p

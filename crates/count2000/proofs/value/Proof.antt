@@ -1,17 +1,13 @@
 use Rattle.count2000.proofs.Inverse.{extent-at, extent-bad}
 use Rattle.rules.specs.Access2000.{propertyAt, extentAt}
-use borrow.Author.Tests.{le-ltb, lt-ltb, le-leb, lt-leb, eq-eqb, ne-eqb}
+use borrow.Author.Tests.{le-leb, lt-leb}
 use denote.Ref.{now}
 use lib.ListN.{length}
-use mathlib.Core.Path.{ap, sym, _∙_}
 use Prim.Native.Nat.{_+_}
 use native.Mathlib.Omega.{arith}
 use borrow.Author.Needs.{needs}
 use Rattle.count2000.proofs.value.Statement.{statement}
 use Rattle.count2000.proofs.value.Tie as tie
-use Rattle.count2000.proofs.value.Reads as reads
-use Rattle.count2000.proofs.value.Lts as lts
-use Rattle.count2000.proofs.extent.Reads as extent-reads
 
 shared-slice-read-extent : tie.Need-shared-slice-read-extent
 shared-slice-read-extent c = search needs

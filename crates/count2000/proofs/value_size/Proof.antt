@@ -2,8 +2,6 @@ use Rattle.count2000.specs.Told.{sizeOf}
 use borrow.Author.Tests.{le-leb, lt-leb}
 use Rattle.count2000.proofs.value_size.Statement.{statement}
 use Rattle.count2000.proofs.value_size.Tie as tie
-use Rattle.count2000.proofs.value_size.Reads as reads
-use Rattle.count2000.proofs.value_size.Lts as lts
 
 returns : tie.Need-returns
 unfolding sizeOf

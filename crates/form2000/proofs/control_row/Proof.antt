@@ -2,9 +2,6 @@ use Rattle.form2000.proofs.Shows.{words-by, words-numbered}
 use borrow.Author.Needs.{needs}
 use Rattle.form2000.proofs.control_row.Statement.{statement}
 use Rattle.form2000.proofs.control_row.Tie as tie
-use Rattle.form2000.proofs.control_row.Reads as reads
-use Rattle.form2000.proofs.control_row.Lts as lts
-use Rattle.text.proofs.label_length.Reads as label-length-reads
 
 enum-known-name : tie.Need-enum-known-name
 enum-known-name c = search needs

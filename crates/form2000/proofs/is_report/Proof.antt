@@ -1,13 +1,10 @@
-use mathlib.Core.Path.{_≡_, refl, sym, ap, _∙_}
+use mathlib.Core.Path.{ap}
 use Prim.Native.Nat.{ℕ}
 use lib.Dec.{eqb}
 use Rattle.rules.specs.Read2000.{isReport}
 use borrow.Author.Needs.{needs}
 use Rattle.form2000.proofs.is_report.Statement.{statement}
 use Rattle.form2000.proofs.is_report.Tie as tie
-use Rattle.form2000.proofs.is_report.Reads as reads
-use Rattle.form2000.proofs.is_report.Lts as lts
-use Rattle.leaf.proofs.byte_at.Reads as byte-at-reads
 
 byte-at-requires : tie.Need-byte-at-requires
 byte-at-requires c κs = search needs

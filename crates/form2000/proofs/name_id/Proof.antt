@@ -1,11 +1,8 @@
-use mathlib.Core.Path.{_≡_, refl, sym, ap, _∙_}
+use mathlib.Core.Path.{sym, ap, _∙_}
 use mathlib.Core.Bool.{Bool, cond}
 use borrow.Author.Needs.{needs}
 use Rattle.form2000.proofs.name_id.Statement.{statement}
 use Rattle.form2000.proofs.name_id.Tie as tie
-use Rattle.form2000.proofs.name_id.Reads as reads
-use Rattle.form2000.proofs.name_id.Lts as lts
-use Rattle.count2000.proofs.is_section.Reads as is-section-reads
 
 is-section-requires : tie.Need-is-section-requires
 is-section-requires c κs = search needs

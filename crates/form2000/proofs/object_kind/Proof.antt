@@ -1,12 +1,9 @@
-use mathlib.Core.Path.{_≡_, refl, sym, ap, _∙_}
+use mathlib.Core.Path.{sym, ap, _∙_}
 use mathlib.Core.Bool.{Bool, cond}
 use Rattle.rules.specs.Read2000.{objectPlace}
 use borrow.Author.Needs.{needs}
 use Rattle.form2000.proofs.object_kind.Statement.{statement}
 use Rattle.form2000.proofs.object_kind.Tie as tie
-use Rattle.form2000.proofs.object_kind.Reads as reads
-use Rattle.form2000.proofs.object_kind.Lts as lts
-use Rattle.form2000.proofs.is_report.Reads as is-report-reads
 
 is-report-requires : tie.Need-is-report-requires
 is-report-requires c κs = search needs

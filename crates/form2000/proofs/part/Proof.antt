@@ -1,11 +1,9 @@
-use mathlib.Core.Path.{_≡_, refl, sym, ap, _∙_}
+use mathlib.Core.Path.{_≡_}
 use native.Mathlib.Omega.{arith}
 use Prim.Native.Nat.{_+_, _-_}
 use borrow.Author.Needs.{needs}
 use Rattle.form2000.proofs.part.Statement.{statement}
 use Rattle.form2000.proofs.part.Tie as tie
-use Rattle.form2000.proofs.part.Reads as reads
-use Rattle.form2000.proofs.part.Lts as lts
 
 add-end : tie.Need-add-end
 add-end c = search needs

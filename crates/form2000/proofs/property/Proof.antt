@@ -3,13 +3,6 @@ use Rattle.form2000.proofs.Shows.{shown-tied, shown-untied}
 use borrow.Author.Needs.{needs}
 use Rattle.form2000.proofs.property.Statement.{statement}
 use Rattle.form2000.proofs.property.Tie as tie
-use Rattle.form2000.proofs.property.Reads as reads
-use Rattle.form2000.proofs.property.Lts as lts
-use Rattle.codetable.proofs.find_row.Reads as find-row-reads
-use Rattle.form2000.proofs.join.Reads as join-reads
-use Rattle.form2000.proofs.part.Reads as part-reads
-use Rattle.leaf.proofs.stored_value.Reads as stored-value-reads
-use Rattle.leaf.proofs.value_as.Reads as value-as-reads
 
 part-requires : tie.Need-part-requires
 part-requires c κs = search needs
@@ -27,10 +20,14 @@ value-as-requires : tie.Need-value-as-requires
 value-as-requires c κs = search needs
 
 cast-t14 : tie.Need-cast-t14
-cast-t14 c = omega (arith, c .before .before .before .before .before .before .before .before .pre .small, c .before .before .before .before .before .before .before .before .pre .inside)
+cast-t14 c =
+    let b8 = c .before .before .before .before .before .before .before .before in
+    omega (arith, b8 .pre .small, b8 .pre .inside)
 
 cast-t15 : tie.Need-cast-t15
-cast-t15 c = omega (arith, c .before .before .before .before .before .before .before .before .pre .small, c .before .before .before .before .before .before .before .before .pre .inside)
+cast-t15 c =
+    let b8 = c .before .before .before .before .before .before .before .before in
+    omega (arith, b8 .pre .small, b8 .pre .inside)
 
 enum-told : tie.Need-enum-told
 enum-told c = search needs
@@ -42,10 +39,14 @@ stored-value-requires : tie.Need-stored-value-requires
 stored-value-requires c κs = search needs
 
 cast-t19 : tie.Need-cast-t19
-cast-t19 c = omega (arith, c .before .before .before .before .before .before .before .before .pre .small, c .before .before .before .before .before .before .before .before .pre .inside)
+cast-t19 c =
+    let b8 = c .before .before .before .before .before .before .before .before in
+    omega (arith, b8 .pre .small, b8 .pre .inside)
 
 cast-t20 : tie.Need-cast-t20
-cast-t20 c = omega (arith, c .before .before .before .before .before .before .before .before .pre .small, c .before .before .before .before .before .before .before .before .pre .inside)
+cast-t20 c =
+    let b8 = c .before .before .before .before .before .before .before .before in
+    omega (arith, b8 .pre .small, b8 .pre .inside)
 
 returns : tie.Need-returns
 returns c = shown-tied _ _ _ _ _ _ (c .before .before .before .before .find-row .ensures (c .before .before .before .before .before .before .before .before .pre .sorted)) _ (c .before .before .before .before .before .part .ensures) _ _ _ (c .before .before .target .given .1) (c .value-as .ensures)

@@ -3,17 +3,6 @@ use Rattle.form2000.proofs.NodeLaws.{node-inside, node-run-ready, node-
 use borrow.Author.Needs.{needs}
 use Rattle.form2000.proofs.put_node.Statement.{statement}
 use Rattle.form2000.proofs.put_node.Tie as tie
-use Rattle.form2000.proofs.put_node.Reads as reads
-use Rattle.form2000.proofs.put_node.Lts as lts
-use Rattle.codetable.proofs.find_scope.Reads as find-scope-reads
-use Rattle.form2000.proofs.control_row.Reads as control-row-reads
-use Rattle.form2000.proofs.is_report.Reads as is-report-reads
-use Rattle.form2000.proofs.name.Reads as name-reads
-use Rattle.form2000.proofs.name_id.Reads as name-id-reads
-use Rattle.form2000.proofs.properties.Reads as properties-reads
-use Rattle.form2000.proofs.type_code.Reads as type-code-reads
-use Rattle.leaf.proofs.u16_at.Reads as u16-at-reads
-use Rattle.rows.proofs.put_control.Reads as put-control-reads
 
 u16-at-requires : tie.Need-u16-at-requires
 u16-at-requires c κs = search needs
@@ -58,7 +47,9 @@ put-control-requires : tie.Need-put-control-requires
 put-control-requires c κs = node-row-room _ _ _ _ _ _ _ (c .before .before .before .before .before .before .before .before .before .before .before .before .before .before .before .before .pre)
 
 add-t22 : tie.Need-add-t22
-add-t22 c = omega (arith, node-row-room _ _ _ _ _ _ _ (c .before .before .before .before .before .before .before .before .before .before .before .before .before .before .before .before .before .before .before .pre), c .before .before .before .before .before .before .before .before .before .before .before .before .before .before .before .before .before .before .before .good)
+add-t22 c =
+    let b19 = c .before .before .before .before .before .before .before .before .before .before .before .before .before .before .before .before .before .before .before in
+    omega (arith, node-row-room _ _ _ _ _ _ _ (b19 .pre), b19 .good)
 
 same-length : tie.Need-same-length
 same-length c = search needs

@@ -9,10 +9,6 @@ use Rattle.form2000.specs.Acts.{topNodes}
 use Rattle.form2000.proofs.Remains.{Remain, remain-start, top-all, top-over, top-entry, top-more}
 use Rattle.form2000.proofs.put_top.Statement.{statement}
 use Rattle.form2000.proofs.put_top.Tie as tie
-use Rattle.form2000.proofs.put_top.Reads as reads
-use Rattle.form2000.proofs.put_top.Lts as lts
-use Rattle.form2000.proofs.put_entry.Reads as put-entry-reads
-use Rattle.form2000.proofs.skip.Reads as skip-reads
 
 abbrev Inv-loop : tie.InvT-loop
 Inv-loop table s at n controls₀ c rows₀ p pos₀ k₀ i₀ j₀ controls rows pos k i j = Remain table s (topNodes (entriesAt levels s k pos)) (topNodes (entriesAt levels s n at)) (state controls₀ c rows₀ p) (state controls i rows j) × (length controls ≡ length controls₀) × (length rows ≡ length rows₀)
@@ -36,13 +32,17 @@ loop-less : tie.Need-loop-less Inv-loop μ-loop
 loop-less c = omega (arith, c .before .before .before .before .loop-test .taken)
 
 loop-again : tie.Need-loop-again Inv-loop μ-loop
-loop-again c = (top-over _ _ (c .before .before .before .before .before .loop .k) (c .before .before .before .before .before .loop .pos) _ _ _ (c .before .before .before .before .before .loop .inv .0) (c .before .before .before .before .loop-test .taken) _ (c .before .before .before .skip .ensures) _ (c .before .next .given .1), c .before .before .before .before .before .loop .inv .1, c .before .before .before .before .before .loop .inv .2)
+loop-again c =
+    let b5 = c .before .before .before .before .before in
+    (top-over _ _ (b5 .loop .k) (b5 .loop .pos) _ _ _ (b5 .loop .inv .0) (c .before .before .before .before .loop-test .taken) _ (c .before .before .before .skip .ensures) _ (c .before .next .given .1), b5 .loop .inv .1, b5 .loop .inv .2)
 
 enum-told : tie.Need-enum-told Inv-loop μ-loop
 enum-told c = search needs
 
 put-entry-requires : tie.Need-put-entry-requires Inv-loop μ-loop
-put-entry-requires c κs = top-entry _ _ (c .before .before .before .before .before .before .loop .k) (c .before .before .before .before .before .before .loop .pos) _ _ _ (c .before .before .before .before .before .before .loop .inv .0) (c .before .before .before .before .before .loop-test .taken) _ (c .before .before .before .before .skip .ensures) (c .before .before .enum-told .given .1)
+put-entry-requires c κs =
+    let b6 = c .before .before .before .before .before .before in
+    top-entry _ _ (b6 .loop .k) (b6 .loop .pos) _ _ _ (b6 .loop .inv .0) (c .before .before .before .before .before .loop-test .taken) _ (c .before .before .before .before .skip .ensures) (c .before .before .enum-told .given .1)
 
 sub-k-2 : tie.Need-sub-k-2 Inv-loop μ-loop
 sub-k-2 c = omega (arith, c .before .before .before .before .before .before .before .before .before .before .loop-test .taken)
@@ -51,7 +51,10 @@ loop-less-2 : tie.Need-loop-less-2 Inv-loop μ-loop
 loop-less-2 c = omega (arith, c .before .before .before .before .before .before .before .before .before .before .loop-test .taken)
 
 loop-again-2 : tie.Need-loop-again-2 Inv-loop μ-loop
-loop-again-2 c = (top-more _ _ (c .before .before .before .before .before .before .before .before .before .before .before .loop .k) (c .before .before .before .before .before .before .before .before .before .before .before .loop .pos) _ _ _ (c .before .before .before .before .before .before .before .before .before .before .before .loop .inv .0) (c .before .before .before .before .before .before .before .before .before .before .loop-test .taken) _ (c .before .before .before .before .before .before .before .before .before .skip .ensures) (c .before .before .before .before .before .before .before .enum-told .given .1) _ _ (c .before .before .before .before .put-entry .ensures), c .before .before .before .before .put-entry .kept .1 .1 .1 .1 .0 ∙ c .before .before .before .before .before .before .before .before .before .before .before .loop .inv .1, c .before .before .before .before .put-entry .kept .1 .1 .1 .1 .1 .1 .0 ∙ c .before .before .before .before .before .before .before .before .before .before .before .loop .inv .2)
+loop-again-2 c =
+    let b4 = c .before .before .before .before in
+    let b11 = c .before .before .before .before .before .before .before .before .before .before .before in
+    (top-more _ _ (b11 .loop .k) (b11 .loop .pos) _ _ _ (b11 .loop .inv .0) (c .before .before .before .before .before .before .before .before .before .before .loop-test .taken) _ (c .before .before .before .before .before .before .before .before .before .skip .ensures) (c .before .before .before .before .before .before .before .enum-told .given .1) _ _ (b4 .put-entry .ensures), b4 .put-entry .kept .1 .1 .1 .1 .0 ∙ b11 .loop .inv .1, b4 .put-entry .kept .1 .1 .1 .1 .1 .1 .0 ∙ b11 .loop .inv .2)
 
 same-length : tie.Need-same-length Inv-loop μ-loop
 same-length c = c .before .loop .inv .1

@@ -4,12 +4,6 @@ use Rattle.form2000.proofs.Skipping.{skip-short, skip-section, skip-run
 use borrow.Author.Needs.{needs}
 use Rattle.form2000.proofs.skip.Statement.{statement}
 use Rattle.form2000.proofs.skip.Tie as tie
-use Rattle.form2000.proofs.skip.Reads as reads
-use Rattle.form2000.proofs.skip.Lts as lts
-use Rattle.count2000.proofs.half.Reads as half-reads
-use Rattle.count2000.proofs.head.Reads as head-reads
-use Rattle.count2000.proofs.is_section.Reads as is-section-reads
-use Rattle.count2000.proofs.props.Reads as props-reads
 
 half-requires : tie.Need-half-requires
 half-requires c κs = search needs

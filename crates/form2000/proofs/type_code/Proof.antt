@@ -2,11 +2,6 @@ use Rattle.form2000.proofs.Shows.{type-header, type-other}
 use borrow.Author.Needs.{needs}
 use Rattle.form2000.proofs.type_code.Statement.{statement}
 use Rattle.form2000.proofs.type_code.Tie as tie
-use Rattle.form2000.proofs.type_code.Reads as reads
-use Rattle.form2000.proofs.type_code.Lts as lts
-use Rattle.codetable.proofs.is_header.Reads as is-header-reads
-use Rattle.form2000.proofs.header_mark.Reads as header-mark-reads
-use Rattle.form2000.proofs.join.Reads as join-reads
 
 is-header-requires : tie.Need-is-header-requires
 is-header-requires c κs = search needs

@@ -2,13 +2,6 @@ use Rattle.form2000.proofs.Whole.{own-ready, top-ready, top-done, write
 use borrow.Author.Needs.{needs}
 use Rattle.form2000.proofs.write.Statement.{statement}
 use Rattle.form2000.proofs.write.Tie as tie
-use Rattle.form2000.proofs.write.Reads as reads
-use Rattle.form2000.proofs.write.Lts as lts
-use Rattle.codetable.proofs.find_scope.Reads as find-scope-reads
-use Rattle.count2000.proofs.head.Reads as head-reads
-use Rattle.form2000.proofs.object_kind.Reads as object-kind-reads
-use Rattle.form2000.proofs.properties.Reads as properties-reads
-use Rattle.form2000.proofs.put_top.Reads as put-top-reads
 
 object-kind-requires : tie.Need-object-kind-requires
 object-kind-requires c κs = search needs
