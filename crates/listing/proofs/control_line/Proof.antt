@@ -1,0 +1,104 @@
+use borrow.Author.Needs.{needs}
+use Rattle.rules.specs.Rows.{controlWidth, rowAt}
+use Rattle.text.proofs.Chain.{_⨟_, same}
+use Rattle.listing.proofs.Fields.{control-text}
+use Rattle.listing.proofs.Placed.{line}
+use Rattle.listing.proofs.control_line.Statement.{statement}
+use Rattle.listing.proofs.control_line.Tie as tie
+
+row-word-requires : tie.Need-row-word-requires
+row-word-requires c κs = search needs
+
+row-word-requires-2 : tie.Need-row-word-requires-2
+row-word-requires-2 c κs = search needs
+
+row-word-requires-3 : tie.Need-row-word-requires-3
+row-word-requires-3 c κs = search needs
+
+row-word-requires-4 : tie.Need-row-word-requires-4
+row-word-requires-4 c κs = search needs
+
+row-word-requires-5 : tie.Need-row-word-requires-5
+row-word-requires-5 c κs = search needs
+
+put-head-requires : tie.Need-put-head-requires
+put-head-requires c κs = search needs
+
+put-type-name-requires : tie.Need-put-type-name-requires
+put-type-name-requires c κs = search needs
+
+put-byte-requires : tie.Need-put-byte-requires
+put-byte-requires c κs = search needs
+
+put-chars-requires : tie.Need-put-chars-requires
+put-chars-requires c κs = search needs
+
+put-byte-requires-2 : tie.Need-put-byte-requires-2
+put-byte-requires-2 c κs = search needs
+
+put-decimal-requires : tie.Need-put-decimal-requires
+put-decimal-requires c κs = search needs
+
+put-byte-requires-3 : tie.Need-put-byte-requires-3
+put-byte-requires-3 c κs = search needs
+
+put-decimal-requires-2 : tie.Need-put-decimal-requires-2
+put-decimal-requires-2 c κs = search needs
+
+put-byte-requires-4 : tie.Need-put-byte-requires-4
+put-byte-requires-4 c κs = search needs
+
+returns : tie.Need-returns
+returns c =
+    let c9 = c .before .before in
+    let c8 = c9 .before .before .before .before in
+    let c7 = c8 .before .before .before .before in
+    let c6 = c7 .before .before .before .before in
+    let c5 = c6 .before .before .before .before in
+    let c4 = c5 .before .before .before .before in
+    let c3 = c4 .before .before .before .before in
+    let c2 = c3 .before .before .before .before in
+    let c1 = c2 .before .before .before .before in
+    let w = c1 .before .before in
+    let a = c1 .before .before .before .before .before .before .before .before .before .before .args in
+    rw (
+      control-text (a .n) (rowAt controlWidth (a .n) (a .rows .now)),
+      ← w .before .before .before .before .row-word .ensures,
+      ← w .before .before .before .row-word2 .ensures,
+      ← w .before .before .row-word3 .ensures,
+      ← w .before .row-word4 .ensures,
+      ← w .row-word5 .ensures,
+    )
+    (line (c1 .put-head .ensures
+    ⨟ c2 .put-type-name .ensures
+    ⨟ c3 .put-byte .ensures
+    ⨟ c4 .put-chars .ensures
+    ⨟ c5 .put-byte2 .ensures
+    ⨟ c6 .put-decimal .ensures
+    ⨟ c7 .put-byte3 .ensures
+    ⨟ c8 .put-decimal2 .ensures
+    ⨟ c9 .put-byte4 .ensures))
+
+same-length : tie.Need-same-length
+same-length c = same (returns c .wrote)
+
+pub control-line-spec : {M : Type 1} → statement M
+control-line-spec =
+    tie.close
+    (tie.spec
+    row-word-requires
+    row-word-requires-2
+    row-word-requires-3
+    row-word-requires-4
+    row-word-requires-5
+    put-head-requires
+    put-type-name-requires
+    put-byte-requires
+    put-chars-requires
+    put-byte-requires-2
+    put-decimal-requires
+    put-byte-requires-3
+    put-decimal-requires-2
+    put-byte-requires-4
+    same-length
+    returns)

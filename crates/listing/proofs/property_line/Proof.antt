@@ -1,0 +1,61 @@
+use borrow.Author.Needs.{needs}
+use Rattle.rules.specs.Rows.{propertyWidth, rowAt}
+use Rattle.text.proofs.Chain.{_⨟_, same}
+use Rattle.listing.proofs.Fields.{property-text}
+use Rattle.listing.proofs.Placed.{line}
+use Rattle.listing.proofs.property_line.Statement.{statement}
+use Rattle.listing.proofs.property_line.Tie as tie
+
+row-word-requires : tie.Need-row-word-requires
+row-word-requires c κs = search needs
+
+row-word-requires-2 : tie.Need-row-word-requires-2
+row-word-requires-2 c κs = search needs
+
+put-head-requires : tie.Need-put-head-requires
+put-head-requires c κs = search needs
+
+put-value-name-requires : tie.Need-put-value-name-requires
+put-value-name-requires c κs = search needs
+
+put-byte-requires : tie.Need-put-byte-requires
+put-byte-requires c κs = search needs
+
+put-shown-requires : tie.Need-put-shown-requires
+put-shown-requires c κs = search needs
+
+put-byte-requires-2 : tie.Need-put-byte-requires-2
+put-byte-requires-2 c κs = search needs
+
+same-length : tie.Need-same-length
+same-length c = search needs
+
+returns : tie.Need-returns
+returns c =
+    let c5 = c .before .before in
+    let c4 = c5 .before .before .before .before in
+    let c3 = c4 .before .before .before .before in
+    let c2 = c3 .before .before .before .before in
+    let c1 = c2 .before .before .before .before in
+    let w = c1 .before .before in
+    let a = c1 .before .before .before .before .before .before .before .before .before .before .args in
+    rw (property-text (a .stream .now) (a .n) (rowAt propertyWidth (a .n) (a .rows .now)), ← w .before .row-word .ensures, ← w .row-word2 .ensures)
+    (line (c1 .put-head .ensures
+    ⨟ c2 .put-value-name .ensures
+    ⨟ c3 .put-byte .ensures
+    ⨟ c4 .put-shown .ensures
+    ⨟ c5 .put-byte2 .ensures))
+
+pub property-line-spec : {M : Type 1} → statement M
+property-line-spec =
+    tie.close
+    (tie.spec
+    row-word-requires
+    row-word-requires-2
+    put-head-requires
+    put-value-name-requires
+    put-byte-requires
+    put-shown-requires
+    put-byte-requires-2
+    same-length
+    returns)

@@ -1,0 +1,29 @@
+use mathlib.Core.Path.{sym, _∙_}
+use native.Mathlib.Omega.{arith}
+use borrow.Author.Needs.{needs}
+use lib.ListN.{List·getD-eq-default}
+use Rattle.listing.proofs.Fields.{word-at}
+use Rattle.listing.proofs.row_word.Statement.{statement}
+use Rattle.listing.proofs.row_word.Tie as tie
+
+mul-at : tie.Need-mul-at
+mul-at c = search needs
+
+add-at : tie.Need-add-at
+add-at c = search needs
+
+mul-result : tie.Need-mul-result
+mul-result c = search needs
+
+shared-slice-read-result : tie.Need-shared-slice-read-result
+shared-slice-read-result c = search needs
+
+returns : tie.Need-returns
+returns c = let a = c .before .before .args in sym (word-at (a .n) (a .i) (a .rows .now) (c .before .before .pre))
+
+returns-2 : tie.Need-returns-2
+returns-2 c = let a = c .before .args in sym (word-at (a .n) (a .i) (a .rows .now) (c .before .pre) ∙ List·getD-eq-default (a .rows .now) 0 (c .if1 .left))
+
+pub row-word-spec : {M : Type 1} → statement M
+row-word-spec =
+    tie.close (tie.spec mul-at add-at mul-result shared-slice-read-result returns returns-2)

@@ -1,0 +1,3 @@
+-- What the writers of the listing say.
+pub mod Lines
+pub mod Shown

@@ -1,0 +1,22 @@
+-- The listing by what a reader hands back: its answer, and the rows in the slices lent to it.
+use Prim.Native.Nat.{ℕ, zero, suc}
+use mathlib.Core.Bool.{cond}
+use mathlib.Core.List.{List, [], _++_}
+use lib.Dec.{eqb}
+use Rattle.rules.specs.Rows.{controlWidth, propertyWidth, rowAt}
+use Rattle.rules.specs.Blob.{Exit}
+use Rattle.rules.specs.Listing.{answerLine, controlLine, propertyLine}
+
+-- the lines of the first k rows of a slice, each `width` words wide
+unfoldable pub linesTo : (ℕ → List ℕ → List ℕ) → ℕ → ℕ → List ℕ → List ℕ
+linesTo lineOf width zero words = []
+linesTo lineOf width (suc k) words = linesTo lineOf width k words ++ lineOf k (rowAt width k words)
+
+-- "on 0 the C lines .., then the P lines": as many as the answer counts
+unfoldable pub shown : List ℕ → Exit → List ℕ
+shown stream e =
+    answerLine (e .answer)
+    ++ cond (eqb (e .answer .number) 0)
+    (linesTo controlLine controlWidth (e .answer .first) (e .controls)
+    ++ linesTo (propertyLine stream) propertyWidth (e .answer .second) (e .properties))
+    []
