@@ -1,5 +1,5 @@
 -- Parts of a line, as the code writes them.
-use mathlib.Core.Path.{_≡_, refl, sym, ap, _∙_}
+use mathlib.Core.Path.{_≡_, refl, ap, _∙_}
 use mathlib.Core.List.{List, [], _∷_, _++_, append-assoc}
 use Prim.Native.Nat.{ℕ, zero, suc, _+_, _*_, _-_, _/_, _≤_, _<_}
 use native.Mathlib.Omega.{arith}
@@ -7,7 +7,6 @@ use borrow.Author.Tests.{lt-ltb, le-ltb, eq-eqb, ne-eqb}
 use lib.ListN.{length, getD, drop, List·getD-eq-default}
 use lib.Seq.{getD-take, getD-drop}
 use Rattle.rules.specs.Lists.{text}
-use Rattle.rules.specs.Bytes.{part}
 use Rattle.rules.specs.Value.{signed}
 use Rattle.rules.specs.Digits.{decimal, hex, signedDecimal}
 use Rattle.rules.specs.Texts.{guidText}

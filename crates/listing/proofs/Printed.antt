@@ -3,19 +3,19 @@ use mathlib.Core.Path.{_≡_, refl, sym, ap, ap₂, _∙_}
 use mathlib.Core.Bool.{Bool, true, false, cond, not}
 use mathlib.Core.List.{List, [], _∷_, _++_, append-assoc, append-nil}
 use mathlib.Core.Option.{Option, none, some}
-use Prim.Native.Nat.{ℕ, zero, suc, _+_, _*_, _≤_, _<_}
+use Prim.Native.Nat.{ℕ, suc, _+_, _*_, _≤_, _<_}
 use native.Mathlib.Omega.{arith}
 use native.Mathlib.Nat.{zero-add}
 use native.Mathlib.Numerals.{add-one}
-use borrow.Author.Tests.{ltb-false, ne-eqb}
+use borrow.Author.Tests.{lt-ltb, le-ltb, ltb-false, ne-eqb}
 use lib.Dec.{ltb}
 use lib.ListN.{length, getD}
-use Rattle.rules.specs.Answer.{longest}
+use Rattle.rules.specs.Answer.{refusal, tooLong, badTable, longest}
 use Rattle.rules.specs.Rows.{controlWidth, propertyWidth, room, written, rowAt}
 use Rattle.rules.specs.CodeTable.{wellFormed}
 use Rattle.rules.specs.Reading.{Reading, properties, controlRows, propertyRows}
 use Rattle.rules.specs.Blob.{Outcome, refused, read, fit, outcome, readingOf, counted, exitBy, exit}
-use Rattle.rules.specs.Listing.{answerLine, controlLine, propertyLine, linesFrom, printed}
+use Rattle.rules.specs.Listing.{answerLine, controlLine, propertyLine, linesFrom, printed, tableLength, tableIn, blobIn, listing}
 use Rattle.rules.proofs.RowsLaws.{Wide, row-written}
 use Rattle.rules.proofs.ReadingLaws.{controls-wide, properties-wide, controls-counted, properties-counted}
 use Rattle.listing.specs.Shown.{linesTo, shown}
@@ -109,3 +109,27 @@ pub printed-shown : (t s controls props : List ℕ)
     → printed s (outcome t s (room controlWidth controls) (room propertyWidth props)) ≡ shown s (exit t s controls props)
 unfolding exit
 printed-shown t s controls props = shown-by s controls props (outcome t s (room controlWidth controls) (room propertyWidth props)) (outcome-stated _ _ t s)
+
+-- ---- the program, by the length of its input
+module _ (input : List ℕ) where
+  pub listing-long : 32768 < length input → listing input ≡ answerLine (refusal tooLong)
+  unfolding listing
+  listing-long h = rw (lt-ltb 32768 (length input) h)
+
+  pub listing-short : length input < 4 → listing input ≡ answerLine (refusal badTable)
+  unfolding listing
+  listing-short h = let g : length input ≤ 32768 = omega arith in rw (le-ltb 32768 (length input) g, lt-ltb (length input) 4 h)
+
+  module _ (fits : length input ≤ 32768) (begins : 4 ≤ length input) where
+    pub listing-cut : length input < 4 + tableLength input → listing input ≡ answerLine (refusal badTable)
+    unfolding listing
+    listing-cut h = rw (le-ltb 32768 (length input) fits, le-ltb (length input) 4 begins, lt-ltb (length input) (4 + tableLength input) h)
+
+    -- with room for 256 controls and 1,024 properties
+    pub listing-shown : 4 + tableLength input ≤ length input → (controls props : List ℕ) → room controlWidth controls ≡ 256 → room propertyWidth props ≡ 1024
+        → listing input ≡ shown (blobIn input) (exit (tableIn input) (blobIn input) controls props)
+    unfolding listing
+    listing-shown h controls props c p =
+        rw (le-ltb 32768 (length input) fits, le-ltb (length input) 4 begins, le-ltb (length input) (4 + tableLength input) h)
+        (ap₂ (λ (m n : ℕ). printed (blobIn input) (outcome (tableIn input) (blobIn input) m n)) (sym c) (sym p)
+        ∙ printed-shown (tableIn input) (blobIn input) controls props)

@@ -6,7 +6,7 @@ use text::put_guid;
 use text::put_hex;
 use text::put_text;
 ghost use mathlib.Core.Path.{_≡_};
-ghost use mathlib.Core.List.{[], _∷_, _++_};
+ghost use mathlib.Core.List.{[], _∷_};
 ghost use Prim.Native.Nat.{_<_};
 ghost use lib.ListN.{take, drop};
 ghost use Rattle.rules.specs.Lists.{text};
@@ -32,7 +32,14 @@ pub fn answer_line(a: Answer, out: &mut [u8]) -> usize
     let p = put_decimal(out, p, a.second);
     let p = put_byte(out, p, b' ');
     let p = put_decimal(out, p, a.third);
-    put_byte(out, p, b'\n')
+    put_end(out, p)
+}
+
+// LF ends each line.
+fn put_end(out: &mut [u8], at: usize) -> usize
+    ensures { λ r. ⌜ Wrote (now (out .entry)) at (text "\n") (now (out .exit)) r ⌝ }
+{
+    put_byte(out, at, b'\n')
 }
 
 // ---- what rows are read by
@@ -229,10 +236,10 @@ pub fn control_line(
     rows: &[u32],
     n: u32,
     type_ids: &[u16],
-    type_rows: &[[u8; 26]],
+    type_names: &[[u8; 26]],
     out: &mut [u8],
 ) -> usize
-    requires { ⌜ Lent controlTypeNames (now «type_ids») (now «type_rows») ⌝ }
+    requires { ⌜ Lent controlTypeNames (now «type_ids») (now «type_names») ⌝ }
     ensures { λ r. ⌜ Line (now (out .entry)) (controlLine n (rowAt controlWidth n (now (rows .entry)))) (now (out .exit)) r ⌝ }
 {
     let code = row_word(rows, n, 0);
@@ -241,14 +248,14 @@ pub fn control_line(
     let first = row_word(rows, n, 4);
     let count = row_word(rows, n, 5);
     let p = put_head(out, b'C', n, code);
-    let p = put_type_name(out, p, type_ids, type_rows, code);
+    let p = put_type_name(out, p, type_ids, type_names, code);
     let p = put_byte(out, p, b' ');
     let p = put_chars(out, p, mark, size);
     let p = put_byte(out, p, b' ');
     let p = put_decimal(out, p, first);
     let p = put_byte(out, p, b' ');
     let p = put_decimal(out, p, count);
-    put_byte(out, p, b'\n')
+    put_end(out, p)
 }
 
 // The P line of property row `n`. The names of values are lent.
@@ -257,14 +264,14 @@ pub fn property_line<'a>(
     rows: &[u32],
     n: u32,
     text_ids: &[u16],
-    text_rows: &'a [[u8; 26]],
+    text_names: &'a [[u8; 26]],
     number_ids: &[u16],
-    number_rows: &'a [[u8; 26]],
+    number_names: &'a [[u8; 26]],
     bytes_ids: &[u16],
-    bytes_rows: &'a [[u8; 26]],
+    bytes_names: &'a [[u8; 26]],
     out: &mut [u8],
 ) -> usize
-    requires { ⌜ AllLent (now «text_ids») (now «text_rows») (now «number_ids») (now «number_rows») (now «bytes_ids») (now «bytes_rows») ⌝ }
+    requires { ⌜ AllLent (now «text_ids») (now «text_names») (now «number_ids») (now «number_names») (now «bytes_ids») (now «bytes_names») ⌝ }
     ensures { λ r. ⌜ Line (now (out .entry)) (propertyLine (now (stream .entry)) n (rowAt propertyWidth n (now (rows .entry)))) (now (out .exit)) r ⌝ }
 {
     let id = row_word(rows, n, 0);
@@ -274,15 +281,15 @@ pub fn property_line<'a>(
         out,
         p,
         text_ids,
-        text_rows,
+        text_names,
         number_ids,
-        number_rows,
+        number_names,
         bytes_ids,
-        bytes_rows,
+        bytes_names,
         mark,
         id,
     );
     let p = put_byte(out, p, b' ');
     let p = put_shown(out, p, stream, rows, n);
-    put_byte(out, p, b'\n')
+    put_end(out, p)
 }

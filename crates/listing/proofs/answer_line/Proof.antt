@@ -35,8 +35,8 @@ put-byte-requires-4 c κs = search needs
 put-decimal-requires-4 : tie.Need-put-decimal-requires-4
 put-decimal-requires-4 c κs = search needs
 
-put-byte-requires-5 : tie.Need-put-byte-requires-5
-put-byte-requires-5 c κs = search needs
+put-end-requires : tie.Need-put-end-requires
+put-end-requires c κs = search needs
 
 returns : tie.Need-returns
 unfolding answerLine
@@ -60,7 +60,7 @@ returns c =
     ⨟ c7 .put-decimal3 .ensures
     ⨟ c8 .put-byte4 .ensures
     ⨟ c9 .put-decimal4 .ensures
-    ⨟ c10 .put-byte5 .ensures)
+    ⨟ c10 .put-end .ensures)
 
 same-length : tie.Need-same-length
 same-length c = same (returns c .wrote)
@@ -79,6 +79,6 @@ answer-line-spec =
     put-decimal-requires-3
     put-byte-requires-4
     put-decimal-requires-4
-    put-byte-requires-5
+    put-end-requires
     same-length
     returns)

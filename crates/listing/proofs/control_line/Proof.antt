@@ -45,8 +45,8 @@ put-byte-requires-3 c κs = search needs
 put-decimal-requires-2 : tie.Need-put-decimal-requires-2
 put-decimal-requires-2 c κs = search needs
 
-put-byte-requires-4 : tie.Need-put-byte-requires-4
-put-byte-requires-4 c κs = search needs
+put-end-requires : tie.Need-put-end-requires
+put-end-requires c κs = search needs
 
 returns : tie.Need-returns
 returns c =
@@ -77,7 +77,7 @@ returns c =
     ⨟ c6 .put-decimal .ensures
     ⨟ c7 .put-byte3 .ensures
     ⨟ c8 .put-decimal2 .ensures
-    ⨟ c9 .put-byte4 .ensures))
+    ⨟ c9 .put-end .ensures))
 
 same-length : tie.Need-same-length
 same-length c = same (returns c .wrote)
@@ -99,6 +99,6 @@ control-line-spec =
     put-decimal-requires
     put-byte-requires-3
     put-decimal-requires-2
-    put-byte-requires-4
+    put-end-requires
     same-length
     returns)

@@ -1,6 +1,6 @@
 use borrow.Author.Needs.{needs}
 use Rattle.rules.specs.Rows.{propertyWidth, rowAt}
-use Rattle.text.proofs.Chain.{_⨟_, same}
+use Rattle.text.proofs.Chain.{_⨟_}
 use Rattle.listing.proofs.Fields.{property-text}
 use Rattle.listing.proofs.Placed.{line}
 use Rattle.listing.proofs.property_line.Statement.{statement}
@@ -24,8 +24,8 @@ put-byte-requires c κs = search needs
 put-shown-requires : tie.Need-put-shown-requires
 put-shown-requires c κs = search needs
 
-put-byte-requires-2 : tie.Need-put-byte-requires-2
-put-byte-requires-2 c κs = search needs
+put-end-requires : tie.Need-put-end-requires
+put-end-requires c κs = search needs
 
 same-length : tie.Need-same-length
 same-length c = search needs
@@ -44,7 +44,7 @@ returns c =
     ⨟ c2 .put-value-name .ensures
     ⨟ c3 .put-byte .ensures
     ⨟ c4 .put-shown .ensures
-    ⨟ c5 .put-byte2 .ensures))
+    ⨟ c5 .put-end .ensures))
 
 pub property-line-spec : {M : Type 1} → statement M
 property-line-spec =
@@ -56,6 +56,6 @@ property-line-spec =
     put-value-name-requires
     put-byte-requires
     put-shown-requires
-    put-byte-requires-2
+    put-end-requires
     same-length
     returns)
