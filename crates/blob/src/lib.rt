@@ -1,0 +1,81 @@
+// A Blob of either layout, and the name of a control.
+use rules::Answer;
+ghost use mathlib.Core.Path.{_≡_};
+ghost use mathlib.Core.List.{[]};
+ghost use Prim.Native.Nat.{_+_};
+ghost use Rattle.rules.specs.Answer.{refusal};
+ghost use Rattle.rules.specs.Blob.{is2000, exit};
+ghost use Rattle.rules.specs.NamePart.{namePart, partBytes};
+ghost use Rattle.blob.specs.Exit.{exited, partOr};
+
+fn refused(number: u32) -> Answer
+    ensures { λ r. ⌜ r ≡ refusal number ⌝ }
+{
+    Answer {
+        number,
+        first: 0,
+        second: 0,
+        third: 0,
+    }
+}
+
+// The stream's first byte is the code table's layout byte.
+fn is_2000(table: &[u8], stream: &[u8]) -> bool
+    ensures { λ r. ⌜ r ≡ is2000 (now (table .entry)) (now (stream .entry)) ⌝ }
+{
+    if stream.len() == 0 {
+        return false;
+    }
+    stream[0] == codetable::layout(table)
+}
+
+// Reads a Blob into rows of controls and of properties. A refusal leaves both slices as they were.
+pub fn read_blob(
+    table: &[u8],
+    stream: &[u8],
+    controls: &mut [u32],
+    properties: &mut [u32],
+) -> Answer
+    ensures { λ r. ⌜ exited r (now (controls .exit)) (now (properties .exit)) ≡ exit (now (table .entry)) (now (stream .entry)) (now (controls .entry)) (now (properties .entry)) ⌝ }
+{
+    if stream.len() > 16777216 {
+        return refused(5);
+    }
+    if !codetable::well_formed(table) {
+        return refused(8);
+    }
+    if is_2000(table, stream) {
+        return form2000::read(table, stream, controls, properties);
+    }
+    later::read(stream, controls, properties)
+}
+
+// The part of `s` from `start` on, of so many bytes; the empty part at the start of `other` where `s` doesn't have it.
+fn part_or<'a>(s: &'a [u8], start: usize, length: usize, other: &'a [u8]) -> &'a [u8]
+    ensures { λ r. ⌜ now r ≡ partOr (now (s .entry)) start length ⌝ }
+{
+    if s.len() < start {
+        return &other[..0];
+    }
+    if s.len() - start < length {
+        return &other[..0];
+    }
+    &s[start..start + length]
+}
+
+// The name of a control by the words of its row: a part of the stream, or of the label buffer for a numbered one.
+pub fn control_name<'a>(
+    stream: &'a [u8],
+    label: &'a [u8],
+    mark: u32,
+    start: u32,
+    length: u32,
+) -> &'a [u8]
+    ensures { λ r. ⌜ now r ≡ partBytes (now (stream .entry)) (now (label .entry)) (namePart (now (stream .entry)) (now (label .entry)) mark start length) ⌝ }
+{
+    match mark {
+        0 | 2 => part_or(stream, start as usize, length as usize, stream),
+        1 => part_or(label, 0, length as usize, stream),
+        _ => &stream[..0],
+    }
+}
