@@ -1,9 +1,9 @@
 -- The whole stream counted, from what the code answers for its parts.
-use Prim.Native.Nat.{ℕ, _+_, _≤_, _<_}
+use Prim.Native.Nat.{ℕ, _+_, _≤_}
 use native.Mathlib.Omega.{arith}
 use mathlib.Core.Path.{_≡_, refl, sym, ap, _∙_}
 use mathlib.Core.Bool.{Bool, true, false, cond}
-use mathlib.Core.List.{List, [], _∷_, _++_}
+use mathlib.Core.List.{List, _++_}
 use mathlib.Core.Option.{Option, none, some}
 use lib.Dec.{eqb}
 use lib.ListN.{length, length-append}
@@ -11,7 +11,7 @@ use borrow.Author.Tests.{eq-eqb, ne-eqb, eqb-true}
 use Rattle.rules.specs.Lists.{_>>=_}
 use Rattle.rules.specs.Tree.{Entry, Entries, end, more, Node, isReported, reported, preorder1, preorder, nodesOf, levels}
 use Rattle.rules.specs.Later.{Prop, childrenAt, nodesAt, objectGroup, treeOf, nodesBy}
-use Rattle.rules.proofs.ListLaws.{Every, every-if, every-then, every-when, every-at}
+use Rattle.rules.proofs.ListLaws.{Every, every-at}
 use Rattle.rows.specs.Counting.{propsIn}
 use Rattle.rows.proofs.CountingLaws.{in-append}
 use Rattle.later.specs.Flat.{flat, top, nodesIn}

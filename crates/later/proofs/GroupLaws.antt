@@ -1,13 +1,12 @@
 -- A group, a property at a time: the bound on the number of properties does not matter.
 use Prim.Native.Nat.{ℕ, zero, suc, _+_, _*_, _≤_, _<_}
 use native.Mathlib.Omega.{arith}
-use mathlib.Core.Path.{_≡_, refl, ap, sym, _∙_}
+use mathlib.Core.Path.{_≡_, refl, ap, _∙_}
 use mathlib.Core.Bool.{Bool, true, false, cond}
-use mathlib.Core.List.{List, [], _∷_}
-use mathlib.Core.Option.{Option, none, some}
+use mathlib.Core.List.{List}
 use lib.ListN.{length}
 use borrow.Author.Tests.{leb-true, lt-leb}
-use Rattle.rules.specs.Later.{Prop, lengthAt, endAt, trailerAt, propertyAt, isInside, endsGroup, Group, unended, lastOf, before, groupOf, groupAt}
+use Rattle.rules.specs.Later.{endAt, trailerAt, propertyAt, isInside, endsGroup, Group, unended, lastOf, before, groupOf, groupAt}
 
 -- what holds of both sides of a test holds of what it picks
 pub either : {A : Type 0} (P : A → Type 0) (b : Bool) (x y : A) → (b ≡ true → P x) → (b ≡ false → P y) → P (cond b x y)

@@ -1,14 +1,14 @@
 -- Matches, one at a time: the bound on the number of steps does not matter.
 use Prim.Native.Nat.{ℕ, zero, suc, _+_, _≤_, _<_}
 use native.Mathlib.Omega.{arith}
-use mathlib.Core.Path.{_≡_, refl, ap, ap₂, sym, _∙_}
+use mathlib.Core.Path.{_≡_, refl, ap, ap₂, _∙_}
 use mathlib.Core.Bool.{Bool, true, false, cond, not, _&&_}
 use mathlib.Core.List.{List, [], _∷_, _++_, map}
 use lib.Dec.{ltb, leb, eqb}
 use lib.ListN.{length}
 use borrow.Author.Tests.{lt-leb, leb-true, ltb-true, ltb-false}
 use Rattle.rules.specs.Lists.{keep}
-use Rattle.rules.specs.Bytes.{u16, u32}
+use Rattle.rules.specs.Bytes.{u16}
 use Rattle.rules.specs.Tree.{Node, node}
 use Rattle.rules.specs.Later.{Prop, groupAt, matchAt, matchesOf, matchesFrom, groupsOf, isEmpty, scanFrom}
 use Rattle.rules.proofs.ListLaws.{and-l}

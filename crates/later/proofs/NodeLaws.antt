@@ -1,18 +1,18 @@
 -- A node by its parts, as the code answers them: its group, how many nodes are below it, and those.
-use Prim.Native.Nat.{ℕ, zero, suc, _+_, _-_, _*_, _≤_, _<_}
+use Prim.Native.Nat.{ℕ, suc, _+_, _-_, _≤_, _<_}
 use native.Mathlib.Omega.{arith}
-use mathlib.Core.Path.{_≡_, refl, sym, ap, ap₂, _∙_}
-use mathlib.Core.Bool.{Bool, true, false, cond}
+use mathlib.Core.Path.{_≡_, refl, sym, ap, _∙_}
+use mathlib.Core.Bool.{Bool, true, false}
 use mathlib.Core.List.{List, [], _∷_, _++_}
 use mathlib.Core.Option.{Option, none, some}
 use lib.Dec.{leb, eqb}
 use lib.ListN.{length}
-use borrow.Author.Tests.{leb-true, lt-leb, le-leb, eq-eqb, ne-eqb}
+use borrow.Author.Tests.{leb-true}
 use Rattle.rules.specs.Lists.{_>>=_}
 use Rattle.rules.specs.Bytes.{u16}
-use Rattle.rules.specs.Tree.{Entry, plain, parent, Entries, end, more, levelsAt, Node, node, isSection, isReported, preorder1, preorder}
+use Rattle.rules.specs.Tree.{Entry, Entries, end, more, levelsAt, Node, node, isSection, isReported, preorder1, preorder}
 use Rattle.rules.specs.Later as later
-use Rattle.rules.specs.Later.{Prop, endAt, unended, groupAt, childrenAt, withChildren, nodeAt, nodesAt}
+use Rattle.rules.specs.Later.{Prop, groupAt, childrenAt, withChildren, nodeAt, nodesAt}
 use Rattle.rules.proofs.ListLaws.{Every, every-if, every-then, every-when, every-at}
 use Rattle.rows.specs.Counting.{propsIn}
 use Rattle.later.specs.Flat.{flat1, flat, top, join}
@@ -23,7 +23,7 @@ use Rattle.later.specs.declared.Part.{Part}
 use Rattle.later.specs.declared.Section.{Section}
 use Rattle.later.proofs.GroupLaws.{group-none, inside-false, group-grows}
 use Rattle.later.proofs.SharedFlat.{Grown, isMore, levels-none, levels-more, levels-grow, flat-next, flat-none, flat-deep, top-none, top-kept, top-left}
-use Rattle.later.proofs.TakenLaws.{part-of, part-bad, part-room}
+use Rattle.later.proofs.TakenLaws.{part-bad, part-room}
 
 -- ---- from what the code answers back to the definition
 pub record Ends (g : later.Group) (c st t : ℕ) : Type 0 where

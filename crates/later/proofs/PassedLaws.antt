@@ -1,17 +1,16 @@
 -- Counting a group by a loop, from what the code answers for each property.
 use Prim.Native.Nat.{ℕ, suc, _+_, _≤_, _<_}
 use native.Mathlib.Omega.{arith}
-use native.Mathlib.Nat.{zero-add, add-zero, add-assoc}
-use native.Mathlib.Numerals.{one-add}
+use native.Mathlib.Nat.{zero-add}
 use mathlib.Core.Path.{_≡_, refl, sym, ap, ap₂, _∙_}
 use mathlib.Core.Bool.{Bool, true, false, cond}
-use mathlib.Core.List.{List, [], _∷_}
+use mathlib.Core.List.{List}
 use mathlib.Core.Option.{Option, none, some}
 use lib.ListN.{length}
 use borrow.Author.Tests.{le-leb}
 use Rattle.rules.specs.Bytes.{u32}
 use Rattle.rules.specs.Later as later
-use Rattle.rules.specs.Later.{Prop, lengthAt, endAt, trailerAt, propertyAt, isInside, endsGroup, unended, lastOf, before, groupAt}
+use Rattle.rules.specs.Later.{Prop, lengthAt, endAt, trailerAt, propertyAt, isInside, endsGroup, before, groupAt}
 use Rattle.later.specs.Count.{item, group, groupBy}
 use Rattle.later.specs.declared.Item.{Item}
 use Rattle.later.specs.declared.Group.{Group}

@@ -1,9 +1,9 @@
 -- The whole stream written, and what a caller sees.
-use Prim.Native.Nat.{ℕ, _+_, _*_, _/_, _≤_, _<_}
+use Prim.Native.Nat.{ℕ, _+_, _≤_, _<_}
 use native.Mathlib.Omega.{arith}
 use mathlib.Core.Path.{_≡_, refl, sym, ap, ap₂, _∙_, subst}
 use mathlib.Core.Bool.{Bool, true, false, cond}
-use mathlib.Core.List.{List, [], _∷_, _++_, map}
+use mathlib.Core.List.{List, [], map}
 use mathlib.Core.Option.{Option, none, some}
 use lib.Dec.{ltb, eqb}
 use lib.ListN.{length, length-append, length-map}
@@ -11,20 +11,17 @@ use borrow.Author.Tests.{lt-ltb, le-ltb}
 use Rattle.rules.specs.Lists.{_>>=_, concat}
 use Rattle.rules.specs.Answer.{answer, longest}
 use Rattle.rules.specs.Rows.{controlWidth, propertyWidth, room, written}
-use Rattle.rules.specs.Tree.{Entries, Node, nodesOf}
+use Rattle.rules.specs.Tree.{Entries, Node}
 use Rattle.rules.specs.Later.{Prop, childrenAt, nodesAt, objectGroup, treeOf, nodesBy, scanFrom, laterOf}
-use Rattle.rules.specs.Reading.{Control, Reading, properties, propertiesOf, controlRowsFrom, controlRows, propertyRow, propertyRows}
+use Rattle.rules.specs.Reading.{properties, controlRowsFrom, controlRows, propertyRows}
 use Rattle.rules.specs.ReadLater.{propertyOf, controlOf, readLater}
-use Rattle.rules.specs.Blob.{counted, fit, refused, read, answerOf, exitBy}
+use Rattle.rules.specs.Blob.{counted}
 use Rattle.rules.specs.declared.Answer.{Answer}
-use Rattle.rules.specs.declared.Property.{Property}
-use Rattle.rows.specs.Counting.{propsIn}
 use Rattle.rows.specs.Writing.{State, state, theirs, writeControls, writeProperties}
-use Rattle.rows.proofs.PutLaws.{put-length}
 use Rattle.rows.proofs.WritingLaws.{properties-length, reading-written}
-use Rattle.later.specs.Flat.{top, Good, nodesIn, endIn}
+use Rattle.later.specs.Flat.{top, Good, nodesIn}
 use Rattle.later.specs.Count.{children, wholeTree, isTree, Counted}
-use Rattle.later.specs.Write.{trailerOr0, GroupReady, GroupDone, write, Ready, NodesReady, NodesDone, scanned, ScanReady, started, BlobReady, BlobDone, outcomeOf, Ended}
+use Rattle.later.specs.Write.{trailerOr0, GroupReady, GroupDone, write, Ready, NodesReady, NodesDone, scanned, ScanReady, started, BlobReady, BlobDone, Ended}
 use Rattle.later.specs.declared.Children.{Children}
 use Rattle.later.specs.declared.Counts.{Counts}
 use Rattle.later.specs.declared.Wrote.{Wrote}

@@ -1,8 +1,7 @@
 -- Nodes written one after the other: what is left to write from here is what there was to write.
-use Prim.Native.Nat.{ℕ, suc, _+_, _-_, _*_, _≤_, _<_}
+use Prim.Native.Nat.{ℕ, _+_, _-_, _*_, _≤_}
 use native.Mathlib.Omega.{arith}
 use mathlib.Core.Path.{_≡_, refl, sym, ap, ap₂, _∙_, subst}
-use mathlib.Core.Bool.{Bool, true, false}
 use mathlib.Core.List.{List, [], _∷_, _++_, map}
 use mathlib.Core.Option.{Option, none, some}
 use lib.ListN.{length, length-append, length-map}
@@ -11,15 +10,14 @@ use Rattle.rules.specs.Answer.{longest}
 use Rattle.rules.specs.Rows.{controlWidth, propertyWidth}
 use Rattle.rules.specs.Reading.{Control, nameWords, controlRow}
 use Rattle.rules.specs.Tree.{Node, node}
-use Rattle.rules.specs.Later.{Prop, groupAt}
+use Rattle.rules.specs.Later.{Prop}
 use Rattle.rules.specs.ReadLater.{propertyOf, nameOf, controlOf}
-use Rattle.rules.specs.declared.Name.{Name}
 use Rattle.rules.proofs.ListLaws.{map-append}
 use Rattle.rows.specs.Put.{put, controlWords}
 use Rattle.rows.specs.Counting.{propsIn}
 use Rattle.rows.specs.Writing.{State, state, theirs, writeControls, Room}
 use Rattle.rows.specs.declared.ControlRow.{ControlRow}
-use Rattle.rows.proofs.WritingLaws.{theirs-append, theirs-one, write-none, write-append, write-one, write-lengths}
+use Rattle.rows.proofs.WritingLaws.{write-none, write-append, write-one, write-lengths}
 use Rattle.rows.proofs.CountingLaws.{in-append, theirs-many}
 use Rattle.later.specs.Flat.{join, Good, nodesIn, endIn}
 use Rattle.later.specs.Write.{nameIn, propsAt, GroupReady, GroupDone, write, Ready, NodesReady, NodesDone, groupNode, ControlReady, ControlDone}
@@ -41,17 +39,14 @@ pub write-nothing : (s : List ℕ) (st : State) → write s [] st ≡ st
 unfolding write
 write-nothing s st = write-none st
 
--- the rows that are next once these are written
+-- the rows that are next once these are written; the slices stay as long as they are
 rows-after : (s : List ℕ) (a : List (Node Prop)) (st : State)
     → (write s a st .ci ≡ st .ci + length a) × (write s a st .pi ≡ st .pi + propsIn a) × (length (write s a st .cs) ≡ length (st .cs)) × (length (write s a st .ps) ≡ length (st .ps))
 unfolding write writeControls
 rows-after s a st =
-    let l = write-lengths (map (controlOf s) a) st in
+    let l : (length (writeControls (map (controlOf s) a) st .cs) ≡ length (st .cs)) × (length (writeControls (map (controlOf s) a) st .ps) ≡ length (st .ps)) = write-lengths (map (controlOf s) a) st in
     let n : length (map (controlOf s) a) ≡ length a = simp length-map in
-    (ap (λ n. st .ci + n) n, ap (λ n. st .pi + n) (their-many s a), put-kept (map (controlOf s) a) st .0, put-kept (map (controlOf s) a) st .1)
-  where
-    put-kept : (cs : List Control) (st : State) → (length (writeControls cs st .cs) ≡ length (st .cs)) × (length (writeControls cs st .ps) ≡ length (st .ps))
-    put-kept cs st = write-lengths cs st
+    (ap (λ n. st .ci + n) n, ap (λ n. st .pi + n) (their-many s a), l .0, l .1)
 
 -- room by numbers
 pub room-by : (s : List ℕ) (a : List (Node Prop)) (st : State) → (st .ci + length a) * controlWidth ≤ length (st .cs) → (st .pi + propsIn a) * propertyWidth ≤ length (st .ps) → Room (map (controlOf s) a) st

@@ -1,14 +1,13 @@
 -- The scan by a loop: so much is found, and the scan from a on is left.
-use Prim.Native.Nat.{ℕ, suc, _+_, _*_, _≤_, _<_}
+use Prim.Native.Nat.{ℕ, _+_, _*_, _≤_, _<_}
 use native.Mathlib.Omega.{arith}
-use mathlib.Core.Path.{_≡_, refl, sym, ap, _∙_}
-use mathlib.Core.Bool.{Bool, true, false}
+use mathlib.Core.Path.{_≡_, refl, ap, _∙_}
+use mathlib.Core.Bool.{true}
 use mathlib.Core.List.{List, [], _∷_, _++_}
-use lib.ListN.{length, length-append}
-use Rattle.rules.specs.Tree.{Node, node}
+use lib.ListN.{length}
+use Rattle.rules.specs.Tree.{node}
 use Rattle.rules.specs.Later.{Prop, groupAt, matchAt, scanFrom}
 use Rattle.rows.specs.Counting.{propsIn}
-use Rattle.rows.proofs.CountingLaws.{in-append}
 use Rattle.later.specs.Count.{NextMatch, ScanCounted}
 use Rattle.later.proofs.GroupLaws.{group-grows}
 use Rattle.later.proofs.MatchLaws.{shown, scan-same, scan-step, scan-end}

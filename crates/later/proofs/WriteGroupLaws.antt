@@ -1,11 +1,10 @@
 -- A group written by a loop: what is left to write from here is what there was to write.
 use Prim.Native.Nat.{ℕ, _+_, _-_, _*_, _≤_}
 use native.Mathlib.Omega.{arith}
-use native.Mathlib.Nat.{add-zero}
 use mathlib.Core.Path.{_≡_, refl, sym, ap, ap₂, _∙_}
 use mathlib.Core.Bool.{Bool, true, false, cond}
 use mathlib.Core.List.{List, [], _∷_, _++_, map}
-use mathlib.Core.Option.{Option, none, some}
+use mathlib.Core.Option.{some}
 use lib.Dec.{eqb}
 use lib.ListN.{length, take, drop}
 use borrow.Author.Tests.{eq-eqb, ne-eqb}
@@ -15,7 +14,7 @@ use Rattle.rules.specs.Rows.{propertyWidth}
 use Rattle.rules.specs.Value.{entryValue}
 use Rattle.rules.specs.Reading.{nameWords, propertyRow}
 use Rattle.rules.specs.Texts.{label}
-use Rattle.rules.specs.Later.{Prop, lengthAt, endAt, trailerAt, propertyAt, isInside, endsGroup, Group, unended, lastOf, before, groupAt}
+use Rattle.rules.specs.Later.{Prop, lengthAt, endAt, propertyAt, endsGroup, groupAt}
 use Rattle.rules.specs.ReadLater.{propertyOf, nameBy, nameOr}
 use Rattle.rules.specs.declared.Value.{Value}
 use Rattle.rules.specs.declared.Property.{Property}
@@ -29,7 +28,6 @@ use Rattle.later.specs.Count.{item}
 use Rattle.later.specs.Write.{orName, firstName, nameIn, trailerOr0, propsAt, GroupReady, GroupDone, PropertyInside}
 use Rattle.later.specs.declared.Item.{Item}
 use Rattle.later.specs.declared.Named.{Named}
-use Rattle.later.specs.declared.Wrote.{Wrote}
 use Rattle.later.proofs.GroupLaws.{group-none, group-last, group-more}
 use Rattle.later.proofs.PassedLaws.{Inside, item-inside, item-outside, props-some}
 

@@ -1,22 +1,22 @@
 -- The writing pass over nodes, from what the code answers.
-use Prim.Native.Nat.{ℕ, suc, _+_, _-_, _≤_, _<_}
+use Prim.Native.Nat.{ℕ, _+_, _-_, _≤_, _<_}
 use native.Mathlib.Omega.{arith}
 use mathlib.Core.Path.{_≡_, refl, sym, ap, ap₂, _∙_, subst}
 use mathlib.Core.Bool.{Bool, true, false}
-use mathlib.Core.List.{List, [], _∷_, _++_}
+use mathlib.Core.List.{List, _++_}
 use mathlib.Core.Option.{Option, none, some}
 use lib.Dec.{ltb}
 use lib.ListN.{length}
 use borrow.Author.Tests.{ltb-true, ltb-false}
 use Rattle.rules.specs.Bytes.{u16}
 use Rattle.rules.specs.Answer.{longest}
-use Rattle.rules.specs.Tree.{Node, node}
-use Rattle.rules.specs.Later.{Prop, groupAt, childrenAt, nodesAt, matchAt, scanFrom}
+use Rattle.rules.specs.Tree.{node}
+use Rattle.rules.specs.Later.{groupAt, childrenAt, nodesAt, matchAt, scanFrom}
 use Rattle.rows.specs.Counting.{propsIn}
 use Rattle.rows.specs.Writing.{State, state}
 use Rattle.later.specs.Flat.{flat1, flat, top, join, Good}
 use Rattle.later.specs.Count.{item, group, groupBy, children, oneNode, section, NextMatch}
-use Rattle.later.specs.Write.{trailerOr0, Ready, NodesReady, NodesDone, groupNode, ControlReady, ControlDone, scanned, ScanReady}
+use Rattle.later.specs.Write.{trailerOr0, NodesReady, NodesDone, groupNode, ControlReady, ControlDone, scanned, ScanReady}
 use Rattle.later.specs.declared.Item.{Item}
 use Rattle.later.specs.declared.Group.{Group}
 use Rattle.later.specs.declared.Children.{Children}
@@ -25,8 +25,8 @@ use Rattle.later.specs.declared.Wrote.{Wrote}
 use Rattle.later.proofs.PassedLaws.{item-inside, item-outside, props-some, props-none}
 use Rattle.later.proofs.MatchLaws.{scan-same, scan-step, scan-end}
 use Rattle.later.proofs.ScanLaws.{shown-some, shown-none}
-use Rattle.later.proofs.NodeLaws.{groupIn, headed, node-past, node-open, node-bad, node-head, children-of, children-bad, nodes-next, nodes-none, nodes-deep, tops-none, tops-kept, tops-left}
-use Rattle.later.proofs.RemainLaws.{Remain, remain-start, remain-as, remain-ready, remain-last, remain-done, remain-first, remain-step}
+use Rattle.later.proofs.NodeLaws.{groupIn, headed, node-past, node-open, node-bad, node-head, nodes-next, nodes-none, nodes-deep, tops-none, tops-kept, tops-left}
+use Rattle.later.proofs.RemainLaws.{Remain, remain-start, remain-as, remain-done, remain-first, remain-step}
 
 -- ---- the parts of a node that can be read
 pub record NodeParts (d : ℕ) (s : List ℕ) (p : ℕ) : Type 0 where

@@ -11,7 +11,7 @@ use Rattle.rules.specs.Tree.{Entry, Entries, Node, isReported, levels}
 use Rattle.rules.specs.Later as later
 use Rattle.rules.specs.Later.{Prop, isInside, lengthAt, endAt, trailerAt, childrenAt, nodeAt, nodesAt, matchAt, matchesFrom, scanFrom, objectGroup, treeOf, nodesBy}
 use Rattle.rows.specs.Counting.{propsIn}
-use Rattle.later.specs.Flat.{flat1, flat, top}
+use Rattle.later.specs.Flat.{top}
 use Rattle.later.specs.declared.Item.{Item}
 use Rattle.later.specs.declared.Group.{Group}
 use Rattle.later.specs.declared.Children.{Children}

@@ -1,7 +1,6 @@
 -- Entries as what is shown of them: their nodes in output order, with the place behind them. `none` where they can't be read.
 use Prim.Native.Nat.{ℕ}
-use mathlib.Core.Bool.{Bool, cond}
-use mathlib.Core.List.{List, [], _∷_, _++_}
+use mathlib.Core.List.{List, [], _++_}
 use mathlib.Core.Option.{Option, none, some}
 use Rattle.rules.specs.Lists.{_>>=_}
 use Rattle.rules.specs.Tree.{Entry, Entries, Node, preorder1, preorder, nodesOf}

@@ -26,13 +26,10 @@ ghost use Rattle.later.specs.Count.{item, group, children, part, oneNode
 ghost use Rattle.later.specs.Write.{orName, firstName, PropertyInside, GroupReady, GroupDone, ControlReady, ControlDone, NodesReady, NodesDone, scanned, ScanReady, BlobReady, BlobDone, Ended};
 
 // ---- properties and groups
+// A property: its value's size, where the next one starts, and its trailer.
 pub enum Item {
     Outside,
-    Inside {
-        size: usize,
-        next: usize,
-        trailer: u32,
-    },
+    Inside(usize, usize, u32),
 }
 
 pub enum Group {
@@ -94,11 +91,7 @@ fn parse_entry(s: &[u8], limit: usize, at: usize) -> Item
         return Item::Outside;
     }
     let trailer = u32_at(s, at + 14 + size);
-    Item::Inside {
-        size,
-        next: at + 14 + size + 4,
-        trailer,
-    }
+    Item::Inside(size, at + 14 + size + 4, trailer)
 }
 
 fn ends_group(trailer: u32) -> bool
@@ -119,11 +112,7 @@ fn parse_group(s: &[u8], limit: usize, at: usize) -> Group
             Item::Outside => {
                 return Group::Unended { count: n, stop: p };
             }
-            Item::Inside {
-                size: _,
-                next,
-                trailer,
-            } => {
+            Item::Inside(_, next, trailer) => {
                 n = n + 1;
                 p = next;
                 if ends_group(trailer) {
@@ -541,11 +530,7 @@ fn write_group(s: &[u8], limit: usize, at: usize, rows: &mut [u32], first: usize
                     name,
                 };
             }
-            Item::Inside {
-                size,
-                next,
-                trailer,
-            } => {
+            Item::Inside(size, next, trailer) => {
                 let q = property_at(s, p, size);
                 known = first_name(known, q);
                 put_property(rows, n, q);
@@ -636,10 +621,9 @@ fn write_node(
     requires { ⌜ NodesReady (now s) (flat1 (oneNode left (now s) at)) (state (now controls) control (now properties) property) ⌝ }
     ensures { λ r. ⌜ NodesDone (now (s .entry)) (flat1 (oneNode left (now (s .entry)) at)) (state (now (controls .entry)) control (now (properties .entry)) property) (state (now (controls .exit)) (r .control) (now (properties .exit)) (r .property)) (r .at) ⌝ }
 {
-    let kind = u16_at(s, at);
     let w = write_control(
         s,
-        kind,
+        u16_at(s, at),
         s.len(),
         at + 6,
         controls,
@@ -751,20 +735,16 @@ fn write_scanned(
     let mut i: usize = 0;
     let mut j = property;
     while a < s.len() {
-        let b = find_match(s, a + 6);
-        match parse_entry(s, b, a) {
+        let limit = find_match(s, a + 6);
+        match parse_entry(s, limit, a) {
             Item::Outside => {
-                a = b;
+                a = limit;
             }
-            Item::Inside {
-                size: _,
-                next: _,
-                trailer: _,
-            } => {
-                let w = write_control(s, 0, b, a, controls, i, properties, j);
+            Item::Inside(_, _, _) => {
+                let w = write_control(s, 0, limit, a, controls, i, properties, j);
                 i = i + 1;
                 j = j + w.count;
-                a = b;
+                a = limit;
             }
         }
     }

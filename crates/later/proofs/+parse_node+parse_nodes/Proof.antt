@@ -1,6 +1,5 @@
 use native.Mathlib.Omega.{arith}
 use borrow.Author.Needs.{needs}
-use mathlib.Core.Path.{_≡_, refl, sym, ap, _∙_}
 use Prim.Native.Nat.{_+_, _≤_}
 use Rattle.later.proofs.NodeLaws.{node-past, node-open, node-bad, counted-none, counted-bad, counted-of, node-room}
 use Rattle.later.proofs.LoopLaws.{node-fits, Counting, counting-start, counting-all, counting-deep, counting-bad, counting-more}

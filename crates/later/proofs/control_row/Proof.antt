@@ -1,4 +1,3 @@
-use native.Mathlib.Omega.{arith}
 use borrow.Author.Needs.{needs}
 use Rattle.later.proofs.WriteGroupLaws.{row-text, row-numbered, row-loose}
 use Rattle.later.proofs.control_row.Statement.{statement}

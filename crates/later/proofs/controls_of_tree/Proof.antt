@@ -1,4 +1,3 @@
-use native.Mathlib.Omega.{arith}
 use borrow.Author.Needs.{needs}
 use Rattle.later.proofs.CountLaws.{tree-bad, tree-none, tree-over, tree-whole}
 use Rattle.later.proofs.controls_of_tree.Statement.{statement}

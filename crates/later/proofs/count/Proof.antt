@@ -1,4 +1,3 @@
-use native.Mathlib.Omega.{arith}
 use borrow.Author.Needs.{needs}
 use Rattle.later.proofs.CountLaws.{within-open, within-ended, counted-open, counted-scan, counted-tree}
 use Rattle.later.proofs.count.Statement.{statement}

@@ -1,4 +1,3 @@
-use native.Mathlib.Omega.{arith}
 use borrow.Author.Needs.{needs}
 use Rattle.later.proofs.WriteGroupLaws.{first-known, first-new, first-other}
 use Rattle.later.proofs.first_name.Statement.{statement}

@@ -1,4 +1,3 @@
-use native.Mathlib.Omega.{arith}
 use borrow.Author.Needs.{needs}
 use Rattle.later.proofs.WriteGroupLaws.{property-is}
 use Rattle.later.proofs.property_at.Statement.{statement}

@@ -1,6 +1,6 @@
 use native.Mathlib.Omega.{arith}
 use borrow.Author.Needs.{needs}
-use mathlib.Core.Path.{_≡_, refl, sym, ap, _∙_}
+use mathlib.Core.Path.{sym, ap, _∙_}
 use Rattle.rules.specs.Tree.{isSection}
 use Rattle.later.proofs.NodeLaws.{node-past, node-open, node-bad, shown-none, shown-type, shown-filled, shown-leaf}
 use Rattle.later.proofs.section_at.Statement.{statement}

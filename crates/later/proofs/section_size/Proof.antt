@@ -1,4 +1,3 @@
-use native.Mathlib.Omega.{arith}
 use borrow.Author.Needs.{needs}
 use Rattle.later.proofs.LoopLaws.{size-open, size-ended}
 use Rattle.later.proofs.section_size.Statement.{statement}

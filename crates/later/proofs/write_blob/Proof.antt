@@ -1,6 +1,5 @@
-use native.Mathlib.Omega.{arith}
 use borrow.Author.Needs.{needs}
-use Rattle.later.proofs.ReadLaws.{own-ready, blob-tree-ready, blob-tree-done, blob-scan-ready, blob-scan-done}
+use Rattle.later.proofs.ReadLaws.{blob-tree-ready, blob-tree-done, blob-scan-ready, blob-scan-done}
 use Rattle.later.proofs.write_blob.Statement.{statement}
 use Rattle.later.proofs.write_blob.Tie as tie
 

@@ -1,4 +1,3 @@
-use native.Mathlib.Omega.{arith}
 use borrow.Author.Needs.{needs}
 use Rattle.later.proofs.RemainLaws.{group-ready, words-ready, control-done}
 use Rattle.later.proofs.write_control.Statement.{statement}

@@ -1,6 +1,6 @@
 use native.Mathlib.Omega.{arith}
 use borrow.Author.Needs.{needs}
-use mathlib.Core.Path.{_≡_, refl, sym, ap, _∙_}
+use mathlib.Core.Path.{_∙_}
 use Prim.Native.Nat.{_-_}
 use Rattle.later.proofs.PassedLaws.{item-inside}
 use Rattle.later.proofs.WriteGroupLaws.{Writing, writing-start, writing-none, inside-property, writing-room, writing-last, writing-more}

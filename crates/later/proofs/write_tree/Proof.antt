@@ -1,4 +1,3 @@
-use native.Mathlib.Omega.{arith}
 use borrow.Author.Needs.{needs}
 use Rattle.later.proofs.ReadLaws.{tree-never, tree-ready, tree-done}
 use Rattle.later.proofs.write_tree.Statement.{statement}
