@@ -39,12 +39,12 @@ returns c =
     let c1 = c2 .before .before .before .before in
     let w = c1 .before .before in
     let a = c1 .before .before .before .before .before .before .before .before .before .before .args in
-    rw (property-text (a .stream .now) (a .n) (rowAt propertyWidth (a .n) (a .rows .now)), ← w .before .row-word .ensures, ← w .row-word2 .ensures)
-    (line (c1 .put-head .ensures
+    rw (property-text (a .stream .now) (a .n) (rowAt propertyWidth (a .n) (a .rows .now)))
+    (line (rw (w .before .row-word .ensures, w .row-word2 .ensures) at (c1 .put-head .ensures
     ⨟ c2 .put-value-name .ensures
     ⨟ c3 .put-byte .ensures
     ⨟ c4 .put-shown .ensures
-    ⨟ c5 .put-end .ensures))
+    ⨟ c5 .put-end .ensures)))
 
 pub property-line-spec : {M : Type 1} → statement M
 property-line-spec =

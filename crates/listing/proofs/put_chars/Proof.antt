@@ -1,3 +1,4 @@
+use native.Mathlib.Omega.{arith}
 use borrow.Author.Needs.{needs}
 use Rattle.listing.proofs.Fields.{numbered, with-name}
 use Rattle.listing.proofs.put_chars.Statement.{statement}
@@ -13,13 +14,13 @@ same-length : tie.Need-same-length
 same-length c = search needs
 
 returns : tie.Need-returns
-returns c = let a = c .before .before .before .before .before .before .args in rw (numbered (a .mark) (a .size) (c .before .before .before .before .if1 .taken)) (c .before .before .put-byte .ensures)
+returns c = let a = c .before .before .before .before .before .before .args in rw (numbered (a .mark) (a .size) (omega arith)) (c .before .before .put-byte .ensures)
 
 same-length-2 : tie.Need-same-length-2
 same-length-2 c = search needs
 
 returns-2 : tie.Need-returns-2
-returns-2 c = let a = c .before .before .before .before .before .before .args in rw (with-name (a .mark) (a .size) (c .before .before .before .before .if1 .left)) (c .before .before .put-decimal .ensures)
+returns-2 c = let a = c .before .before .before .before .before .before .args in rw (with-name (a .mark) (a .size) (λ e. omega arith)) (c .before .before .put-decimal .ensures)
 
 pub put-chars-spec : {M : Type 1} → statement M
 put-chars-spec =

@@ -37,16 +37,18 @@ same-length c = search needs
 returns : tie.Need-returns
 unfolding shownFields
 returns c =
-    let words = c .before .before .before .before .before .before .before .before .before .before .before .before in
+    let c3 = c .before .before in
+    let c2 = c3 .before .before .before .before in
+    let c1 = c2 .before .before .before .before in
+    let w = c1 .before .before in
     rw (
-      ← words .before .before .before .before .before .row-word .ensures,
-      ← words .before .before .before .before .row-word2 .ensures,
-      ← words .before .before .before .row-word3 .ensures,
-      ← words .before .before .row-word4 .ensures,
-      ← words .before .row-word5 .ensures,
-      ← words .value-bytes .ensures,
-    )
-    (c .before .before .before .before .before .before .before .before .before .before .put-word .ensures ⨟ c .before .before .before .before .before .before .put-byte .ensures ⨟ c .before .before .put-value .ensures)
+      w .value-bytes .ensures,
+      w .before .before .before .before .before .row-word .ensures,
+      w .before .before .before .before .row-word2 .ensures,
+      w .before .before .before .row-word3 .ensures,
+      w .before .before .row-word4 .ensures,
+      w .before .row-word5 .ensures,
+    ) at (c1 .put-word .ensures ⨟ c2 .put-byte .ensures ⨟ c3 .put-value .ensures)
 
 pub put-shown-spec : {M : Type 1} → statement M
 put-shown-spec =

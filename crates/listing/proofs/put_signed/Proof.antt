@@ -1,3 +1,4 @@
+use native.Mathlib.Omega.{arith}
 use borrow.Author.Needs.{needs}
 use Rattle.text.proofs.Chain.{_⨟_}
 use Rattle.listing.proofs.Fields.{low-half, high-half}
@@ -23,13 +24,13 @@ same-length : tie.Need-same-length
 same-length c = search needs
 
 returns : tie.Need-returns
-returns c = rw (low-half (c .before .before .before .before .before .before .args .low) (c .before .before .before .before .if1 .taken)) (c .before .before .put-decimal .ensures)
+returns c = rw (low-half (c .before .before .before .before .before .before .args .low) (omega arith)) (c .before .before .put-decimal .ensures)
 
 same-length-2 : tie.Need-same-length-2
 same-length-2 c = search needs
 
 returns-2 : tie.Need-returns-2
-returns-2 c = rw (high-half (c .before .before .before .before .before .before .before .before .before .before .args .low) (c .before .before .before .before .before .before .before .before .if1 .left)) (c .before .before .before .before .before .before .put-byte .ensures ⨟ c .before .before .put-decimal2 .ensures)
+returns-2 c = rw (high-half (c .before .before .before .before .before .before .before .before .before .before .args .low) (omega arith)) (c .before .before .before .before .before .before .put-byte .ensures ⨟ c .before .before .put-decimal2 .ensures)
 
 pub put-signed-spec : {M : Type 1} → statement M
 put-signed-spec =

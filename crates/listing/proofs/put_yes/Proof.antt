@@ -1,3 +1,4 @@
+use native.Mathlib.Omega.{arith}
 use borrow.Author.Needs.{needs}
 use Rattle.listing.proofs.Fields.{is-no, is-yes}
 use Rattle.listing.proofs.put_yes.Statement.{statement}
@@ -19,13 +20,13 @@ same-length : tie.Need-same-length
 same-length c = search needs
 
 returns : tie.Need-returns
-returns c = rw (is-no (c .before .before .before .before .before .before .before .args .low) (c .before .before .before .before .before .if1 .taken)) (c .before .before .put-text .ensures)
+returns c = rw (is-no (c .before .before .before .before .before .before .before .args .low) (omega arith)) (c .before .before .put-text .ensures)
 
 same-length-2 : tie.Need-same-length-2
 same-length-2 c = search needs
 
 returns-2 : tie.Need-returns-2
-returns-2 c = rw (is-yes (c .before .before .before .before .before .before .before .args .low) (c .before .before .before .before .before .if1 .left)) (c .before .before .put-text2 .ensures)
+returns-2 c = rw (is-yes (c .before .before .before .before .before .before .before .args .low) (λ e. omega arith)) (c .before .before .put-text2 .ensures)
 
 pub put-yes-spec : {M : Type 1} → statement M
 put-yes-spec =
