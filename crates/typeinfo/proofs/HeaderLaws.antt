@@ -1,6 +1,6 @@
 -- The header: what speaks against reading the entries, in its order.
 use Prim.Native.Nat.{ℕ, _-_, _/_, _≤_, _<_}
-use mathlib.Core.Path.{_≡_}
+use mathlib.Core.Path.{_≡_, _∙_}
 use mathlib.Core.List.{List}
 use lib.ListN.{length}
 use borrow.Author.Tests.{lt-ltb, le-ltb, eq-eqb, ne-eqb}
@@ -18,9 +18,9 @@ module _ (s : List ℕ) where
   unfolding headerOf
   too-short a b = rw (le-ltb longest (length s) a, lt-ltb (length s) 32 b)
 
-  pub other-magic : length s ≤ longest → 32 ≤ length s → (u32 s 0 ≡ 0xACCDEAF7 → ⊥) → Refused otherMagic ≡ headerOf s
+  pub other-magic : {magic : ℕ} → length s ≤ longest → 32 ≤ length s → magic ≡ u32 s 0 → (magic ≡ 0xACCDEAF7 → ⊥) → Refused otherMagic ≡ headerOf s
   unfolding headerOf
-  other-magic a b c = rw (le-ltb longest (length s) a, le-ltb (length s) 32 b, ne-eqb (u32 s 0) 0xACCDEAF7 c)
+  other-magic a b e c = rw (le-ltb longest (length s) a, le-ltb (length s) 32 b, ne-eqb (u32 s 0) 0xACCDEAF7 (λ h. c (e ∙ h)))
 
   pub too-many : length s ≤ longest → 32 ≤ length s → u32 s 0 ≡ 0xACCDEAF7 → (length s - 32) / 8 < u32 s 12 → Refused tooManyEntries ≡ headerOf s
   unfolding headerOf

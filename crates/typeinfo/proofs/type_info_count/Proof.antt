@@ -26,7 +26,7 @@ sub-most : tie.Need-sub-most
 sub-most c = search needs
 
 returns-3 : tie.Need-returns-3
-returns-3 c = other-magic (c .before .before .before .before .before .before .args .s .now) (omega arith) (omega arith) (λ e. c .if3 .taken (c .before .before .u32-at .ensures ∙ e))
+returns-3 c = other-magic (c .before .before .before .before .before .before .args .s .now) (omega arith) (omega arith) (c .before .before .u32-at .ensures) (c .if3 .taken)
 
 returns-4 : tie.Need-returns-4
 returns-4 c = too-many (c .before .before .before .before .before .before .before .args .s .now) (omega arith) (omega arith) (omega arith) (omega arith)
