@@ -1,0 +1,218 @@
+// Replays a batch file of cases from standard input and prints what each gives; compare/README.md has both formats.
+mod lines; // lines.rt: the lines that are printed
+
+use libc::STDIN_FILENO;
+use lines::front;
+use lines::print_answer;
+use lines::print_bytes;
+use lines::print_rows;
+use names::tables;
+ghost use Prim.Native.Nat.{_<_};
+ghost use lib.ListN.{length};
+ghost use Rattle.rules.specs.NameTables.{controlTypeNames};
+ghost use Rattle.names.specs.Lookup.{Lent, AllLent};
+
+// What stands in front of a frame's bytes.
+pub struct Head {
+    pub kind: u32,
+    pub first: u32,
+    pub second: u32,
+    pub size: u32,
+}
+
+pub enum Next {
+    Frame(Head),
+    End,
+}
+
+// ---- frames
+fn read_head() -> Next {
+    let mut head = [0u8; 16];
+    if io::read_full(STDIN_FILENO, &mut head) < 16 {
+        return Next::End;
+    }
+    Next::Frame(Head {
+        kind: leaf::u32_at(&head, 0),
+        first: leaf::u32_at(&head, 4),
+        second: leaf::u32_at(&head, 8),
+        size: leaf::u32_at(&head, 12),
+    })
+}
+
+// Whether `size` bytes could be read to the start of `space`.
+fn read_bytes(space: &mut [u8], size: usize) -> bool {
+    io::read_full(STDIN_FILENO, front_mut(space, size)) == size
+}
+
+fn front_mut(s: &mut [u8], size: usize) -> &mut [u8] {
+    if size < s.len() { &mut s[..size] } else { s }
+}
+
+fn words_mut(s: &mut [u32], size: usize) -> &mut [u32] {
+    if size < s.len() { &mut s[..size] } else { s }
+}
+
+// ---- the kinds of case
+// The rows hold a word at first that no right row shows.
+fn replay_type_info(stream: &[u8], lent: u32, out: &mut [u8]) {
+    let mut space = [0xDEAD_BEEFu32; 1024];
+    let rows = words_mut(&mut space, lent as usize);
+    let answer = typeinfo::read_type_info(stream, rows);
+    print_answer(answer, out);
+    if answer.number == 0 {
+        print_rows(b'T', rows, 4, answer.first, out);
+    }
+}
+
+fn replay_guid(guid: &[u8], lent: u32, out: &mut [u8]) {
+    let mut space = [0u8; 64];
+    let room = front_mut(&mut space, lent as usize);
+    let answer = text::guid_text(guid, room);
+    print_answer(answer, out);
+    print_bytes(front(room, answer.first as usize), out);
+}
+
+fn replay_label(n: u32, lent: u32, out: &mut [u8]) {
+    let mut space = [0u8; 64];
+    let room = front_mut(&mut space, lent as usize);
+    let answer = text::label_text(n, room);
+    print_answer(answer, out);
+    print_bytes(front(room, answer.first as usize), out);
+}
+
+// No table has an id of more than 16 bits.
+fn print_name(ids: &[u16], rows: &[[u8; 26]], id: u32, out: &mut [u8])
+    requires { ⌜ 0 < length (now rows) ⌝ }
+{
+    if 0xffff < id {
+        return;
+    }
+    print_bytes(names::name_in(ids, rows, id as u16), out);
+}
+
+fn replay_names(
+    text_ids: &[u16],
+    text_rows: &[[u8; 26]],
+    number_ids: &[u16],
+    number_rows: &[[u8; 26]],
+    bytes_ids: &[u16],
+    bytes_rows: &[[u8; 26]],
+    type_ids: &[u16],
+    type_rows: &[[u8; 26]],
+    id: u32,
+    out: &mut [u8],
+)
+    requires { ⌜ AllLent (now «text_ids») (now «text_rows») (now «number_ids») (now «number_rows») (now «bytes_ids») (now «bytes_rows») ⌝ }
+    requires { ⌜ Lent controlTypeNames (now «type_ids») (now «type_rows») ⌝ }
+{
+    print_name(text_ids, text_rows, id, out);
+    print_name(number_ids, number_rows, id, out);
+    print_name(bytes_ids, bytes_rows, id, out);
+    print_name(type_ids, type_rows, id, out);
+}
+
+// Prints what a case gives; nothing for a kind that isn't known.
+fn replay_case(
+    text_ids: &[u16],
+    text_rows: &[[u8; 26]],
+    number_ids: &[u16],
+    number_rows: &[[u8; 26]],
+    bytes_ids: &[u16],
+    bytes_rows: &[[u8; 26]],
+    type_ids: &[u16],
+    type_rows: &[[u8; 26]],
+    head: Head,
+    bytes: &[u8],
+    out: &mut [u8],
+)
+    requires { ⌜ AllLent (now «text_ids») (now «text_rows») (now «number_ids») (now «number_rows») (now «bytes_ids») (now «bytes_rows») ⌝ }
+    requires { ⌜ Lent controlTypeNames (now «type_ids») (now «type_rows») ⌝ }
+{
+    let kind = head.kind;
+    match kind {
+        2 => replay_type_info(bytes, head.first, out),
+        4 => replay_guid(bytes, head.first, out),
+        5 => replay_label(head.second, head.first, out),
+        6 => replay_names(
+            text_ids,
+            text_rows,
+            number_ids,
+            number_rows,
+            bytes_ids,
+            bytes_rows,
+            type_ids,
+            type_rows,
+            head.first,
+            out,
+        ),
+        _ => {}
+    }
+}
+
+// Replays frame after frame, as far as whole frames that `input` can hold go.
+fn replay(
+    text_ids: &[u16],
+    text_rows: &[[u8; 26]],
+    number_ids: &[u16],
+    number_rows: &[[u8; 26]],
+    bytes_ids: &[u16],
+    bytes_rows: &[[u8; 26]],
+    type_ids: &[u16],
+    type_rows: &[[u8; 26]],
+    input: &mut [u8],
+    out: &mut [u8],
+)
+    requires { ⌜ AllLent (now «text_ids») (now «text_rows») (now «number_ids») (now «number_rows») (now «bytes_ids») (now «bytes_rows») ⌝ }
+    requires { ⌜ Lent controlTypeNames (now «type_ids») (now «type_rows») ⌝ }
+{
+    let mut turns = u64::MAX;
+    while 0 < turns {
+        let Next::Frame(head) = read_head() else {
+            return;
+        };
+        let size = head.size as usize;
+        if !read_bytes(input, size) {
+            return;
+        }
+        replay_case(
+            text_ids,
+            text_rows,
+            number_ids,
+            number_rows,
+            bytes_ids,
+            bytes_rows,
+            type_ids,
+            type_rows,
+            head,
+            front(input, size),
+            out,
+        );
+        turns -= 1;
+    }
+}
+
+// A B line has three bytes for each byte of a case, its letter and the line's end.
+fn main() {
+    let text_ids = tables::text_ids();
+    let text_rows = tables::text_rows();
+    let number_ids = tables::number_ids();
+    let number_rows = tables::number_rows();
+    let bytes_ids = tables::bytes_ids();
+    let bytes_rows = tables::bytes_rows();
+    let type_ids = tables::control_type_ids();
+    let type_rows = tables::control_type_rows();
+    let mut input = [0u8; 32768];
+    let mut out = [0u8; 98306];
+    replay(
+        &text_ids,
+        &text_rows,
+        &number_ids,
+        &number_rows,
+        &bytes_ids,
+        &bytes_rows,
+        &type_ids,
+        &type_rows,
+        &mut input,
+        &mut out,
+    );
+}
