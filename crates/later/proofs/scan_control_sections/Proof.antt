@@ -22,10 +22,10 @@ add-find-match : tie.Need-add-find-match Inv-loop μ-loop
 add-find-match c = omega (arith, match-room _ _ (c .before .loop .inv .here (c .loop-test .taken)))
 
 find-match-requires-2 : tie.Need-find-match-requires-2 Inv-loop μ-loop
-find-match-requires-2 c κs = match-room _ _ (c .before .loop .inv .here (c .loop-test .taken))
+find-match-requires-2 c κs = omega (arith, match-room _ _ (c .before .loop .inv .here (c .loop-test .taken)))
 
 section-size-requires : tie.Need-section-size-requires Inv-loop μ-loop
-section-size-requires c κs = c .find-match2 .ensures .within
+section-size-requires c κs = omega (arith, c .find-match2 .ensures .within)
 
 add-all : tie.Need-add-all Inv-loop μ-loop
 add-all c = omega (arith, c .before .before .before .before .loop .inv .few)

@@ -25,7 +25,7 @@ add-find-match : tie.Need-add-find-match Inv-loop μ-loop
 add-find-match c = omega (arith, match-room _ _ (c .before .loop .inv .0 .here (c .loop-test .taken)))
 
 find-match-requires-2 : tie.Need-find-match-requires-2 Inv-loop μ-loop
-find-match-requires-2 c κs = match-room _ _ (c .before .loop .inv .0 .here (c .loop-test .taken))
+find-match-requires-2 c κs = omega (arith, match-room _ _ (c .before .loop .inv .0 .here (c .loop-test .taken)))
 
 parse-entry-requires : tie.Need-parse-entry-requires Inv-loop μ-loop
 parse-entry-requires c κs = search needs
