@@ -3,9 +3,10 @@
 
     compare/replay.py [COMPARE]     from anywhere; COMPARE is the built program, compare/target/release/compare if not given
 
-The batch has every telling case, a part of the exhaustive ones and random ones. Kept are the cases of the kinds that `replay`
-knows, in their order. Added are the names of the ids 0 to 0x1FF: the batch asks for every id that a table has, so an id that
-it doesn't ask for has no name. At the end `compare judge` holds the whole list against jetdb.
+The batch has every telling case, a part of the exhaustive ones and random ones; all that have at most 8,192 bytes are taken, in
+their order. Added are TypeInfo streams of each length below 32 and with each bit of the first four bytes turned, and the names of
+the ids 0 to 0x1FF: the batch asks for every id that a table has, so an id that it doesn't ask for has no name.
+At the end `compare judge` holds the whole list against jetdb.
 """
 
 import os
@@ -15,9 +16,9 @@ import sys
 import tempfile
 
 ROOT = os.path.join(os.path.dirname(os.path.abspath(__file__)), "..")
-SEED, COUNT, LONGEST = "1", "6000", "4096"
-KINDS = {2, 4, 5, 6}
-NAMES = 6
+SEED, COUNT, LONGEST = "1", "5000", "8192"
+TYPE_INFO, NAMES = 2, 6
+MAGIC = 0xACCDEAF7
 
 
 def frames(cases):
@@ -60,8 +61,11 @@ def chosen(name):
     for case, text in cases(name):
         if case[0] == NAMES:
             asked.add(case[1])
-        if case[0] in KINDS:
-            yield case, text
+        yield case, text
+    for size in range(32):
+        yield (TYPE_INFO, 1024, 0, struct.pack("<I", MAGIC).ljust(32, b"\0")[:size]), "A 1 0 0 0\n"
+    for bit in range(32):
+        yield (TYPE_INFO, 1024, 0, struct.pack("<I", MAGIC ^ 1 << bit).ljust(32, b"\0")), "A 2 0 0 0\n"
     for number in range(0x200):
         if number not in asked:
             yield (NAMES, number, 0, b""), "B\n" * 4

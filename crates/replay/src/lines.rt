@@ -10,6 +10,15 @@ pub fn front(s: &[u8], size: usize) -> &[u8] {
     if size < s.len() { &s[..size] } else { s }
 }
 
+// What is left of `s` from `start` on.
+pub fn behind(s: &[u8], start: usize) -> &[u8] {
+    if start < s.len() {
+        &s[start..]
+    } else {
+        &s[..0]
+    }
+}
+
 // One blank and a number.
 fn put_word(out: &mut [u8], at: usize, n: u32) -> usize {
     let p = put_byte(out, at, b' ');

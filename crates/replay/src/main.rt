@@ -2,6 +2,7 @@
 mod lines; // lines.rt: the lines that are printed
 
 use libc::STDIN_FILENO;
+use lines::behind;
 use lines::front;
 use lines::print_answer;
 use lines::print_bytes;
@@ -11,6 +12,9 @@ ghost use Prim.Native.Nat.{_<_};
 ghost use lib.ListN.{length};
 ghost use Rattle.rules.specs.NameTables.{controlTypeNames};
 ghost use Rattle.names.specs.Lookup.{Lent, AllLent};
+
+// What rows hold before a case, so that a word which wasn't written shows.
+const UNWRITTEN: u32 = 0xDEAD_BEEF;
 
 // What stands in front of a frame's bytes.
 pub struct Head {
@@ -53,9 +57,21 @@ fn words_mut(s: &mut [u32], size: usize) -> &mut [u32] {
 }
 
 // ---- the kinds of case
-// The rows hold a word at first that no right row shows.
+fn replay_blob(codes: &[u8], stream: &[u8], lent: u32, more: u32, out: &mut [u8]) {
+    let mut space = [UNWRITTEN; 1536];
+    let mut room = [UNWRITTEN; 6144];
+    let controls = words_mut(&mut space, lent as usize);
+    let properties = words_mut(&mut room, more as usize);
+    let answer = blob::read_blob(codes, stream, controls, properties);
+    print_answer(answer, out);
+    if answer.number == 0 {
+        print_rows(b'C', controls, 6, answer.first, out);
+        print_rows(b'P', properties, 6, answer.second, out);
+    }
+}
+
 fn replay_type_info(stream: &[u8], lent: u32, out: &mut [u8]) {
-    let mut space = [0xDEAD_BEEFu32; 1024];
+    let mut space = [UNWRITTEN; 1024];
     let rows = words_mut(&mut space, lent as usize);
     let answer = typeinfo::read_type_info(stream, rows);
     print_answer(answer, out);
@@ -80,6 +96,16 @@ fn replay_label(n: u32, lent: u32, out: &mut [u8]) {
     print_bytes(front(room, answer.first as usize), out);
 }
 
+// The bytes are the start and the length of the part, the label and the stream.
+fn replay_name_part(bytes: &[u8], mark: u32, size: u32, out: &mut [u8]) {
+    let start = leaf::u32_at(bytes, 0);
+    let length = leaf::u32_at(bytes, 4);
+    let rest = behind(bytes, 8);
+    let label = front(rest, size as usize);
+    let stream = behind(rest, size as usize);
+    print_bytes(blob::control_name(stream, label, mark, start, length), out);
+}
+
 // No table has an id of more than 16 bits.
 fn print_name(ids: &[u16], rows: &[[u8; 26]], id: u32, out: &mut [u8])
     requires { ⌜ 0 < length (now rows) ⌝ }
@@ -90,15 +116,15 @@ fn print_name(ids: &[u16], rows: &[[u8; 26]], id: u32, out: &mut [u8])
     print_bytes(names::name_in(ids, rows, id as u16), out);
 }
 
-fn replay_names(
+fn replay_names<'a>(
     text_ids: &[u16],
-    text_rows: &[[u8; 26]],
+    text_rows: &'a [[u8; 26]],
     number_ids: &[u16],
-    number_rows: &[[u8; 26]],
+    number_rows: &'a [[u8; 26]],
     bytes_ids: &[u16],
-    bytes_rows: &[[u8; 26]],
+    bytes_rows: &'a [[u8; 26]],
     type_ids: &[u16],
-    type_rows: &[[u8; 26]],
+    type_rows: &'a [[u8; 26]],
     id: u32,
     out: &mut [u8],
 )
@@ -111,17 +137,51 @@ fn replay_names(
     print_name(type_ids, type_rows, id, out);
 }
 
-// Prints what a case gives; nothing for a kind that isn't known.
-fn replay_case(
+fn replay_listing<'a>(
     text_ids: &[u16],
-    text_rows: &[[u8; 26]],
+    text_rows: &'a [[u8; 26]],
     number_ids: &[u16],
-    number_rows: &[[u8; 26]],
+    number_rows: &'a [[u8; 26]],
     bytes_ids: &[u16],
-    bytes_rows: &[[u8; 26]],
+    bytes_rows: &'a [[u8; 26]],
     type_ids: &[u16],
-    type_rows: &[[u8; 26]],
+    type_rows: &'a [[u8; 26]],
+    input: &[u8],
+    out: &mut [u8],
+)
+    requires { ⌜ AllLent (now «text_ids») (now «text_rows») (now «number_ids») (now «number_rows») (now «bytes_ids») (now «bytes_rows») ⌝ }
+    requires { ⌜ Lent controlTypeNames (now «type_ids») (now «type_rows») ⌝ }
+{
+    let mut controls = [0; 1536];
+    let mut properties = [0; 6144];
+    lister::print_listing(
+        input,
+        &mut controls,
+        &mut properties,
+        text_ids,
+        text_rows,
+        number_ids,
+        number_rows,
+        bytes_ids,
+        bytes_rows,
+        type_ids,
+        type_rows,
+        out,
+    );
+}
+
+// Prints what a case gives; nothing for a kind that isn't known.
+fn replay_case<'a>(
+    text_ids: &[u16],
+    text_rows: &'a [[u8; 26]],
+    number_ids: &[u16],
+    number_rows: &'a [[u8; 26]],
+    bytes_ids: &[u16],
+    bytes_rows: &'a [[u8; 26]],
+    type_ids: &[u16],
+    type_rows: &'a [[u8; 26]],
     head: Head,
+    codes: &[u8],
     bytes: &[u8],
     out: &mut [u8],
 )
@@ -130,7 +190,20 @@ fn replay_case(
 {
     let kind = head.kind;
     match kind {
+        1 => replay_blob(codes, bytes, head.first, head.second, out),
         2 => replay_type_info(bytes, head.first, out),
+        3 => replay_listing(
+            text_ids,
+            text_rows,
+            number_ids,
+            number_rows,
+            bytes_ids,
+            bytes_rows,
+            type_ids,
+            type_rows,
+            bytes,
+            out,
+        ),
         4 => replay_guid(bytes, head.first, out),
         5 => replay_label(head.second, head.first, out),
         6 => replay_names(
@@ -145,20 +218,22 @@ fn replay_case(
             head.first,
             out,
         ),
+        7 => replay_name_part(bytes, head.first, head.second, out),
         _ => {}
     }
 }
 
-// Replays frame after frame, as far as whole frames that `input` can hold go.
-fn replay(
+// Replays frame after frame, as far as whole frames that fit go. A code table stays for the Blobs behind it.
+fn replay<'a>(
     text_ids: &[u16],
-    text_rows: &[[u8; 26]],
+    text_rows: &'a [[u8; 26]],
     number_ids: &[u16],
-    number_rows: &[[u8; 26]],
+    number_rows: &'a [[u8; 26]],
     bytes_ids: &[u16],
-    bytes_rows: &[[u8; 26]],
+    bytes_rows: &'a [[u8; 26]],
     type_ids: &[u16],
-    type_rows: &[[u8; 26]],
+    type_rows: &'a [[u8; 26]],
+    codes: &mut [u8],
     input: &mut [u8],
     out: &mut [u8],
 )
@@ -166,11 +241,20 @@ fn replay(
     requires { ⌜ Lent controlTypeNames (now «type_ids») (now «type_rows») ⌝ }
 {
     let mut turns = u64::MAX;
+    let mut codes_size = 0;
     while 0 < turns {
+        turns -= 1;
         let Next::Frame(head) = read_head() else {
             return;
         };
         let size = head.size as usize;
+        if head.kind == 0 {
+            if !read_bytes(codes, size) {
+                return;
+            }
+            codes_size = size;
+            continue;
+        }
         if !read_bytes(input, size) {
             return;
         }
@@ -184,10 +268,10 @@ fn replay(
             type_ids,
             type_rows,
             head,
+            front(codes, codes_size),
             front(input, size),
             out,
         );
-        turns -= 1;
     }
 }
 
@@ -201,6 +285,7 @@ fn main() {
     let bytes_rows = tables::bytes_rows();
     let type_ids = tables::control_type_ids();
     let type_rows = tables::control_type_rows();
+    let mut codes = [0u8; 32768];
     let mut input = [0u8; 32768];
     let mut out = [0u8; 98306];
     replay(
@@ -212,6 +297,7 @@ fn main() {
         &bytes_rows,
         &type_ids,
         &type_rows,
+        &mut codes,
         &mut input,
         &mut out,
     );

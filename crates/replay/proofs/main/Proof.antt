@@ -57,9 +57,12 @@ slice-aggregate-replay-9 c = search needs
 slice-aggregate-replay-10 : tie.Need-slice-aggregate-replay-10
 slice-aggregate-replay-10 c = search needs
 
+slice-aggregate-replay-11 : tie.Need-slice-aggregate-replay-11
+slice-aggregate-replay-11 c = search needs
+
 replay-requires : tie.Need-replay-requires
 replay-requires c κs =
-    let t = c .before .before .before .before .before .before .before .before .before .before in
+    let t = c .before .before .before .before .before .before .before .before .before .before .before in
     let b = t .before .before in
     let n = b .before .before in
     let x = n .before .before in (
@@ -96,5 +99,6 @@ main-spec =
     slice-aggregate-replay-8
     slice-aggregate-replay-9
     slice-aggregate-replay-10
+    slice-aggregate-replay-11
     replay-requires
     returns)
