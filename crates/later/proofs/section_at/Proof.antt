@@ -46,10 +46,10 @@ returns-4 : tie.Need-returns-4
 returns-4 c = shown-none _ _ _ (node-bad _ _ _ _ (c .before .before .before .before .before .before .parse-group .ensures) _ _ _ (c .before .before .before .before .stop .given .1) _ (c .before .before .children-at .ensures) (c .enum-told2 .given .1))
 
 returns-5 : tie.Need-returns-5
-returns-5 c = shown-filled _ _ _ _ (c .before .before .before .before .before .before .before .before .parse-group .ensures) _ _ _ (c .before .before .before .before .before .before .stop .given .1) _ (c .before .before .before .before .children-at .ensures) _ _ (c .before .before .count .given .1) (c .if3 .taken)
+returns-5 c = shown-filled _ _ _ _ (c .before .before .before .before .before .before .before .before .parse-group .ensures) _ _ _ (c .before .before .before .before .before .before .stop .given .1) _ (c .before .before .before .before .children-at .ensures) _ _ (c .before .before .count .given .1) (omega arith)
 
 returns-6 : tie.Need-returns-6
-returns-6 c = shown-leaf _ _ _ _ (c .before .before .before .before .before .before .before .before .parse-group .ensures) _ _ _ (c .before .before .before .before .before .before .stop .given .1) _ (c .before .before .before .before .children-at .ensures) _ _ (c .before .before .count .given .1) (c .if3 .left) (ap isSection (sym (c .before .before .before .before .before .before .before .before .before .before .before .u16-at .ensures)) ∙ sym (c .before .before .before .before .before .before .before .before .before .before .is-section .ensures) ∙ c .before .before .before .before .before .before .before .before .before .if2 .left)
+returns-6 c = shown-leaf _ _ _ _ (c .before .before .before .before .before .before .before .before .parse-group .ensures) _ _ _ (c .before .before .before .before .before .before .stop .given .1) _ (c .before .before .before .before .children-at .ensures) _ _ (c .before .before .count .given .1) (omega arith) (ap isSection (sym (c .before .before .before .before .before .before .before .before .before .before .before .u16-at .ensures)) ∙ sym (c .before .before .before .before .before .before .before .before .before .before .is-section .ensures) ∙ c .before .before .before .before .before .before .before .before .before .if2 .left)
 
 pub section-at-spec : {M : Type 1} → statement M
 section-at-spec =
