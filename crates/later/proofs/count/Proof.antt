@@ -1,3 +1,4 @@
+use native.Mathlib.Omega.{arith}
 use borrow.Author.Needs.{needs}
 use Rattle.later.proofs.CountLaws.{within-open, within-ended, counted-open, counted-scan, counted-tree}
 use Rattle.later.proofs.count.Statement.{statement}
@@ -10,7 +11,7 @@ enum-known-count : tie.Need-enum-known-count
 enum-known-count c = search needs
 
 count-scanned-requires : tie.Need-count-scanned-requires
-count-scanned-requires c κs = within-open _ (c .before .before .before .before .before .pre) _ (c .before .before .before .parse-group .ensures) _ _ (c .before .count .given .1)
+count-scanned-requires c κs = omega (arith, within-open _ (c .before .before .before .before .before .pre) _ (c .before .before .before .parse-group .ensures) _ _ (c .before .count .given .1))
 
 enum-known-count-2 : tie.Need-enum-known-count-2
 enum-known-count-2 c = search needs
@@ -22,7 +23,7 @@ enum-told : tie.Need-enum-told
 enum-told c = search needs
 
 count-scanned-requires-2 : tie.Need-count-scanned-requires-2
-count-scanned-requires-2 c κs = within-ended _ (c .before .before .before .before .before .before .before .before .pre) _ (c .before .before .before .before .before .before .parse-group .ensures) _ _ _ (c .before .before .before .before .count2 .given .1)
+count-scanned-requires-2 c κs = omega (arith, within-ended _ (c .before .before .before .before .before .before .before .before .pre) _ (c .before .before .before .before .before .before .parse-group .ensures) _ _ _ (c .before .before .before .before .count2 .given .1))
 
 enum-known-controls : tie.Need-enum-known-controls
 enum-known-controls c = search needs
