@@ -47,8 +47,8 @@ module _ (t s cs ps : List ℕ) where
   -- what the table says is the answer
   pub blob-right : (a : Answer) → BlobAnswer t s cs ps a → a ≡ said
   unfolding outcome
-  blob-right _ (BlobAnswer.five h) = sym (rw (lt-ltb longest (length s) h))
-  blob-right _ (BlobAnswer.eight h w) = sym (rw (le-ltb longest (length s) h, w))
+  blob-right _ (BlobAnswer.five h) = sym (rw (lt-ltb longest (length s) (omega arith)))
+  blob-right _ (BlobAnswer.eight h w) = sym (rw (le-ltb longest (length s) (omega arith), w))
   blob-right _ (BlobAnswer.four j o e) = sym (judged-is j ∙ ap (λ x. answerOf (fit c p x)) (no-reading o e))
   blob-right _ (BlobAnswer.six j {r} e h) = sym (judged-is j ∙ rw (e, lt-ltb c (length (r .controls)) h))
   blob-right _ (BlobAnswer.seven j {r} e h k) = sym (judged-is j ∙ rw (e, le-ltb c (length (r .controls)) h, lt-ltb p (length (properties r)) k))
@@ -93,11 +93,11 @@ module _ (s rows : List ℕ) where
 
   pub info-right : (a : Answer) → TypeInfoAnswer s rows a → a ≡ typeInfoAnswer s n
   unfolding typeInfoAnswer
-  info-right _ (TypeInfoAnswer.five h) = sym (rw (lt-ltb longest (length s) h))
+  info-right _ (TypeInfoAnswer.five h) = sym (rw (lt-ltb longest (length s) (omega arith)))
   info-right _ (TypeInfoAnswer.one h) = sym (rw (le-ltb longest (length s) (omega arith), lt-ltb (length s) 32 h))
-  info-right _ (TypeInfoAnswer.two h k m) = sym (rw (le-ltb longest (length s) h, le-ltb (length s) 32 k, ne-eqb (u32 s 0) 0xACCDEAF7 m))
+  info-right _ (TypeInfoAnswer.two h k m) = sym (rw (le-ltb longest (length s) (omega arith), le-ltb (length s) 32 k, ne-eqb (u32 s 0) 0xACCDEAF7 m))
   info-right _ (TypeInfoAnswer.three h k m l) =
-      sym (rw (le-ltb longest (length s) h, le-ltb (length s) 32 k, eq-eqb (u32 s 0) 0xACCDEAF7 m, lt-ltb ((length s - 32) / 8) (u32 s 12) l))
+      sym (rw (le-ltb longest (length s) (omega arith), le-ltb (length s) 32 k, eq-eqb (u32 s 0) 0xACCDEAF7 m, lt-ltb ((length s - 32) / 8) (u32 s 12) l))
   info-right _ (TypeInfoAnswer.six e l) =
       sym (rw (le-ltb longest (length s) (e .not-long), le-ltb (length s) 32 (e .whole), eq-eqb (u32 s 0) 0xACCDEAF7 (e .magic), le-ltb ((length s - 32) / 8) (u32 s 12) (e .count), lt-ltb n (length (typeInfoOf s)) l))
   info-right _ (TypeInfoAnswer.zero e l) =
@@ -153,8 +153,8 @@ module _ (g out : List ℕ) where
 
   pub guid-right : (a : Answer) → GuidAnswer g out a → a ≡ guidExit g out .answer
   guid-right _ (GuidAnswer.ten h) = sym (no-guid h)
-  guid-right _ (GuidAnswer.nine h k) = sym (guid-short h k)
-  guid-right _ (GuidAnswer.zero h k) = sym (guid-wrote h k)
+  guid-right _ (GuidAnswer.nine h k) = sym (guid-short h (omega arith))
+  guid-right _ (GuidAnswer.zero h k) = sym (guid-wrote h (omega arith))
 
   pub guid-told : GuidAnswer g out (guidExit g out .answer)
   guid-told = go (eqb (length g) 16) (ltb (length out) 38) refl refl
@@ -174,8 +174,8 @@ module _ (n : ℕ) (out : List ℕ) where
   label-wrote h = ap (λ x. x .answer) (text-wrote (label n) out h)
 
   pub label-right : (a : Answer) → LabelAnswer n out a → a ≡ labelExit n out .answer
-  label-right _ (LabelAnswer.nine h) = sym (label-short h)
-  label-right _ (LabelAnswer.zero h) = sym (label-wrote h)
+  label-right _ (LabelAnswer.nine h) = sym (label-short (omega arith))
+  label-right _ (LabelAnswer.zero h) = sym (label-wrote (omega arith))
 
   pub label-told : LabelAnswer n out (labelExit n out .answer)
   label-told = go (ltb (length out) (length (label n))) refl
