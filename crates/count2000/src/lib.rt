@@ -107,6 +107,13 @@ fn value_size(id: u8) -> Size
     Size::Stored
 }
 
+// A length of one byte: FD and FE are numbers here, as any other below FF.
+fn short_length(n: u8) -> usize
+    ensures { λ r. ⌜ r ≡ n ⌝ }
+{
+    n as usize
+}
+
 // The length at `at`, and where the bytes behind it start.
 fn length(s: &[u8], at: usize) -> Spot
     ensures { λ r. ⌜ r ≡ told.extent (lengthAt (now (s .entry)) at) ⌝ }
@@ -127,7 +134,7 @@ fn length(s: &[u8], at: usize) -> Spot
     } else {
         Spot::At {
             start: p,
-            size: wide(n),
+            size: short_length(n),
         }
     }
 }

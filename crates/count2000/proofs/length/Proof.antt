@@ -28,8 +28,8 @@ add-t13 c = search needs
 enum-told : tie.Need-enum-told
 enum-told c = search needs
 
-wide-requires : tie.Need-wide-requires
-wide-requires c κs = search needs
+short-length-requires : tie.Need-short-length-requires
+short-length-requires c κs = search needs
 
 returns-2 : tie.Need-returns-2
 unfolding lengthAt byteAt
@@ -41,7 +41,7 @@ returns-3 c = simp (lt-ltb _ _ (c .before .before .before .before .before .if1 .
 
 returns-4 : tie.Need-returns-4
 unfolding lengthAt byteAt
-returns-4 c = simp (lt-ltb _ _ (c .before .before .before .if1 .left), ne-eqb _ _ (c .before .if2 .left), c .wide .ensures .0)
+returns-4 c = simp (lt-ltb _ _ (c .before .before .before .if1 .left), ne-eqb _ _ (c .before .if2 .left), c .short-length .ensures)
 
 pub length-spec : {M : Type 1} → statement M
 length-spec =
@@ -54,7 +54,7 @@ length-spec =
     enum-known-m
     add-t13
     enum-told
-    wide-requires
+    short-length-requires
     returns-2
     returns-3
     returns-4)
