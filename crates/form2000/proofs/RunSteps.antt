@@ -1,5 +1,5 @@
 -- A run, a property at a time: its rows, and the name that it holds.
-use Prim.Native.Nat.{ℕ, _+_, _*_, _≤_}
+use Prim.Native.Nat.{ℕ, _+_, _*_, _≤_, _<_}
 use native.Mathlib.Omega.{arith}
 use mathlib.Core.Path.{_≡_, refl, sym, ap, _∙_}
 use mathlib.Core.Bool.{true, false}
@@ -16,7 +16,7 @@ use Rattle.rules.specs.Reading.{propertyRow}
 use Rattle.rules.specs.declared.Name.{Name}
 use Rattle.rules.specs.declared.Property.{Property}
 use Rattle.rules.proofs.ListLaws.{Every, every-if, every-when}
-use Rattle.rules.proofs.Access2000Laws.{after, run-step}
+use Rattle.rules.proofs.Access2000Laws.{after, past-end, run-step}
 use Rattle.rows.specs.Put.{put}
 use Rattle.rows.proofs.PutLaws.{put-length}
 use Rattle.rows.proofs.WritingLaws.{properties-none, properties-more}
@@ -118,7 +118,7 @@ pub record Unnamed (s : List ℕ) (w at p : ℕ) : Type 0 where
   pub good : Held (λ _. Unit {0}) (runAt s p)
   pub is : nameIn s w (runAt s p) ≡ nameIn s w (runAt s at)
 
-pub unnamed-start : (s : List ℕ) (w at : ℕ) → Held (λ _. Unit {0}) (runAt s at) → Unnamed s w at at
+unnamed-start : (s : List ℕ) (w at : ℕ) → Held (λ _. Unit {0}) (runAt s at) → Unnamed s w at at
 unnamed-start s w at h = record { good = h; is = refl }
 
 first-is : (s : List ℕ) (w : ℕ) (q : Prop) (o : Rest) → q .id ≡ w → Held (λ _. Unit {0}) (behind q o) → nameIn s w (behind q o) ≡ nameAt s (q .start) (q .size)
@@ -136,24 +136,56 @@ good-more q none h = h
 good-more q (some x) h = tt
 
 module _ (s : List ℕ) (w at p : ℕ) (known : Unnamed s w at p) where
-  pub unnamed-stop : goesOn s p ≡ false → Name.Numbered ≡ nameIn s w (runAt s at)
+  unnamed-stop : goesOn s p ≡ false → Name.Numbered ≡ nameIn s w (runAt s at)
   unfolding find
   unnamed-stop t = ap (nameIn s w) (sym (run-stop s p t)) ∙ known .is
 
   module _ (r : Spot) (goes : goesOn s p ≡ true) (re : r ≡ told.spot (propertyAt s p)) where
-    pub unnamed-bad : r ≡ Spot.Bad → ⊥
+    unnamed-bad : r ≡ Spot.Bad → ⊥
     unnamed-bad k = rw (run-bad s p r goes re k) at (known .good)
 
     module _ (st sz : ℕ) (k : r ≡ Spot.At st sz) where
-      pub unnamed-found : (x : Name) → byte s p ≡ w → x ≡ nameAt s st sz → x ≡ nameIn s w (runAt s at)
+      unnamed-found : (x : Name) → byte s p ≡ w → x ≡ nameAt s st sz → x ≡ nameIn s w (runAt s at)
       unnamed-found x e xe =
           let m = run-more s p r st sz goes re k in
           xe ∙ sym (first-is s w (prop (byte s p) st sz) (runAt s (st + sz)) e (rw m at (known .good))) ∙ ap (nameIn s w) (sym m) ∙ known .is
 
-      pub unnamed-more : (byte s p ≡ w → ⊥) → Unnamed s w at (st + sz)
+      unnamed-more : (byte s p ≡ w → ⊥) → Unnamed s w at (st + sz)
       unnamed-more e =
           let m = run-more s p r st sz goes re k in
           record {
             good = good-more (prop (byte s p) st sz) (runAt s (st + sz)) (rw m at (known .good));
             is = sym (first-not s w (prop (byte s p) st sz) (runAt s (st + sz)) e) ∙ ap (nameIn s w) (sym m) ∙ known .is;
           }
+
+-- while a place of the stream is left nothing was found; then what was found is the name
+pub record Named (s : List ℕ) (w at : ℕ) (found : Name) (p : ℕ) : Type 0 where
+  pub ahead : p < length s → Unnamed s w at p × (found ≡ Name.Numbered)
+  pub over : length s ≤ p → found ≡ nameIn s w (runAt s at)
+
+named-at : (s : List ℕ) (w at p : ℕ) → Unnamed s w at p → (found : Name) → found ≡ Name.Numbered → Named s w at found p
+named-at s w at p u found e = record { ahead = λ _. (u, e); over = λ h. e ∙ unnamed-stop s w at p u (past-end s p h) }
+
+pub named-start : (s : List ℕ) (w at : ℕ) → Held (λ _. Unit {0}) (runAt s at) → Named s w at Name.Numbered at
+named-start s w at h = named-at s w at at (unnamed-start s w at h) Name.Numbered refl
+
+module _ (s : List ℕ) (w at : ℕ) (found : Name) (p : ℕ) (known : Named s w at found p) (h : p < length s) where
+  unnamed : Unnamed s w at p
+  unnamed = known .ahead h .0
+
+  pub named-stop : goesOn s p ≡ false → found ≡ nameIn s w (runAt s at)
+  named-stop t = known .ahead h .1 ∙ unnamed-stop s w at p unnamed t
+
+  module _ (r : Spot) (goes : goesOn s p ≡ true) (re : r ≡ told.spot (propertyAt s p)) where
+    pub named-bad : r ≡ Spot.Bad → ⊥
+    named-bad k = unnamed-bad s w at p unnamed r goes re k
+
+    module _ (st sz : ℕ) (k : r ≡ Spot.At st sz) where
+      pub named-found : (x : Name) (p′ : ℕ) → byte s p ≡ w → x ≡ nameAt s st sz → length s ≤ p′ → Named s w at x p′
+      named-found x p′ e xe l = record {
+        ahead = λ k′. absurd (omega (arith, l, k′));
+        over = λ _. unnamed-found s w at p unnamed r goes re st sz k x e xe;
+      }
+
+      pub named-more : (byte s p ≡ w → ⊥) → Named s w at found (st + sz)
+      named-more e = named-at s w at (st + sz) (unnamed-more s w at p unnamed r goes re st sz k e) found (known .ahead h .1)

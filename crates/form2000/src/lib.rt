@@ -154,21 +154,26 @@ fn name(s: &[u8], at: usize, wanted: u8) -> Name
     requires { ⌜ acts.RunGood (now s) at ⌝ }
     ensures { λ r. ⌜ r ≡ acts.nameIn (now (s .entry)) wanted (runAt (now (s .entry)) at) ⌝ }
 {
+    let end = s.len();
+    let mut found = Name::Numbered;
     let mut p = at;
-    while p < s.len() {
+    while p < end {
         let id = s[p];
         if 0xFD <= id {
-            return Name::Numbered;
+            return found;
         }
         let Spot::At { start, size } = value(s, p) else {
-            return Name::Numbered;
+            return found;
         };
+        let next = start + size;
         if id == wanted {
-            return name_at(s, start, size);
+            found = name_at(s, start, size);
+            p = end;
+        } else {
+            p = next;
         }
-        p = start + size;
     }
-    Name::Numbered
+    found
 }
 
 fn name_id(kind: u16) -> u8
@@ -255,10 +260,11 @@ fn put_node(
     let named = name(s, run, name_id(kind));
     let code = type_code(table, is_report(s), kind);
     let row = control_row(code, named, c as u32, p as u32, (next - p) as u32);
+    let below = c + 1;
     put_control(controls, c, row);
     Next {
         at: own.at,
-        control: c + 1,
+        control: below,
         property: next,
     }
 }

@@ -2,56 +2,72 @@ use native.Mathlib.Omega.{arith}
 use borrow.Author.Needs.{needs}
 use Prim.Native.Nat.{_-_}
 use lib.ListN.{length}
-use Rattle.rules.proofs.Access2000Laws.{past-end}
 use Rattle.count2000.proofs.Runs.{starts, stops, ends}
-use Rattle.form2000.proofs.RunSteps.{Unnamed, unnamed-start, unnamed-stop, unnamed-bad, unnamed-found, unnamed-more}
+use Rattle.form2000.proofs.RunSteps.{Named, named-start, named-stop, named-bad, named-found, named-more}
 use Rattle.form2000.proofs.name.Statement.{statement}
 use Rattle.form2000.proofs.name.Tie as tie
 
 abbrev Inv-loop : tie.InvT-loop
-Inv-loop s at wanted p₀ p = Unnamed s wanted at p
+Inv-loop s at wanted end found₀ p₀ found p = Named s wanted at found p
 
 abbrev μ-loop : tie.MeasureT-loop
-μ-loop s at wanted p₀ p = length s - p
+μ-loop s at wanted end found₀ p₀ found p = length s - p
 
+-- src/lib.rt:160:5
 loop-holds : tie.Need-loop-holds Inv-loop μ-loop
-loop-holds c = unnamed-start _ _ _ (c .before .pre .good)
+loop-holds c = named-start _ _ _ (c .before .pre .good)
 
+-- src/lib.rt:161:18
 shared-slice-read-id : tie.Need-shared-slice-read-id Inv-loop μ-loop
 shared-slice-read-id c = search needs
 
+-- src/lib.rt:163:13
 returns : tie.Need-returns Inv-loop μ-loop
-returns c = unnamed-stop _ _ _ _ (c .before .before .before .loop .inv) (stops _ _ (omega (arith, c .before .before .loop-test .taken)) (omega (arith, c .if1 .taken)))
+returns c = named-stop _ _ _ _ _ (c .before .before .before .loop .inv) (omega (arith, c .before .before .loop-test .taken)) (stops _ _ (omega arith) (omega (arith, c .if1 .taken)))
 
+-- src/lib.rt:165:40
 value-requires : tie.Need-value-requires Inv-loop μ-loop
 value-requires c κs = search needs
 
+-- src/lib.rt:165:24
 enum-known-start : tie.Need-enum-known-start Inv-loop μ-loop
 enum-known-start c = search needs
 
+-- src/lib.rt:166:13
 enum-told : tie.Need-enum-told Inv-loop μ-loop
 enum-told c = search needs
 
+-- src/lib.rt:166:13
 returns-2 : tie.Need-returns-2 Inv-loop μ-loop
-returns-2 c = absurd (unnamed-bad _ _ _ _ (c .before .before .before .before .before .before .loop .inv) _ (starts _ _ (omega (arith, c .before .before .before .before .before .loop-test .taken)) (omega (arith, c .before .before .before .if1 .left))) (c .before .before .value .ensures) (c .enum-told .given .1))
+returns-2 c = absurd (named-bad _ _ _ _ _ (c .before .before .before .before .before .before .loop .inv) (omega (arith, c .before .before .before .before .before .loop-test .taken)) _ (starts _ _ (omega (arith, c .before .before .before .before .before .loop-test .taken)) (omega (arith, c .before .before .before .if1 .left))) (c .before .before .value .ensures) (c .enum-told .given .1))
 
+-- src/lib.rt:168:20
+add-next : tie.Need-add-next Inv-loop μ-loop
+add-next c = omega (arith, ends _ _ _ _ _ (c .before .before .before .value .ensures) (c .before .start .given .1))
+
+-- src/lib.rt:170:13
 name-at-requires : tie.Need-name-at-requires Inv-loop μ-loop
 name-at-requires c κs = (ends _ _ _ _ _ (c .before .before .before .before .value .ensures) (c .before .before .start .given .1) .1, c .before .before .before .before .before .before .before .before .before .before .pre .small)
 
-returns-3 : tie.Need-returns-3 Inv-loop μ-loop
-returns-3 c = unnamed-found _ _ _ _ (c .before .before .before .before .before .before .before .before .before .loop .inv) _ (starts _ _ (omega (arith, c .before .before .before .before .before .before .before .before .loop-test .taken)) (omega (arith, c .before .before .before .before .before .before .if1 .left))) (c .before .before .before .before .before .value .ensures) _ _ (c .before .before .before .start .given .1) _ (c .before .if2 .taken) (c .name-at .ensures)
-
-add-p : tie.Need-add-p Inv-loop μ-loop
-add-p c = omega (arith, ends _ _ _ _ _ (c .before .before .before .before .value .ensures) (c .before .before .start .given .1))
-
+-- src/lib.rt:160:5
 loop-less : tie.Need-loop-less Inv-loop μ-loop
-loop-less c = omega (arith, ends _ _ _ _ _ (c .before .before .before .before .value .ensures) (c .before .before .start .given .1))
+loop-less c = omega (arith, ends _ _ _ _ _ (c .before .before .before .before .before .value .ensures) (c .before .before .before .start .given .1))
 
+-- src/lib.rt:160:5
 loop-again : tie.Need-loop-again Inv-loop μ-loop
-loop-again c = unnamed-more _ _ _ _ (c .before .before .before .before .before .before .before .before .loop .inv) _ (starts _ _ (omega (arith, c .before .before .before .before .before .before .before .loop-test .taken)) (omega (arith, c .before .before .before .before .before .if1 .left))) (c .before .before .before .before .value .ensures) _ _ (c .before .before .start .given .1) (c .if2 .left)
+loop-again c = named-found _ _ _ _ _ (c .before .before .before .before .before .before .before .before .before .loop .inv) (omega (arith, c .before .before .before .before .before .before .before .before .loop-test .taken)) _ (starts _ _ (omega (arith, c .before .before .before .before .before .before .before .before .loop-test .taken)) (omega (arith, c .before .before .before .before .before .before .if1 .left))) (c .before .before .before .before .before .value .ensures) _ _ (c .before .before .before .start .given .1) _ _ (c .before .if2 .taken) (c .name-at .ensures) (omega arith)
 
-returns-4 : tie.Need-returns-4 Inv-loop μ-loop
-returns-4 c = unnamed-stop _ _ _ _ (c .before .loop .inv) (past-end _ _ (omega (arith, c .loop-test .left)))
+-- src/lib.rt:160:5
+loop-less-2 : tie.Need-loop-less-2 Inv-loop μ-loop
+loop-less-2 c = omega (arith, ends _ _ _ _ _ (c .before .before .before .before .value .ensures) (c .before .before .start .given .1))
+
+-- src/lib.rt:160:5
+loop-again-2 : tie.Need-loop-again-2 Inv-loop μ-loop
+loop-again-2 c = named-more _ _ _ _ _ (c .before .before .before .before .before .before .before .before .loop .inv) (omega (arith, c .before .before .before .before .before .before .before .loop-test .taken)) _ (starts _ _ (omega (arith, c .before .before .before .before .before .before .before .loop-test .taken)) (omega (arith, c .before .before .before .before .before .if1 .left))) (c .before .before .before .before .value .ensures) _ _ (c .before .before .start .given .1) (c .if2 .left)
+
+-- src/lib.rt:153:1
+returns-3 : tie.Need-returns-3 Inv-loop μ-loop
+returns-3 c = c .before .loop .inv .over (omega (arith, c .loop-test .left))
 
 pub name-spec : {M : Type 1} → statement M
 name-spec =
@@ -66,9 +82,10 @@ name-spec =
     enum-known-start
     enum-told
     returns-2
+    add-next
     name-at-requires
-    returns-3
-    add-p
     loop-less
     loop-again
-    returns-4)
+    loop-less-2
+    loop-again-2
+    returns-3)

@@ -43,13 +43,11 @@ cast-control-row-3 c = omega (arith, node-rows _ _ _ _ _ _ _ (c .before .before 
 control-row-requires : tie.Need-control-row-requires
 control-row-requires c κs = search needs
 
-put-control-requires : tie.Need-put-control-requires
-put-control-requires c κs = node-row-room _ _ _ _ _ _ _ (c .before .before .before .before .before .before .before .before .before .before .before .before .before .before .before .before .pre)
+add-below : tie.Need-add-below
+add-below c = omega (arith, node-small _ _ _ _ _ _ _ (c .before .before .before .before .before .before .before .before .before .before .before .before .before .before .before .pre))
 
-add-t22 : tie.Need-add-t22
-add-t22 c =
-    let b19 = c .before .before .before .before .before .before .before .before .before .before .before .before .before .before .before .before .before .before .before in
-    omega (arith, node-row-room _ _ _ _ _ _ _ (b19 .pre), b19 .good)
+put-control-requires : tie.Need-put-control-requires
+put-control-requires c κs = omega (arith, node-row-room _ _ _ _ _ _ _ (c .before .before .before .before .before .before .before .before .before .before .before .before .before .before .before .before .pre))
 
 same-length : tie.Need-same-length
 same-length c = search needs
@@ -77,8 +75,8 @@ put-node-spec =
     sub-control-row
     cast-control-row-3
     control-row-requires
+    add-below
     put-control-requires
-    add-t22
     same-length
     same-length-2
     returns)
