@@ -5,41 +5,11 @@ use borrow.Author.Needs.{needs}
 use Rattle.count2000.proofs.count.Statement.{statement}
 use Rattle.count2000.proofs.count.Tie as tie
 
-props-requires : tie.Need-props-requires
-props-requires c κs = search needs
-
-enum-known-own : tie.Need-enum-known-own
-enum-known-own c = search needs
-
-enum-told : tie.Need-enum-told
-enum-told c = search needs
-
 returns : tie.Need-returns
 returns c = stream-run-bad _ _ (c .before .before .props .ensures) (c .enum-told .given .1)
 
-head-requires : tie.Need-head-requires
-head-requires c κs = search needs
-
-enum-known-n : tie.Need-enum-known-n
-enum-known-n c = search needs
-
-top-requires : tie.Need-top-requires
-top-requires c κs = search needs
-
-enum-known-controls : tie.Need-enum-known-controls
-enum-known-controls c = search needs
-
 add-t17 : tie.Need-add-t17
 add-t17 c = omega (arith, top-room _ _ _ _ _ _ _ _ (c .before .before .before .before .top .ensures) (c .before .before .controls .given .1), head-room _ _ _ _ _ (c .before .before .before .before .before .before .before .before .head .ensures) (c .before .before .before .before .before .before .n .given .1), run-room _ _ _ _ _ (c .before .before .before .before .before .before .before .before .before .before .before .before .props .ensures) (c .before .before .before .before .before .before .before .before .before .before .own .given .1))
-
-enum-told-2 : tie.Need-enum-told-2
-enum-told-2 c = search needs
-
-enum-told-3 : tie.Need-enum-told-3
-enum-told-3 c = search needs
-
-enum-told-4 : tie.Need-enum-told-4
-enum-told-4 c = search needs
 
 returns-2 : tie.Need-returns-2
 returns-2 c = stream-whole _ _ (c .before .before .before .before .before .before .before .before .before .before .before .before .props .ensures) _ _ (c .before .before .before .before .before .before .before .before .before .before .own .given .1) _ (c .before .before .before .before .before .before .before .before .head .ensures) _ _ (c .before .before .before .before .before .before .n .given .1) _ (c .before .before .before .before .top .ensures) _ _ _ (c .before .before .controls .given .1) (omega (arith, c .if1 .taken))
@@ -60,18 +30,11 @@ pub count-spec : {M : Type 1} → statement M
 count-spec =
     tie.close
     (tie.spec
-    props-requires
-    enum-known-own
-    enum-told
+    (λ c κs. search needs) (λ c. search needs) (λ c. search needs)
     returns
-    head-requires
-    enum-known-n
-    top-requires
-    enum-known-controls
+    (λ c κs. search needs) (λ c. search needs) (λ c κs. search needs) (λ c. search needs)
     add-t17
-    enum-told-2
-    enum-told-3
-    enum-told-4
+    (λ c. search needs) (λ c. search needs) (λ c. search needs)
     returns-2
     returns-3
     returns-4

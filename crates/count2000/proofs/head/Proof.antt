@@ -10,12 +10,6 @@ returns : tie.Need-returns
 unfolding headAt byteAt
 returns c = simp (le-ltb _ _ (c .if1 .taken))
 
-shared-slice-read-b : tie.Need-shared-slice-read-b
-shared-slice-read-b c = search needs
-
-add-p : tie.Need-add-p
-add-p c = search needs
-
 returns-2 : tie.Need-returns-2
 unfolding headAt byteAt
 returns-2 c = simp (lt-ltb _ _ (c .before .before .if1 .left), eq-eqb _ _ (c .if2 .taken))
@@ -23,18 +17,6 @@ returns-2 c = simp (lt-ltb _ _ (c .before .before .if1 .left), eq-eqb _ _ (c .if
 returns-3 : tie.Need-returns-3
 unfolding headAt byteAt
 returns-3 c = simp (lt-ltb _ _ (c .before .before .before .if1 .left), ne-eqb _ _ (c .before .if2 .left), eq-eqb _ _ (c .if3 .taken))
-
-half-requires : tie.Need-half-requires
-half-requires c κs = search needs
-
-enum-known-n : tie.Need-enum-known-n
-enum-known-n c = search needs
-
-add-t13 : tie.Need-add-t13
-add-t13 c = search needs
-
-enum-told : tie.Need-enum-told
-enum-told c = search needs
 
 returns-4 : tie.Need-returns-4
 unfolding headAt byteAt
@@ -55,14 +37,10 @@ head-spec =
     tie.close
     (tie.spec
     returns
-    shared-slice-read-b
-    add-p
+    (λ c. search needs) (λ c. search needs)
     returns-2
     returns-3
-    half-requires
-    enum-known-n
-    add-t13
-    enum-told
+    (λ c κs. search needs) (λ c. search needs) (λ c. search needs) (λ c. search needs)
     returns-4
     returns-5
     returns-6)

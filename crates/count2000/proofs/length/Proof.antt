@@ -10,27 +10,6 @@ returns : tie.Need-returns
 unfolding lengthAt byteAt
 returns c = simp (le-ltb _ _ (c .if1 .taken))
 
-shared-slice-read-n : tie.Need-shared-slice-read-n
-shared-slice-read-n c = search needs
-
-add-p : tie.Need-add-p
-add-p c = search needs
-
-half-requires : tie.Need-half-requires
-half-requires c κs = search needs
-
-enum-known-m : tie.Need-enum-known-m
-enum-known-m c = search needs
-
-add-t13 : tie.Need-add-t13
-add-t13 c = search needs
-
-enum-told : tie.Need-enum-told
-enum-told c = search needs
-
-short-length-requires : tie.Need-short-length-requires
-short-length-requires c κs = search needs
-
 returns-2 : tie.Need-returns-2
 unfolding lengthAt byteAt
 returns-2 c = simp (lt-ltb _ _ (c .before .before .before .before .before .before .if1 .left), eq-eqb _ _ (c .before .before .before .before .if2 .taken), word-of (halfAt _ _) _ _ (c .before .before .before .half .ensures) (c .before .m .given .1))
@@ -48,13 +27,8 @@ length-spec =
     tie.close
     (tie.spec
     returns
-    shared-slice-read-n
-    add-p
-    half-requires
-    enum-known-m
-    add-t13
-    enum-told
-    short-length-requires
+    (λ c. search needs) (λ c. search needs) (λ c κs. search needs) (λ c. search needs) (λ c. search needs) (λ c. search needs)
+    (λ c κs. search needs)
     returns-2
     returns-3
     returns-4)

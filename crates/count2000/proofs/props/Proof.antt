@@ -16,23 +16,11 @@ abbrev μ-loop : tie.MeasureT-loop
 loop-holds : tie.Need-loop-holds Inv-loop μ-loop
 loop-holds c = (omega arith, passed-none _ _)
 
-shared-slice-read-if1 : tie.Need-shared-slice-read-if1 Inv-loop μ-loop
-shared-slice-read-if1 c = search needs
-
 returns : tie.Need-returns Inv-loop μ-loop
 returns c = passed-stop _ _ _ _ (c .before .before .before .loop .inv .1) (stops _ _ (omega (arith, c .before .before .loop-test .taken)) (omega (arith, c .if1 .taken)))
 
-value-requires : tie.Need-value-requires Inv-loop μ-loop
-value-requires c κs = search needs
-
-enum-known-start : tie.Need-enum-known-start Inv-loop μ-loop
-enum-known-start c = search needs
-
 add-p : tie.Need-add-p Inv-loop μ-loop
 add-p c = omega (arith, ends _ _ _ _ _ (c .before .before .before .value .ensures) (c .before .start .given .1))
-
-add-n : tie.Need-add-n Inv-loop μ-loop
-add-n c = omega arith
 
 loop-less : tie.Need-loop-less Inv-loop μ-loop
 loop-less c = omega (arith, ends _ _ _ _ _ (c .before .before .before .value .ensures) (c .before .start .given .1))
@@ -41,9 +29,6 @@ loop-again : tie.Need-loop-again Inv-loop μ-loop
 loop-again c =
     let b3 = c .before .before .before in
     (omega (arith, ends _ _ _ _ _ (b3 .value .ensures) (c .before .start .given .1)), passed-more _ _ _ _ (c .before .before .before .before .before .before .before .loop .inv .1) _ _ _ (starts _ _ (omega (arith, c .before .before .before .before .before .before .loop-test .taken)) (omega (arith, c .before .before .before .before .if1 .left))) (b3 .value .ensures) (c .before .start .given .1))
-
-enum-told : tie.Need-enum-told Inv-loop μ-loop
-enum-told c = search needs
 
 returns-2 : tie.Need-returns-2 Inv-loop μ-loop
 returns-2 c = passed-bad _ _ _ _ (c .before .before .before .before .before .before .loop .inv .1) _ (starts _ _ (omega (arith, c .before .before .before .before .before .loop-test .taken)) (omega (arith, c .before .before .before .if1 .left))) (c .before .before .value .ensures) (c .enum-told .given .1)
@@ -58,14 +43,13 @@ props-spec =
     Inv-loop
     μ-loop
     loop-holds
-    shared-slice-read-if1
+    (λ c. search needs)
     returns
-    value-requires
-    enum-known-start
+    (λ c κs. search needs) (λ c. search needs)
     add-p
-    add-n
+    (λ c. omega arith)
     loop-less
     loop-again
-    enum-told
+    (λ c. search needs)
     returns-2
     returns-3)

@@ -18,29 +18,14 @@ abbrev μ-loop : tie.MeasureT-loop
 loop-holds : tie.Need-loop-holds Inv-loop μ-loop
 loop-holds c = (omega arith, kept-none _ _ _ _)
 
-entry-requires : tie.Need-entry-requires Inv-loop μ-loop
-entry-requires c κs = search needs
-
-enum-told : tie.Need-enum-told Inv-loop μ-loop
-enum-told c = search needs
-
 returns : tie.Need-returns Inv-loop μ-loop
 returns c = kept-bad _ _ _ _ _ _ _ _ (c .before .before .before .before .loop .inv .1) (eqb-false 256 0 refl) (c .before .before .before .loop-test .taken) _ (c .before .before .entry .ensures) (c .enum-told .given .1)
-
-enum-known-kept : tie.Need-enum-known-kept Inv-loop μ-loop
-enum-known-kept c = search needs
 
 add-all : tie.Need-add-all Inv-loop μ-loop
 add-all c = omega (arith, one-room _ _ _ _ _ _ _ _ (c .before .before .before .before .entry .ensures) (c .before .before .kept .given .1))
 
 add-theirs : tie.Need-add-theirs Inv-loop μ-loop
 add-theirs c = omega (arith, one-room _ _ _ _ _ _ _ _ (c .before .before .before .before .entry .ensures) (c .before .before .kept .given .1))
-
-sub-k : tie.Need-sub-k Inv-loop μ-loop
-sub-k c = search needs
-
-loop-less : tie.Need-loop-less Inv-loop μ-loop
-loop-less c = search needs
 
 loop-again : tie.Need-loop-again Inv-loop μ-loop
 loop-again c = let room = one-room _ _ _ _ _ _ _ _ (c .before .before .before .before .entry .ensures) (c .before .before .kept .given .1) in
@@ -60,13 +45,11 @@ top-spec =
     Inv-loop
     μ-loop
     loop-holds
-    entry-requires
-    enum-told
+    (λ c κs. search needs) (λ c. search needs)
     returns
-    enum-known-kept
+    (λ c. search needs)
     add-all
     add-theirs
-    sub-k
-    loop-less
+    (λ c. search needs) (λ c. search needs)
     loop-again
     returns-2)

@@ -9,33 +9,15 @@ use borrow.Author.Needs.{needs}
 use Rattle.count2000.proofs.value.Statement.{statement}
 use Rattle.count2000.proofs.value.Tie as tie
 
-shared-slice-read-extent : tie.Need-shared-slice-read-extent
-shared-slice-read-extent c = search needs
-
-add-extent : tie.Need-add-extent
-add-extent c = search needs
-
-extent-requires : tie.Need-extent-requires
-extent-requires c κs = search needs
-
-enum-known-start : tie.Need-enum-known-start
-enum-known-start c = search needs
-
 returns : tie.Need-returns
 unfolding propertyAt
 returns c = let g = c .before .before .start .given in
     simp (extent-at (extentAt _ _ _) _ _ _ (c .before .before .before .before .extent .ensures) (g .1), lt-leb (g .0 .0 + g .0 .1 .0) (length (now (c .before .before .before .before .before .before .before .args .s))) (omega arith))
 
-sub-if2 : tie.Need-sub-if2
-sub-if2 c = search needs
-
 returns-2 : tie.Need-returns-2
 unfolding propertyAt
 returns-2 c = let g = c .before .before .before .start .given in
     simp (extent-at (extentAt _ _ _) _ _ _ (c .before .before .before .before .before .extent .ensures) (g .1), lt-leb (g .0 .0 + g .0 .1 .0) (length (now (c .before .before .before .before .before .before .before .before .args .s))) (omega arith))
-
-enum-told : tie.Need-enum-told
-enum-told c = search needs
 
 returns-3 : tie.Need-returns-3
 unfolding propertyAt
@@ -50,13 +32,10 @@ pub value-spec : {M : Type 1} → statement M
 value-spec =
     tie.close
     (tie.spec
-    shared-slice-read-extent
-    add-extent
-    extent-requires
-    enum-known-start
+    (λ c. search needs) (λ c. search needs) (λ c κs. search needs) (λ c. search needs)
     returns
-    sub-if2
+    (λ c. search needs)
     returns-2
-    enum-told
+    (λ c. search needs)
     returns-3
     returns-4)

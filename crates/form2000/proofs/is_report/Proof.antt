@@ -6,12 +6,9 @@ use borrow.Author.Needs.{needs}
 use Rattle.form2000.proofs.is_report.Statement.{statement}
 use Rattle.form2000.proofs.is_report.Tie as tie
 
-byte-at-requires : tie.Need-byte-at-requires
-byte-at-requires c κs = search needs
-
 returns : tie.Need-returns
 unfolding isReport
 returns c = ap (λ (b : ℕ). eqb b 0x97) (c .byte-at .ensures)
 
 pub is-report-spec : {M : Type 1} → statement M
-is-report-spec = tie.close (tie.spec byte-at-requires returns)
+is-report-spec = tie.close (tie.spec (λ c κs. search needs) returns)

@@ -3,18 +3,6 @@ use borrow.Author.Needs.{needs}
 use Rattle.form2000.proofs.name_at.Statement.{statement}
 use Rattle.form2000.proofs.name_at.Tie as tie
 
-part-requires : tie.Need-part-requires
-part-requires c κs = search needs
-
-is-utf16-requires : tie.Need-is-utf16-requires
-is-utf16-requires c κs = search needs
-
-cast-t7 : tie.Need-cast-t7
-cast-t7 c = search needs
-
-cast-t8 : tie.Need-cast-t8
-cast-t8 c = search needs
-
 returns : tie.Need-returns
 returns c =
     let b4 = c .before .before .before .before in
@@ -27,4 +15,4 @@ returns-2 c =
 
 pub name-at-spec : {M : Type 1} → statement M
 name-at-spec =
-    tie.close (tie.spec part-requires is-utf16-requires cast-t7 cast-t8 returns returns-2)
+    tie.close (tie.spec (λ c κs. search needs) (λ c κs. search needs) (λ c. search needs) (λ c. search needs) returns returns-2)

@@ -4,9 +4,6 @@ use borrow.Author.Needs.{needs}
 use Rattle.form2000.proofs.name_id.Statement.{statement}
 use Rattle.form2000.proofs.name_id.Tie as tie
 
-is-section-requires : tie.Need-is-section-requires
-is-section-requires c κs = search needs
-
 returns : tie.Need-returns
 returns c = sym (ap (λ (b : Bool). cond b 0xDF 0xDC) (sym (c .before .is-section .ensures) ∙ c .if1 .taken))
 
@@ -14,4 +11,4 @@ returns-2 : tie.Need-returns-2
 returns-2 c = sym (ap (λ (b : Bool). cond b 0xDF 0xDC) (sym (c .before .is-section .ensures) ∙ c .if1 .left))
 
 pub name-id-spec : {M : Type 1} → statement M
-name-id-spec = tie.close (tie.spec is-section-requires returns returns-2)
+name-id-spec = tie.close (tie.spec (λ c κs. search needs) returns returns-2)

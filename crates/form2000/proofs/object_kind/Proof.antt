@@ -5,9 +5,6 @@ use borrow.Author.Needs.{needs}
 use Rattle.form2000.proofs.object_kind.Statement.{statement}
 use Rattle.form2000.proofs.object_kind.Tie as tie
 
-is-report-requires : tie.Need-is-report-requires
-is-report-requires c κs = search needs
-
 returns : tie.Need-returns
 unfolding objectPlace
 returns c = sym (ap (λ (b : Bool). cond b 1 0) (sym (c .before .is-report .ensures) ∙ c .if1 .taken))
@@ -17,4 +14,4 @@ unfolding objectPlace
 returns-2 c = sym (ap (λ (b : Bool). cond b 1 0) (sym (c .before .is-report .ensures) ∙ c .if1 .left))
 
 pub object-kind-spec : {M : Type 1} → statement M
-object-kind-spec = tie.close (tie.spec is-report-requires returns returns-2)
+object-kind-spec = tie.close (tie.spec (λ c κs. search needs) returns returns-2)

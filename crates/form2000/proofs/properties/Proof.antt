@@ -19,23 +19,11 @@ abbrev μ-loop : tie.MeasureT-loop
 loop-holds : tie.Need-loop-holds Inv-loop μ-loop
 loop-holds c = left-start _ _ _ _ _ (c .before .before .before .pre .fits)
 
-shared-slice-read-id : tie.Need-shared-slice-read-id Inv-loop μ-loop
-shared-slice-read-id c = search needs
-
 same-length : tie.Need-same-length Inv-loop μ-loop
 same-length c = c .before .before .before .loop .inv .same
 
 returns : tie.Need-returns Inv-loop μ-loop
 returns c = left-stop _ _ _ _ _ _ _ _ (c .before .before .before .loop .inv) (stops _ _ (omega (arith, c .before .before .loop-test .taken)) (omega (arith, c .if1 .taken)))
-
-value-requires : tie.Need-value-requires Inv-loop μ-loop
-value-requires c κs = search needs
-
-enum-known-start : tie.Need-enum-known-start Inv-loop μ-loop
-enum-known-start c = search needs
-
-enum-told : tie.Need-enum-told Inv-loop μ-loop
-enum-told c = search needs
 
 same-length-2 : tie.Need-same-length-2 Inv-loop μ-loop
 same-length-2 c = c .before .before .before .before .before .before .loop .inv .same
@@ -78,12 +66,10 @@ properties-spec =
     Inv-loop
     μ-loop
     loop-holds
-    shared-slice-read-id
+    (λ c. search needs)
     same-length
     returns
-    value-requires
-    enum-known-start
-    enum-told
+    (λ c κs. search needs) (λ c. search needs) (λ c. search needs)
     same-length-2
     returns-2
     property-requires

@@ -19,12 +19,6 @@ abbrev μ-loop : tie.MeasureT-loop
 loop-holds : tie.Need-loop-holds Inv-loop μ-loop
 loop-holds c = (remain-start _ _ _ _ _ refl (c .before .before .before .before .pre), refl, refl)
 
-skip-requires : tie.Need-skip-requires Inv-loop μ-loop
-skip-requires c κs = search needs
-
-enum-known-next : tie.Need-enum-known-next Inv-loop μ-loop
-enum-known-next c = search needs
-
 sub-k : tie.Need-sub-k Inv-loop μ-loop
 sub-k c = omega (arith, c .before .before .before .before .loop-test .taken)
 
@@ -35,9 +29,6 @@ loop-again : tie.Need-loop-again Inv-loop μ-loop
 loop-again c =
     let b5 = c .before .before .before .before .before in
     (top-over _ _ (b5 .loop .k) (b5 .loop .pos) _ _ _ (b5 .loop .inv .0) (c .before .before .before .before .loop-test .taken) _ (c .before .before .before .skip .ensures) _ (c .before .next .given .1), b5 .loop .inv .1, b5 .loop .inv .2)
-
-enum-told : tie.Need-enum-told Inv-loop μ-loop
-enum-told c = search needs
 
 put-entry-requires : tie.Need-put-entry-requires Inv-loop μ-loop
 put-entry-requires c κs =
@@ -72,12 +63,11 @@ put-top-spec =
     Inv-loop
     μ-loop
     loop-holds
-    skip-requires
-    enum-known-next
+    (λ c κs. search needs) (λ c. search needs)
     sub-k
     loop-less
     loop-again
-    enum-told
+    (λ c. search needs)
     put-entry-requires
     sub-k-2
     loop-less-2

@@ -4,18 +4,6 @@ use borrow.Author.Needs.{needs}
 use Rattle.form2000.proofs.read.Statement.{statement}
 use Rattle.form2000.proofs.read.Tie as tie
 
-count-requires : tie.Need-count-requires
-count-requires c κs = search needs
-
-enum-known-all : tie.Need-enum-known-all
-enum-known-all c = search needs
-
-enum-told : tie.Need-enum-told
-enum-told c = search needs
-
-answer-requires : tie.Need-answer-requires
-answer-requires c κs = search needs
-
 returns : tie.Need-returns
 returns c =
     let b8 = c .before .before .before .before .before .before .before .before in
@@ -51,12 +39,6 @@ answer-requires-4 c κs =
     let b17 = c .before .before .before .before .before .before .before .before .before .before .before .before .before .before .before .before .before in
     read-small (b17 .args .table .now) (b17 .args .stream .now) (b17 .args .controls .now) (b17 .args .properties .now) (b17 .pre .0) (b17 .pre .1) _ (c .before .before .before .before .before .before .before .before .before .before .before .before .count .ensures) _ _ _ (c .before .before .before .before .before .before .before .before .before .before .all .given .1)
 
-same-length : tie.Need-same-length
-same-length c = search needs
-
-same-length-2 : tie.Need-same-length-2
-same-length-2 c = search needs
-
 returns-4 : tie.Need-returns-4
 returns-4 c =
     let b18 = c .before .before .before .before .before .before .before .before .before .before .before .before .before .before .before .before .before .before in
@@ -66,10 +48,7 @@ pub read-spec : {M : Type 1} → statement M
 read-spec =
     tie.close
     (tie.spec
-    count-requires
-    enum-known-all
-    enum-told
-    answer-requires
+    (λ c κs. search needs) (λ c. search needs) (λ c. search needs) (λ c κs. search needs)
     returns
     answer-requires-2
     returns-2
@@ -77,6 +56,5 @@ read-spec =
     returns-3
     write-requires
     answer-requires-4
-    same-length
-    same-length-2
+    (λ c. search needs) (λ c. search needs)
     returns-4)

@@ -5,20 +5,8 @@ use borrow.Author.Needs.{needs}
 use Rattle.form2000.proofs.skip.Statement.{statement}
 use Rattle.form2000.proofs.skip.Tie as tie
 
-half-requires : tie.Need-half-requires
-half-requires c κs = search needs
-
-enum-known-kind : tie.Need-enum-known-kind
-enum-known-kind c = search needs
-
-enum-told : tie.Need-enum-told
-enum-told c = search needs
-
 returns : tie.Need-returns
 returns c = skip-short _ _ _ (c .before .before .half .ensures) (c .enum-told .given .1)
-
-is-section-requires : tie.Need-is-section-requires
-is-section-requires c κs = search needs
 
 returns-2 : tie.Need-returns-2
 returns-2 c = skip-section _ _ _ (c .before .before .before .before .before .half .ensures) _ (c .before .before .before .kind .given .1) _ (c .before .is-section .ensures) (c .if1 .taken)
@@ -26,29 +14,8 @@ returns-2 c = skip-section _ _ _ (c .before .before .before .before .before .hal
 add-props : tie.Need-add-props
 add-props c = omega (arith, half-room _ _ _ _ (c .before .before .before .before .before .half .ensures) (c .before .before .before .kind .given .1))
 
-props-requires : tie.Need-props-requires
-props-requires c κs = search needs
-
-enum-known-next : tie.Need-enum-known-next
-enum-known-next c = search needs
-
-enum-told-2 : tie.Need-enum-told-2
-enum-told-2 c = search needs
-
 returns-3 : tie.Need-returns-3
 returns-3 c = skip-run-bad _ _ _ (c .before .before .before .before .before .before .before .before .half .ensures) _ (c .before .before .before .before .before .before .kind .given .1) _ (c .before .before .before .before .is-section .ensures) _ (c .before .before .props .ensures) (c .enum-told2 .given .1)
-
-head-requires : tie.Need-head-requires
-head-requires c κs = search needs
-
-enum-known-end : tie.Need-enum-known-end
-enum-known-end c = search needs
-
-enum-told-3 : tie.Need-enum-told-3
-enum-told-3 c = search needs
-
-enum-told-4 : tie.Need-enum-told-4
-enum-told-4 c = search needs
 
 returns-4 : tie.Need-returns-4
 returns-4 c = skip-plain _ _ _ (c .before .before .before .before .before .before .before .before .before .before .before .before .before .half .ensures) _ (c .before .before .before .before .before .before .before .before .before .before .before .kind .given .1) _ (c .before .before .before .before .before .before .before .before .before .is-section .ensures) _ (c .before .before .before .before .before .before .before .props .ensures) _ _ (c .before .before .before .before .before .next .given .1) _ (c .before .before .before .head .ensures) _ (c .before .end .given .1) (c .before .before .before .before .before .before .before .before .if1 .left)
@@ -63,21 +30,14 @@ pub skip-spec : {M : Type 1} → statement M
 skip-spec =
     tie.close
     (tie.spec
-    half-requires
-    enum-known-kind
-    enum-told
+    (λ c κs. search needs) (λ c. search needs) (λ c. search needs)
     returns
-    is-section-requires
+    (λ c κs. search needs)
     returns-2
     add-props
-    props-requires
-    enum-known-next
-    enum-told-2
+    (λ c κs. search needs) (λ c. search needs) (λ c. search needs)
     returns-3
-    head-requires
-    enum-known-end
-    enum-told-3
-    enum-told-4
+    (λ c κs. search needs) (λ c. search needs) (λ c. search needs) (λ c. search needs)
     returns-4
     returns-5
     returns-6)

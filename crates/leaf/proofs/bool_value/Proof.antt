@@ -4,12 +4,6 @@ use borrow.Author.Needs.{needs}
 use Rattle.leaf.proofs.bool_value.Statement.{statement}
 use Rattle.leaf.proofs.bool_value.Tie as tie
 
-valued-requires : tie.Need-valued-requires
-valued-requires c κs = search needs
-
-valued-requires-2 : tie.Need-valued-requires-2
-valued-requires-2 c κs = search needs
-
 returns : tie.Need-returns
 returns c = c .valued .ensures ∙ simp (eq-eqb _ _ (c .before .if1 .taken))
 
@@ -17,4 +11,4 @@ returns-2 : tie.Need-returns-2
 returns-2 c = c .valued2 .ensures ∙ simp (ne-eqb _ _ (c .before .if1 .left))
 
 pub bool-value-spec : {M : Type 1} → statement M
-bool-value-spec = tie.close (tie.spec valued-requires valued-requires-2 returns returns-2)
+bool-value-spec = tie.close (tie.spec (λ c κs. search needs) (λ c κs. search needs) returns returns-2)

@@ -7,18 +7,6 @@ use Rattle.leaf.proofs.Values.{a-double, no-double}
 use Rattle.leaf.proofs.double_value.Statement.{statement}
 use Rattle.leaf.proofs.double_value.Tie as tie
 
-u32-at-requires : tie.Need-u32-at-requires
-u32-at-requires c κs = search needs
-
-u32-at-requires-2 : tie.Need-u32-at-requires-2
-u32-at-requires-2 c κs = search needs
-
-valued-requires : tie.Need-valued-requires
-valued-requires c κs = search needs
-
-valued-requires-2 : tie.Need-valued-requires-2
-valued-requires-2 c κs = search needs
-
 returns : tie.Need-returns
 returns c =
     c .valued .ensures
@@ -32,9 +20,6 @@ pub double-value-spec : {M : Type 1} → statement M
 double-value-spec =
     tie.close
     (tie.spec
-    u32-at-requires
-    u32-at-requires-2
-    valued-requires
-    valued-requires-2
+    (λ c κs. search needs) (λ c κs. search needs) (λ c κs. search needs) (λ c κs. search needs)
     returns
     returns-2)

@@ -12,33 +12,6 @@ use Rattle.leaf.proofs.entry_value.Tie as tie
 typed : (c : tie.Start) {t : ℕ} → c .args .type-code ≡ t → entryValue (c .args .type-code) (c .args .bytes .now) ≡ entryValue t (c .args .bytes .now)
 typed c e = ap (λ (t : ℕ). entryValue t (c .args .bytes .now)) e
 
-yes-no-value-requires : tie.Need-yes-no-value-requires
-yes-no-value-requires c κs = search needs
-
-short-value-requires : tie.Need-short-value-requires
-short-value-requires c κs = search needs
-
-long-value-requires : tie.Need-long-value-requires
-long-value-requires c κs = search needs
-
-long-value-requires-2 : tie.Need-long-value-requires-2
-long-value-requires-2 c κs = search needs
-
-single-value-requires : tie.Need-single-value-requires
-single-value-requires c κs = search needs
-
-double-value-requires : tie.Need-double-value-requires
-double-value-requires c κs = search needs
-
-guid-value-requires : tie.Need-guid-value-requires
-guid-value-requires c κs = search needs
-
-text-or-requires : tie.Need-text-or-requires
-text-or-requires c κs = search needs
-
-valued-requires : tie.Need-valued-requires
-valued-requires c κs = search needs
-
 returns : tie.Need-returns
 unfolding entryValue
 returns c = c .yes-no-value .ensures ∙ sym (typed (c .before .before .before) (c .before .match .keys1))
@@ -85,15 +58,8 @@ pub entry-value-spec : {M : Type 1} → statement M
 entry-value-spec =
     tie.close
     (tie.spec
-    yes-no-value-requires
-    short-value-requires
-    long-value-requires
-    long-value-requires-2
-    single-value-requires
-    double-value-requires
-    guid-value-requires
-    text-or-requires
-    valued-requires
+    (λ c κs. search needs) (λ c κs. search needs) (λ c κs. search needs) (λ c κs. search needs) (λ c κs. search needs)
+    (λ c κs. search needs) (λ c κs. search needs) (λ c κs. search needs) (λ c κs. search needs)
     returns
     returns-2
     returns-3

@@ -5,12 +5,6 @@ use Rattle.leaf.proofs.Values.{a-guid, no-guid}
 use Rattle.leaf.proofs.guid_value.Statement.{statement}
 use Rattle.leaf.proofs.guid_value.Tie as tie
 
-valued-requires : tie.Need-valued-requires
-valued-requires c κs = search needs
-
-valued-requires-2 : tie.Need-valued-requires-2
-valued-requires-2 c κs = search needs
-
 returns : tie.Need-returns
 returns c = c .valued .ensures ∙ a-guid (c .before .before .before .args .bytes .now) (omega arith)
 
@@ -18,4 +12,4 @@ returns-2 : tie.Need-returns-2
 returns-2 c = c .valued2 .ensures ∙ no-guid (c .before .before .before .args .bytes .now) (λ e. omega arith)
 
 pub guid-value-spec : {M : Type 1} → statement M
-guid-value-spec = tie.close (tie.spec valued-requires valued-requires-2 returns returns-2)
+guid-value-spec = tie.close (tie.spec (λ c κs. search needs) (λ c κs. search needs) returns returns-2)

@@ -11,33 +11,15 @@ use Rattle.leaf.specs.declared.Int.the-variants.{Of}
 use Rattle.leaf.proofs.integer_value.Statement.{statement}
 use Rattle.leaf.proofs.integer_value.Tie as tie
 
-byte-at-requires : tie.Need-byte-at-requires
-byte-at-requires c κs = search needs
-
-cast-t5 : tie.Need-cast-t5
-cast-t5 c = search needs
-
 returns : tie.Need-returns
 returns c =
     ap Of (toZ-pos w32 {n = c .byte-at .result} (omega arith) ∙ ap pos (c .byte-at .ensures))
     ∙ ap intOf (one-byte (c .before .before .before .args .bytes .now) (omega arith))
 
-u16-at-requires : tie.Need-u16-at-requires
-u16-at-requires c κs = search needs
-
-signed16-requires : tie.Need-signed16-requires
-signed16-requires c κs = search needs
-
 returns-2 : tie.Need-returns-2
 returns-2 c =
     ap Of (toZ-ofZ {w = w32} (record { sfits = c .signed16 .ok }) ∙ c .signed16 .ensures ∙ ap (signed 0x8000) (c .before .u16-at .ensures))
     ∙ ap intOf (two-bytes (c .before .before .before .before .before .args .bytes .now) (omega arith))
-
-u32-at-requires : tie.Need-u32-at-requires
-u32-at-requires c κs = search needs
-
-signed32-requires : tie.Need-signed32-requires
-signed32-requires c κs = search needs
 
 returns-3 : tie.Need-returns-3
 returns-3 c =
@@ -51,13 +33,10 @@ pub integer-value-spec : {M : Type 1} → statement M
 integer-value-spec =
     tie.close
     (tie.spec
-    byte-at-requires
-    cast-t5
+    (λ c κs. search needs) (λ c. search needs)
     returns
-    u16-at-requires
-    signed16-requires
+    (λ c κs. search needs) (λ c κs. search needs)
     returns-2
-    u32-at-requires
-    signed32-requires
+    (λ c κs. search needs) (λ c κs. search needs)
     returns-3
     returns-4)

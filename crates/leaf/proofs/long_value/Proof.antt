@@ -13,26 +13,8 @@ use Rattle.leaf.proofs.long_value.Tie as tie
 v-is : (c : tie.After-known-told) → toZ w32 (ofZ w32 (c .before .v .given .0 .0)) ≡ c .before .v .given .0 .0
 v-is c = toZ-ofZ {w = w32} (search needs)
 
-integer-value-requires : tie.Need-integer-value-requires
-integer-value-requires c κs = search needs
-
-enum-known-v : tie.Need-enum-known-v
-enum-known-v c = search needs
-
-enum-told : tie.Need-enum-told
-enum-told c = search needs
-
-valued-requires : tie.Need-valued-requires
-valued-requires c κs = search needs
-
 returns : tie.Need-returns
 returns c = c .valued .ensures ∙ missing-long (integerValue (c .before .before .before .before .before .args .bytes .now)) (sym (c .before .before .before .integer-value .ensures) ∙ c .before .enum-told .given .1)
-
-word-of-requires : tie.Need-word-of-requires
-word-of-requires c κs = search needs
-
-valued-requires-2 : tie.Need-valued-requires-2
-valued-requires-2 c κs = search needs
 
 returns-2 : tie.Need-returns-2
 returns-2 c =
@@ -45,11 +27,7 @@ pub long-value-spec : {M : Type 1} → statement M
 long-value-spec =
     tie.close
     (tie.spec
-    integer-value-requires
-    enum-known-v
-    enum-told
-    valued-requires
+    (λ c κs. search needs) (λ c. search needs) (λ c. search needs) (λ c κs. search needs)
     returns
-    word-of-requires
-    valued-requires-2
+    (λ c κs. search needs) (λ c κs. search needs)
     returns-2)

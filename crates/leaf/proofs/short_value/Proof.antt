@@ -24,32 +24,8 @@ n-fits c =
     let h : mag (c .before .n .given .0 .0) < 32768 = search needs in
     subst (SFits w32) (sym (n-is c)) (record { sfits = omega arith })
 
-integer-value-requires : tie.Need-integer-value-requires
-integer-value-requires c κs = search needs
-
-enum-known-v : tie.Need-enum-known-v
-enum-known-v c = search needs
-
-enum-told : tie.Need-enum-told
-enum-told c = search needs
-
-valued-requires : tie.Need-valued-requires
-valued-requires c κs = search needs
-
 returns : tie.Need-returns
 returns c = c .valued .ensures ∙ missing-short (integerValue (c .before .before .before .before .before .args .bytes .now)) (sym (c .before .before .before .integer-value .ensures) ∙ c .before .enum-told .given .1)
-
-short-of-requires : tie.Need-short-of-requires
-short-of-requires c κs = search needs
-
-enum-known-n : tie.Need-enum-known-n
-enum-known-n c = search needs
-
-enum-told-2 : tie.Need-enum-told-2
-enum-told-2 c = search needs
-
-valued-requires-2 : tie.Need-valued-requires-2
-valued-requires-2 c κs = search needs
 
 returns-2 : tie.Need-returns-2
 returns-2 c =
@@ -60,12 +36,6 @@ returns-2 c =
 
 cast-word-of : tie.Need-cast-word-of
 cast-word-of c = n-fits c
-
-word-of-requires : tie.Need-word-of-requires
-word-of-requires c κs = search needs
-
-valued-requires-3 : tie.Need-valued-requires-3
-valued-requires-3 c κs = search needs
 
 returns-3 : tie.Need-returns-3
 returns-3 c =
@@ -80,17 +50,10 @@ pub short-value-spec : {M : Type 1} → statement M
 short-value-spec =
     tie.close
     (tie.spec
-    integer-value-requires
-    enum-known-v
-    enum-told
-    valued-requires
+    (λ c κs. search needs) (λ c. search needs) (λ c. search needs) (λ c κs. search needs)
     returns
-    short-of-requires
-    enum-known-n
-    enum-told-2
-    valued-requires-2
+    (λ c κs. search needs) (λ c. search needs) (λ c. search needs) (λ c κs. search needs)
     returns-2
     cast-word-of
-    word-of-requires
-    valued-requires-3
+    (λ c κs. search needs) (λ c κs. search needs)
     returns-3)

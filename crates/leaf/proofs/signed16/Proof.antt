@@ -5,15 +5,6 @@ use Rattle.leaf.proofs.Signed.{flip-fits, low-half, high-half}
 use Rattle.leaf.proofs.signed16.Statement.{statement}
 use Rattle.leaf.proofs.signed16.Tie as tie
 
-cast-result : tie.Need-cast-result
-cast-result c = search needs
-
-sub-result : tie.Need-sub-result
-sub-result c = search needs
-
-cast-result-2 : tie.Need-cast-result-2
-cast-result-2 c = search needs
-
 sub-result-2 : tie.Need-sub-result-2
 sub-result-2 c = flip-fits (65535 - c .before .args .n) (omega arith)
 
@@ -25,4 +16,4 @@ returns-2 c = high-half 32768 65535 (c .before .args .n) (omega arith) (omega ar
 
 pub signed16-spec : {M : Type 1} → statement M
 signed16-spec =
-    tie.close (tie.spec cast-result sub-result cast-result-2 sub-result-2 returns returns-2)
+    tie.close (tie.spec (λ c. search needs) (λ c. search needs) (λ c. search needs) sub-result-2 returns returns-2)

@@ -9,18 +9,6 @@ use Rattle.leaf.specs.declared.Wide.{Wide}
 use Rattle.leaf.proofs.single_value.Statement.{statement}
 use Rattle.leaf.proofs.single_value.Tie as tie
 
-u32-at-requires : tie.Need-u32-at-requires
-u32-at-requires c κs = search needs
-
-widen-requires : tie.Need-widen-requires
-widen-requires c κs = search needs
-
-valued-requires : tie.Need-valued-requires
-valued-requires c κs = search needs
-
-valued-requires-2 : tie.Need-valued-requires-2
-valued-requires-2 c κs = search needs
-
 returns : tie.Need-returns
 returns c =
     c .valued .ensures
@@ -33,4 +21,4 @@ returns-2 c = c .valued2 .ensures ∙ no-single (c .before .before .before .args
 pub single-value-spec : {M : Type 1} → statement M
 single-value-spec =
     tie.close
-    (tie.spec u32-at-requires widen-requires valued-requires valued-requires-2 returns returns-2)
+    (tie.spec (λ c κs. search needs) (λ c κs. search needs) (λ c κs. search needs) (λ c κs. search needs) returns returns-2)

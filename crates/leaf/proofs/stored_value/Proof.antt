@@ -9,38 +9,14 @@ use Rattle.leaf.proofs.Values.{stored-flag, stored-byte, stored-short, 
 use Rattle.leaf.proofs.stored_value.Statement.{statement}
 use Rattle.leaf.proofs.stored_value.Tie as tie
 
-valued-requires : tie.Need-valued-requires
-valued-requires c κs = search needs
-
 returns : tie.Need-returns
 returns c = let a = c .before .before .before .args in c .valued .ensures ∙ stored-flag (a .id) (a .bytes .now) (omega arith)
-
-byte-at-requires : tie.Need-byte-at-requires
-byte-at-requires c κs = search needs
-
-cast-valued : tie.Need-cast-valued
-cast-valued c = search needs
-
-valued-requires-2 : tie.Need-valued-requires-2
-valued-requires-2 c κs = search needs
 
 returns-2 : tie.Need-returns-2
 unfolding word32
 returns-2 c =
     let a = c .before .before .before .before .before .args in
     c .valued2 .ensures ∙ ap (λ (n : ℕ). value 2 n 0) (c .before .byte-at .ensures) ∙ stored-byte (a .id) (a .bytes .now) (omega arith) (omega arith)
-
-u16-at-requires : tie.Need-u16-at-requires
-u16-at-requires c κs = search needs
-
-signed16-requires : tie.Need-signed16-requires
-signed16-requires c κs = search needs
-
-word-of-requires : tie.Need-word-of-requires
-word-of-requires c κs = search needs
-
-valued-requires-3 : tie.Need-valued-requires-3
-valued-requires-3 c κs = search needs
 
 returns-3 : tie.Need-returns-3
 returns-3 c =
@@ -49,27 +25,12 @@ returns-3 c =
     ∙ ap (λ (n : ℕ). value 2 n 0) (c .before .word-of .ensures ∙ ap word32 (toZ-ofZ {w = w32} (record { sfits = c .before .before .signed16 .ok }) ∙ c .before .before .signed16 .ensures ∙ ap (signed 0x8000) (c .before .before .before .u16-at .ensures)))
     ∙ stored-short (a .id) (a .bytes .now) (omega arith) (omega arith)
 
-u32-at-requires : tie.Need-u32-at-requires
-u32-at-requires c κs = search needs
-
-signed32-requires : tie.Need-signed32-requires
-signed32-requires c κs = search needs
-
-word-of-requires-2 : tie.Need-word-of-requires-2
-word-of-requires-2 c κs = search needs
-
-valued-requires-4 : tie.Need-valued-requires-4
-valued-requires-4 c κs = search needs
-
 returns-4 : tie.Need-returns-4
 returns-4 c =
     let a = c .before .before .before .before .before .before .before .before .before .args in
     c .valued4 .ensures
     ∙ ap (λ (n : ℕ). value 3 n 0) (c .before .word-of2 .ensures ∙ ap word32 (toZ-ofZ {w = w32} (record { sfits = c .before .before .signed32 .ok }) ∙ c .before .before .signed32 .ensures ∙ ap (signed 0x80000000) (c .before .before .before .u32-at .ensures)))
     ∙ stored-long (a .id) (a .bytes .now) (omega arith) (omega arith)
-
-valued-requires-5 : tie.Need-valued-requires-5
-valued-requires-5 c κs = search needs
 
 returns-5 : tie.Need-returns-5
 returns-5 c = let a = c .before .before .before .before .before .before .args in c .valued5 .ensures ∙ stored-bytes (a .id) (a .bytes .now) (omega arith)
@@ -78,21 +39,13 @@ pub stored-value-spec : {M : Type 1} → statement M
 stored-value-spec =
     tie.close
     (tie.spec
-    valued-requires
+    (λ c κs. search needs)
     returns
-    byte-at-requires
-    cast-valued
-    valued-requires-2
+    (λ c κs. search needs) (λ c. search needs) (λ c κs. search needs)
     returns-2
-    u16-at-requires
-    signed16-requires
-    word-of-requires
-    valued-requires-3
+    (λ c κs. search needs) (λ c κs. search needs) (λ c κs. search needs) (λ c κs. search needs)
     returns-3
-    u32-at-requires
-    signed32-requires
-    word-of-requires-2
-    valued-requires-4
+    (λ c κs. search needs) (λ c κs. search needs) (λ c κs. search needs) (λ c κs. search needs)
     returns-4
-    valued-requires-5
+    (λ c κs. search needs)
     returns-5)

@@ -13,23 +13,8 @@ use Rattle.leaf.proofs.value_as.Tie as tie
 kinded : (c : tie.Start) {k : ℕ} → c .args .kind ≡ k → valueAs (c .args .kind) (c .args .id) (c .args .bytes .now) ≡ valueAs k (c .args .id) (c .args .bytes .now)
 kinded c e = ap (λ (k : ℕ). valueAs k (c .args .id) (c .args .bytes .now)) e
 
-stored-value-requires : tie.Need-stored-value-requires
-stored-value-requires c κs = search needs
-
 returns : tie.Need-returns
 returns c = let a = c .before .before .before .args in c .stored-value .ensures ∙ sym (by-id (a .id) (a .bytes .now) (a .kind) (omega arith))
-
-text-or-requires : tie.Need-text-or-requires
-text-or-requires c κs = search needs
-
-guid-value-requires : tie.Need-guid-value-requires
-guid-value-requires c κs = search needs
-
-double-value-requires : tie.Need-double-value-requires
-double-value-requires c κs = search needs
-
-valued-requires : tie.Need-valued-requires
-valued-requires c κs = search needs
 
 returns-2 : tie.Need-returns-2
 returns-2 c = let a = c .before .before .before .before .args in c .text-or .ensures ∙ sym (kinded (c .before .before .before .before) (c .before .match .keys1) ∙ by-kind (a .id) (a .bytes .now) _ (omega arith))
@@ -53,12 +38,9 @@ pub value-as-spec : {M : Type 1} → statement M
 value-as-spec =
     tie.close
     (tie.spec
-    stored-value-requires
+    (λ c κs. search needs)
     returns
-    text-or-requires
-    guid-value-requires
-    double-value-requires
-    valued-requires
+    (λ c κs. search needs) (λ c κs. search needs) (λ c κs. search needs) (λ c κs. search needs)
     returns-2
     returns-3
     returns-4

@@ -8,15 +8,6 @@ use Rattle.leaf.proofs.Widening.{same-value}
 use Rattle.leaf.proofs.widen.Statement.{statement}
 use Rattle.leaf.proofs.widen.Tie as tie
 
-widen-bits-requires : tie.Need-widen-bits-requires
-widen-bits-requires c κs = search needs
-
-cast-t4 : tie.Need-cast-t4
-cast-t4 c = search needs
-
-cast-t6 : tie.Need-cast-t6
-cast-t6 c = search needs
-
 returns : tie.Need-returns
 returns c =
     let w = c .widen-bits .result in
@@ -24,4 +15,4 @@ returns c =
     (ap wordsOf (c .widen-bits .ensures), ap (λ (n : ℕ). ofBits binary64 n) (e ∙ c .widen-bits .ensures) ∙ same-value (c .before .args .low))
 
 pub widen-spec : {M : Type 1} → statement M
-widen-spec = tie.close (tie.spec widen-bits-requires cast-t4 cast-t6 returns)
+widen-spec = tie.close (tie.spec (λ c κs. search needs) (λ c. search needs) (λ c. search needs) returns)

@@ -5,9 +5,6 @@ use Rattle.leaf.proofs.Widening.{not-nan-bits, not-nan, loses-nothing, 
 use Rattle.leaf.proofs.widen_bits.Statement.{statement}
 use Rattle.leaf.proofs.widen_bits.Tie as tie
 
-widen-nan-requires : tie.Need-widen-nan-requires
-widen-nan-requires c κs = search needs
-
 float-from-bits-x : tie.Need-float-from-bits-x
 float-from-bits-x c = not-nan-bits (c .before .args .low) (omega arith)
 
@@ -27,7 +24,7 @@ pub widen-bits-spec : {M : Type 1} → statement M
 widen-bits-spec =
     tie.close
     (tie.spec
-    widen-nan-requires
+    (λ c κs. search needs)
     float-from-bits-x
     float-to-float-result
     float-to-bits-result

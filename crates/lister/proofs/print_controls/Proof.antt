@@ -12,32 +12,8 @@ Inv-loop rows count type-ids type-rows out₀ n₀ out n = length out ≡ length
 abbrev μ-loop : tie.MeasureT-loop
 μ-loop rows count type-ids type-rows out₀ n₀ out n = count - n
 
-loop-holds : tie.Need-loop-holds Inv-loop μ-loop
-loop-holds c = omega arith
-
-control-line-requires : tie.Need-control-line-requires Inv-loop μ-loop
-control-line-requires c κs = search needs
-
-slice-reshare-prefix-write-all : tie.Need-slice-reshare-prefix-write-all Inv-loop μ-loop
-slice-reshare-prefix-write-all c = search needs
-
-slice-aggregate-write-all : tie.Need-slice-aggregate-write-all Inv-loop μ-loop
-slice-aggregate-write-all c = search needs
-
 write-all-requires : tie.Need-write-all-requires Inv-loop μ-loop
 write-all-requires c κs = tt
-
-add-n : tie.Need-add-n Inv-loop μ-loop
-add-n c = omega arith
-
-loop-less : tie.Need-loop-less Inv-loop μ-loop
-loop-less c = omega arith
-
-loop-again : tie.Need-loop-again Inv-loop μ-loop
-loop-again c = omega arith
-
-same-length : tie.Need-same-length Inv-loop μ-loop
-same-length c = omega arith
 
 returns : tie.Need-returns Inv-loop μ-loop
 returns c = tt
@@ -48,13 +24,7 @@ print-controls-spec =
     (tie.spec
     Inv-loop
     μ-loop
-    loop-holds
-    control-line-requires
-    slice-reshare-prefix-write-all
-    slice-aggregate-write-all
+    (λ c. omega arith) (λ c κs. search needs) (λ c. search needs) (λ c. search needs)
     write-all-requires
-    add-n
-    loop-less
-    loop-again
-    same-length
+    (λ c. omega arith) (λ c. omega arith) (λ c. omega arith) (λ c. omega arith)
     returns)

@@ -7,18 +7,6 @@ use lib.Seq.{take-all}
 use Rattle.listing.proofs.behind.Statement.{statement}
 use Rattle.listing.proofs.behind.Tie as tie
 
-sub-result : tie.Need-sub-result
-sub-result c = search needs
-
-part-result-start : tie.Need-part-result-start
-part-result-start c = search needs
-
-part-result-end : tie.Need-part-result-end
-part-result-end c = search needs
-
-slice-aggregate-result : tie.Need-slice-aggregate-result
-slice-aggregate-result c = search needs
-
 returns : tie.Need-returns
 returns c = let a = c .before .before .args in take-all (length (a .s .now) - a .start) (drop (a .start) (a .s .now)) (simp length-drop (omega arith))
 
@@ -29,9 +17,6 @@ pub behind-spec : {M : Type 1} → statement M
 behind-spec =
     tie.close
     (tie.spec
-    sub-result
-    part-result-start
-    part-result-end
-    slice-aggregate-result
+    (λ c. search needs) (λ c. search needs) (λ c. search needs) (λ c. search needs)
     returns
     returns-2)

@@ -6,48 +6,6 @@ use Rattle.listing.proofs.Placed.{line}
 use Rattle.listing.proofs.control_line.Statement.{statement}
 use Rattle.listing.proofs.control_line.Tie as tie
 
-row-word-requires : tie.Need-row-word-requires
-row-word-requires c κs = search needs
-
-row-word-requires-2 : tie.Need-row-word-requires-2
-row-word-requires-2 c κs = search needs
-
-row-word-requires-3 : tie.Need-row-word-requires-3
-row-word-requires-3 c κs = search needs
-
-row-word-requires-4 : tie.Need-row-word-requires-4
-row-word-requires-4 c κs = search needs
-
-row-word-requires-5 : tie.Need-row-word-requires-5
-row-word-requires-5 c κs = search needs
-
-put-head-requires : tie.Need-put-head-requires
-put-head-requires c κs = search needs
-
-put-type-name-requires : tie.Need-put-type-name-requires
-put-type-name-requires c κs = search needs
-
-put-byte-requires : tie.Need-put-byte-requires
-put-byte-requires c κs = search needs
-
-put-chars-requires : tie.Need-put-chars-requires
-put-chars-requires c κs = search needs
-
-put-byte-requires-2 : tie.Need-put-byte-requires-2
-put-byte-requires-2 c κs = search needs
-
-put-decimal-requires : tie.Need-put-decimal-requires
-put-decimal-requires c κs = search needs
-
-put-byte-requires-3 : tie.Need-put-byte-requires-3
-put-byte-requires-3 c κs = search needs
-
-put-decimal-requires-2 : tie.Need-put-decimal-requires-2
-put-decimal-requires-2 c κs = search needs
-
-put-end-requires : tie.Need-put-end-requires
-put-end-requires c κs = search needs
-
 returns : tie.Need-returns
 returns c =
     let c9 = c .before .before in
@@ -85,19 +43,8 @@ pub control-line-spec : {M : Type 1} → statement M
 control-line-spec =
     tie.close
     (tie.spec
-    row-word-requires
-    row-word-requires-2
-    row-word-requires-3
-    row-word-requires-4
-    row-word-requires-5
-    put-head-requires
-    put-type-name-requires
-    put-byte-requires
-    put-chars-requires
-    put-byte-requires-2
-    put-decimal-requires
-    put-byte-requires-3
-    put-decimal-requires-2
-    put-end-requires
+    (λ c κs. search needs) (λ c κs. search needs) (λ c κs. search needs) (λ c κs. search needs) (λ c κs. search needs)
+    (λ c κs. search needs) (λ c κs. search needs) (λ c κs. search needs) (λ c κs. search needs) (λ c κs. search needs)
+    (λ c κs. search needs) (λ c κs. search needs) (λ c κs. search needs) (λ c κs. search needs)
     same-length
     returns)

@@ -6,30 +6,6 @@ use Rattle.listing.proofs.Placed.{line}
 use Rattle.listing.proofs.property_line.Statement.{statement}
 use Rattle.listing.proofs.property_line.Tie as tie
 
-row-word-requires : tie.Need-row-word-requires
-row-word-requires c κs = search needs
-
-row-word-requires-2 : tie.Need-row-word-requires-2
-row-word-requires-2 c κs = search needs
-
-put-head-requires : tie.Need-put-head-requires
-put-head-requires c κs = search needs
-
-put-value-name-requires : tie.Need-put-value-name-requires
-put-value-name-requires c κs = search needs
-
-put-byte-requires : tie.Need-put-byte-requires
-put-byte-requires c κs = search needs
-
-put-shown-requires : tie.Need-put-shown-requires
-put-shown-requires c κs = search needs
-
-put-end-requires : tie.Need-put-end-requires
-put-end-requires c κs = search needs
-
-same-length : tie.Need-same-length
-same-length c = search needs
-
 returns : tie.Need-returns
 returns c =
     let c5 = c .before .before in
@@ -50,12 +26,6 @@ pub property-line-spec : {M : Type 1} → statement M
 property-line-spec =
     tie.close
     (tie.spec
-    row-word-requires
-    row-word-requires-2
-    put-head-requires
-    put-value-name-requires
-    put-byte-requires
-    put-shown-requires
-    put-end-requires
-    same-length
+    (λ c κs. search needs) (λ c κs. search needs) (λ c κs. search needs) (λ c κs. search needs) (λ c κs. search needs)
+    (λ c κs. search needs) (λ c κs. search needs) (λ c. search needs)
     returns)

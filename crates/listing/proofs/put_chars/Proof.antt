@@ -4,20 +4,8 @@ use Rattle.listing.proofs.Fields.{numbered, with-name}
 use Rattle.listing.proofs.put_chars.Statement.{statement}
 use Rattle.listing.proofs.put_chars.Tie as tie
 
-put-byte-requires : tie.Need-put-byte-requires
-put-byte-requires c κs = search needs
-
-put-decimal-requires : tie.Need-put-decimal-requires
-put-decimal-requires c κs = search needs
-
-same-length : tie.Need-same-length
-same-length c = search needs
-
 returns : tie.Need-returns
 returns c = let a = c .before .before .before .before .before .before .args in rw (numbered (a .mark) (a .size) (omega arith)) (c .before .before .put-byte .ensures)
-
-same-length-2 : tie.Need-same-length-2
-same-length-2 c = search needs
 
 returns-2 : tie.Need-returns-2
 returns-2 c = let a = c .before .before .before .before .before .before .args in rw (with-name (a .mark) (a .size) (λ e. omega arith)) (c .before .before .put-decimal .ensures)
@@ -25,4 +13,4 @@ returns-2 c = let a = c .before .before .before .before .before .before .args in
 pub put-chars-spec : {M : Type 1} → statement M
 put-chars-spec =
     tie.close
-    (tie.spec put-byte-requires put-decimal-requires same-length returns same-length-2 returns-2)
+    (tie.spec (λ c κs. search needs) (λ c κs. search needs) (λ c. search needs) returns (λ c. search needs) returns-2)

@@ -4,36 +4,6 @@ use Rattle.listing.specs.Lines.{shownFields}
 use Rattle.listing.proofs.put_shown.Statement.{statement}
 use Rattle.listing.proofs.put_shown.Tie as tie
 
-row-word-requires : tie.Need-row-word-requires
-row-word-requires c κs = search needs
-
-row-word-requires-2 : tie.Need-row-word-requires-2
-row-word-requires-2 c κs = search needs
-
-row-word-requires-3 : tie.Need-row-word-requires-3
-row-word-requires-3 c κs = search needs
-
-row-word-requires-4 : tie.Need-row-word-requires-4
-row-word-requires-4 c κs = search needs
-
-row-word-requires-5 : tie.Need-row-word-requires-5
-row-word-requires-5 c κs = search needs
-
-value-bytes-requires : tie.Need-value-bytes-requires
-value-bytes-requires c κs = search needs
-
-put-word-requires : tie.Need-put-word-requires
-put-word-requires c κs = search needs
-
-put-byte-requires : tie.Need-put-byte-requires
-put-byte-requires c κs = search needs
-
-put-value-requires : tie.Need-put-value-requires
-put-value-requires c κs = search needs
-
-same-length : tie.Need-same-length
-same-length c = search needs
-
 returns : tie.Need-returns
 unfolding shownFields
 returns c =
@@ -54,14 +24,6 @@ pub put-shown-spec : {M : Type 1} → statement M
 put-shown-spec =
     tie.close
     (tie.spec
-    row-word-requires
-    row-word-requires-2
-    row-word-requires-3
-    row-word-requires-4
-    row-word-requires-5
-    value-bytes-requires
-    put-word-requires
-    put-byte-requires
-    put-value-requires
-    same-length
+    (λ c κs. search needs) (λ c κs. search needs) (λ c κs. search needs) (λ c κs. search needs) (λ c κs. search needs)
+    (λ c κs. search needs) (λ c κs. search needs) (λ c κs. search needs) (λ c κs. search needs) (λ c. search needs)
     returns)

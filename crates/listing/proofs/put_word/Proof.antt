@@ -4,118 +4,37 @@ use Rattle.listing.proofs.Fields.{loose, past}
 use Rattle.listing.proofs.put_word.Statement.{statement}
 use Rattle.listing.proofs.put_word.Tie as tie
 
-slice-aggregate-put-text : tie.Need-slice-aggregate-put-text
-slice-aggregate-put-text c = search needs
-
-put-text-requires : tie.Need-put-text-requires
-put-text-requires c κs = search needs
-
-slice-aggregate-put-text-2 : tie.Need-slice-aggregate-put-text-2
-slice-aggregate-put-text-2 c = search needs
-
-put-text-requires-2 : tie.Need-put-text-requires-2
-put-text-requires-2 c κs = search needs
-
-slice-aggregate-put-text-3 : tie.Need-slice-aggregate-put-text-3
-slice-aggregate-put-text-3 c = search needs
-
-put-text-requires-3 : tie.Need-put-text-requires-3
-put-text-requires-3 c κs = search needs
-
-slice-aggregate-put-text-4 : tie.Need-slice-aggregate-put-text-4
-slice-aggregate-put-text-4 c = search needs
-
-put-text-requires-4 : tie.Need-put-text-requires-4
-put-text-requires-4 c κs = search needs
-
-slice-aggregate-put-text-5 : tie.Need-slice-aggregate-put-text-5
-slice-aggregate-put-text-5 c = search needs
-
-put-text-requires-5 : tie.Need-put-text-requires-5
-put-text-requires-5 c κs = search needs
-
-slice-aggregate-put-text-6 : tie.Need-slice-aggregate-put-text-6
-slice-aggregate-put-text-6 c = search needs
-
-put-text-requires-6 : tie.Need-put-text-requires-6
-put-text-requires-6 c κs = search needs
-
-slice-aggregate-put-text-7 : tie.Need-slice-aggregate-put-text-7
-slice-aggregate-put-text-7 c = search needs
-
-put-text-requires-7 : tie.Need-put-text-requires-7
-put-text-requires-7 c κs = search needs
-
-slice-aggregate-put-text-8 : tie.Need-slice-aggregate-put-text-8
-slice-aggregate-put-text-8 c = search needs
-
-put-text-requires-8 : tie.Need-put-text-requires-8
-put-text-requires-8 c κs = search needs
-
-slice-aggregate-put-text-9 : tie.Need-slice-aggregate-put-text-9
-slice-aggregate-put-text-9 c = search needs
-
-put-text-requires-9 : tie.Need-put-text-requires-9
-put-text-requires-9 c κs = search needs
-
-same-length : tie.Need-same-length
-same-length c = search needs
-
 returns : tie.Need-returns
 unfolding markWord
 returns c = rw (c .before .before .before .before .before .match .keys1) (c .before .before .put-text .ensures)
-
-same-length-2 : tie.Need-same-length-2
-same-length-2 c = search needs
 
 returns-2 : tie.Need-returns-2
 unfolding markWord
 returns-2 c = rw (c .before .before .before .before .before .match .keys2) (c .before .before .put-text2 .ensures)
 
-same-length-3 : tie.Need-same-length-3
-same-length-3 c = search needs
-
 returns-3 : tie.Need-returns-3
 unfolding markWord
 returns-3 c = rw (c .before .before .before .before .before .match .keys3) (c .before .before .put-text3 .ensures)
-
-same-length-4 : tie.Need-same-length-4
-same-length-4 c = search needs
 
 returns-4 : tie.Need-returns-4
 unfolding markWord
 returns-4 c = rw (c .before .before .before .before .before .match .keys4) (c .before .before .put-text4 .ensures)
 
-same-length-5 : tie.Need-same-length-5
-same-length-5 c = search needs
-
 returns-5 : tie.Need-returns-5
 unfolding markWord
 returns-5 c = rw (c .before .before .before .before .before .match .keys5) (c .before .before .put-text5 .ensures)
-
-same-length-6 : tie.Need-same-length-6
-same-length-6 c = search needs
 
 returns-6 : tie.Need-returns-6
 unfolding markWord
 returns-6 c = rw (c .before .before .before .before .before .match .keys6) (c .before .before .put-text6 .ensures)
 
-same-length-7 : tie.Need-same-length-7
-same-length-7 c = search needs
-
 returns-7 : tie.Need-returns-7
 unfolding markWord
 returns-7 c = rw (c .before .before .before .before .before .match .keys7) (c .before .before .put-text7 .ensures)
 
-same-length-8 : tie.Need-same-length-8
-same-length-8 c = search needs
-
 returns-8 : tie.Need-returns-8
 unfolding markWord
 returns-8 c = rw (c .before .before .before .before .before .match .keys8) (c .before .before .put-text8 .ensures)
-
-same-length-9 : tie.Need-same-length-9
-same-length-9 c = search needs
 
 returns-9 : tie.Need-returns-9
 returns-9 c = rw (loose (c .before .before .before .before .before .before .before .args .mark) (past 8 _ (c .before .before .before .before .before .match .rest))) (c .before .before .put-text9 .ensures)
@@ -124,39 +43,24 @@ pub put-word-spec : {M : Type 1} → statement M
 put-word-spec =
     tie.close
     (tie.spec
-    slice-aggregate-put-text
-    put-text-requires
-    slice-aggregate-put-text-2
-    put-text-requires-2
-    slice-aggregate-put-text-3
-    put-text-requires-3
-    slice-aggregate-put-text-4
-    put-text-requires-4
-    slice-aggregate-put-text-5
-    put-text-requires-5
-    slice-aggregate-put-text-6
-    put-text-requires-6
-    slice-aggregate-put-text-7
-    put-text-requires-7
-    slice-aggregate-put-text-8
-    put-text-requires-8
-    slice-aggregate-put-text-9
-    put-text-requires-9
-    same-length
+    (λ c. search needs) (λ c κs. search needs) (λ c. search needs) (λ c κs. search needs) (λ c. search needs)
+    (λ c κs. search needs) (λ c. search needs) (λ c κs. search needs) (λ c. search needs) (λ c κs. search needs)
+    (λ c. search needs) (λ c κs. search needs) (λ c. search needs) (λ c κs. search needs) (λ c. search needs)
+    (λ c κs. search needs) (λ c. search needs) (λ c κs. search needs) (λ c. search needs)
     returns
-    same-length-2
+    (λ c. search needs)
     returns-2
-    same-length-3
+    (λ c. search needs)
     returns-3
-    same-length-4
+    (λ c. search needs)
     returns-4
-    same-length-5
+    (λ c. search needs)
     returns-5
-    same-length-6
+    (λ c. search needs)
     returns-6
-    same-length-7
+    (λ c. search needs)
     returns-7
-    same-length-8
+    (λ c. search needs)
     returns-8
-    same-length-9
+    (λ c. search needs)
     returns-9)

@@ -4,26 +4,8 @@ use Rattle.listing.proofs.Fields.{is-no, is-yes}
 use Rattle.listing.proofs.put_yes.Statement.{statement}
 use Rattle.listing.proofs.put_yes.Tie as tie
 
-slice-aggregate-put-text : tie.Need-slice-aggregate-put-text
-slice-aggregate-put-text c = search needs
-
-put-text-requires : tie.Need-put-text-requires
-put-text-requires c κs = search needs
-
-slice-aggregate-put-text-2 : tie.Need-slice-aggregate-put-text-2
-slice-aggregate-put-text-2 c = search needs
-
-put-text-requires-2 : tie.Need-put-text-requires-2
-put-text-requires-2 c κs = search needs
-
-same-length : tie.Need-same-length
-same-length c = search needs
-
 returns : tie.Need-returns
 returns c = rw (is-no (c .before .before .before .before .before .before .before .args .low) (omega arith)) (c .before .before .put-text .ensures)
-
-same-length-2 : tie.Need-same-length-2
-same-length-2 c = search needs
 
 returns-2 : tie.Need-returns-2
 returns-2 c = rw (is-yes (c .before .before .before .before .before .before .before .args .low) (λ e. omega arith)) (c .before .before .put-text2 .ensures)
@@ -32,11 +14,7 @@ pub put-yes-spec : {M : Type 1} → statement M
 put-yes-spec =
     tie.close
     (tie.spec
-    slice-aggregate-put-text
-    put-text-requires
-    slice-aggregate-put-text-2
-    put-text-requires-2
-    same-length
+    (λ c. search needs) (λ c κs. search needs) (λ c. search needs) (λ c κs. search needs) (λ c. search needs)
     returns
-    same-length-2
+    (λ c. search needs)
     returns-2)

@@ -5,18 +5,6 @@ use Rattle.listing.proofs.Fields.{word-at}
 use Rattle.listing.proofs.row_word.Statement.{statement}
 use Rattle.listing.proofs.row_word.Tie as tie
 
-mul-at : tie.Need-mul-at
-mul-at c = search needs
-
-add-at : tie.Need-add-at
-add-at c = search needs
-
-mul-result : tie.Need-mul-result
-mul-result c = search needs
-
-shared-slice-read-result : tie.Need-shared-slice-read-result
-shared-slice-read-result c = search needs
-
 returns : tie.Need-returns
 returns c = let a = c .before .before .args in sym (word-at (a .n) (a .i) (a .rows .now) (c .before .before .pre))
 
@@ -25,4 +13,4 @@ returns-2 c = let a = c .before .args in sym (word-at (a .n) (a .i) (a .rows .no
 
 pub row-word-spec : {M : Type 1} → statement M
 row-word-spec =
-    tie.close (tie.spec mul-at add-at mul-result shared-slice-read-result returns returns-2)
+    tie.close (tie.spec (λ c. search needs) (λ c. search needs) (λ c. search needs) (λ c. search needs) returns returns-2)

@@ -4,14 +4,8 @@ use lib.ListN.{take}
 use Rattle.listing.proofs.value_bytes.Statement.{statement}
 use Rattle.listing.proofs.value_bytes.Tie as tie
 
-behind-requires : tie.Need-behind-requires
-behind-requires c κs = search needs
-
-front-requires : tie.Need-front-requires
-front-requires c κs = search needs
-
 returns : tie.Need-returns
 returns c = c .front .ensures ∙ ap (take (c .before .before .before .args .size)) (c .before .behind .ensures)
 
 pub value-bytes-spec : {M : Type 1} → statement M
-value-bytes-spec = tie.close (tie.spec behind-requires front-requires returns)
+value-bytes-spec = tie.close (tie.spec (λ c κs. search needs) (λ c κs. search needs) returns)

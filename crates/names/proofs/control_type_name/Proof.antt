@@ -9,21 +9,6 @@ use Rattle.names.proofs.found_in.Reads as found-in-reads
 use Rattle.names.proofs.tables.control_type_ids.Reads as control-type-ids-reads
 use Rattle.names.proofs.tables.control_type_rows.Reads as control-type-rows-reads
 
-control-type-ids-requires : tie.Need-control-type-ids-requires
-control-type-ids-requires c κs = search needs
-
-control-type-rows-requires : tie.Need-control-type-rows-requires
-control-type-rows-requires c κs = search needs
-
-slice-aggregate-found-in : tie.Need-slice-aggregate-found-in
-slice-aggregate-found-in c = search needs
-
-slice-aggregate-found-in-2 : tie.Need-slice-aggregate-found-in-2
-slice-aggregate-found-in-2 c = search needs
-
-found-in-requires : tie.Need-found-in-requires
-found-in-requires c κs = search needs
-
 returns : tie.Need-returns
 returns c =
     let r = c .before .before .before in
@@ -33,9 +18,5 @@ pub control-type-name-spec : {M : Type 1} → statement M
 control-type-name-spec =
     tie.close
     (tie.spec
-    control-type-ids-requires
-    control-type-rows-requires
-    slice-aggregate-found-in
-    slice-aggregate-found-in-2
-    found-in-requires
+    (λ c κs. search needs) (λ c κs. search needs) (λ c. search needs) (λ c. search needs) (λ c κs. search needs)
     returns)

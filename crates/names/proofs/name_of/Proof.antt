@@ -11,9 +11,6 @@ use Rattle.names.proofs.name_of.Reads as reads
 use Rattle.names.proofs.name_of.Lts as lts
 use Rattle.names.proofs.len_of.Reads as len-of-reads
 
-len-of-requires : tie.Need-len-of-requires
-len-of-requires c κs = search needs
-
 slice-aggregate-result : tie.Need-slice-aggregate-result
 slice-aggregate-result c =
     let row = c .before .before .before .args .row .now in
@@ -26,4 +23,4 @@ returns c =
     ap (λ (n : ℕ). take n row) (c .before .len-of .ensures) ∙ take-before row
 
 pub name-of-spec : {M : Type 1} → statement M
-name-of-spec = tie.close (tie.spec len-of-requires slice-aggregate-result returns)
+name-of-spec = tie.close (tie.spec (λ c κs. search needs) slice-aggregate-result returns)

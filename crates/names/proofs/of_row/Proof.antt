@@ -8,16 +8,10 @@ use Rattle.names.proofs.of_row.Reads as reads
 use Rattle.names.proofs.of_row.Lts as lts
 use Rattle.names.proofs.len_of.Reads as len-of-reads
 
-slice-aggregate-len-of : tie.Need-slice-aggregate-len-of
-slice-aggregate-len-of c = search needs
-
-len-of-requires : tie.Need-len-of-requires
-len-of-requires c κs = search needs
-
 returns : tie.Need-returns
 returns c =
     let row = c .before .before .args .t1 in
     ap (λ (n : ℕ). record { found = ltb 0 n; bytes = row; len = n }) (c .len-of .ensures)
 
 pub of-row-spec : {M : Type 1} → statement M
-of-row-spec = tie.close (tie.spec slice-aggregate-len-of len-of-requires returns)
+of-row-spec = tie.close (tie.spec (λ c. search needs) (λ c κs. search needs) returns)

@@ -21,36 +21,18 @@ mid lo hi = lo + (hi - lo) / 2
 loop-holds : tie.Need-loop-holds Inv-loop μ-loop
 loop-holds c = (omega arith, omega arith, λ a. start (c .args .ids .now) (c .args .id))
 
-sub-mid : tie.Need-sub-mid Inv-loop μ-loop
-sub-mid c = omega arith
-
-add-mid : tie.Need-add-mid Inv-loop μ-loop
-add-mid c = omega arith
-
 mul-at : tie.Need-mul-at Inv-loop μ-loop
 mul-at c = omega (arith, c .before .before .good .0 .1)
-
-shared-slice-read-at : tie.Need-shared-slice-read-at Inv-loop μ-loop
-shared-slice-read-at c = omega arith
 
 returns : tie.Need-returns Inv-loop μ-loop
 returns c a =
     let l = c .before .before .before in
     placed (l .before .args .ids .now) (l .before .args .id) (mid (l .loop .lo) (l .loop .hi)) a (omega arith) (c .if1 .taken)
 
-add-lo : tie.Need-add-lo Inv-loop μ-loop
-add-lo c = omega arith
-
-loop-less : tie.Need-loop-less Inv-loop μ-loop
-loop-less c = omega arith
-
 loop-again : tie.Need-loop-again Inv-loop μ-loop
 loop-again c =
     let l = c .before .before .before .before in
     (omega arith, omega arith, λ a. up (l .before .args .ids .now) (l .before .args .id) (mid (l .loop .lo) (l .loop .hi)) a (omega arith) (l .loop .inv .2 a) (c .if2 .taken))
-
-loop-less-2 : tie.Need-loop-less-2 Inv-loop μ-loop
-loop-less-2 c = omega arith
 
 loop-again-2 : tie.Need-loop-again-2 Inv-loop μ-loop
 loop-again-2 c =
@@ -67,14 +49,12 @@ place-in-spec =
     Inv-loop
     μ-loop
     loop-holds
-    sub-mid
-    add-mid
+    (λ c. omega arith) (λ c. omega arith)
     mul-at
-    shared-slice-read-at
+    (λ c. omega arith)
     returns
-    add-lo
-    loop-less
+    (λ c. omega arith) (λ c. omega arith)
     loop-again
-    loop-less-2
+    (λ c. omega arith)
     loop-again-2
     returns-2)

@@ -12,18 +12,6 @@ use Rattle.names.proofs.nothing.Reads as nothing-reads
 use Rattle.names.proofs.number_name.Reads as number-name-reads
 use Rattle.names.proofs.text_name.Reads as text-name-reads
 
-text-name-requires : tie.Need-text-name-requires
-text-name-requires c κs = search needs
-
-bytes-name-requires : tie.Need-bytes-name-requires
-bytes-name-requires c κs = search needs
-
-number-name-requires : tie.Need-number-name-requires
-number-name-requires c κs = search needs
-
-nothing-requires : tie.Need-nothing-requires
-nothing-requires c κs = search needs
-
 returns : tie.Need-returns
 returns c = c .text-name .ensures ∙ ap named (texts (c .before .before .args .mark) (c .before .before .args .id) (c .before .match .keys1))
 
@@ -42,10 +30,7 @@ pub value-name-spec : {M : Type 1} → statement M
 value-name-spec =
     tie.close
     (tie.spec
-    text-name-requires
-    bytes-name-requires
-    number-name-requires
-    nothing-requires
+    (λ c κs. search needs) (λ c κs. search needs) (λ c κs. search needs) (λ c κs. search needs)
     returns
     returns-2
     returns-3

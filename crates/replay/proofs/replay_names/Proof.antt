@@ -15,12 +15,6 @@ print-name-requires-3 c κs = some-row (c .before .before .before .before .befor
 print-name-requires-4 : tie.Need-print-name-requires-4
 print-name-requires-4 c κs = some-row (c .before .before .before .before .before .before .before .before .before .before .before .before .before .before .before .before .before .before .pre .1)
 
-same-length : tie.Need-same-length
-same-length c = search needs
-
-returns : tie.Need-returns
-returns c = search needs
-
 pub replay-names-spec : {M : Type 1} → statement M
 replay-names-spec =
     tie.close
@@ -29,5 +23,4 @@ replay-names-spec =
     print-name-requires-2
     print-name-requires-3
     print-name-requires-4
-    same-length
-    returns)
+    (λ c. search needs) (λ c. search needs))

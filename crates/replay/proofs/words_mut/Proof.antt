@@ -8,11 +8,5 @@ use Rattle.replay.proofs.words_mut.Tie as tie
 slice-aggregate-result : tie.Need-slice-aggregate-result
 slice-aggregate-result c = sym (length-take-le (c .before .before .args .size) (c .before .before .args .s .now) (omega arith))
 
-returns : tie.Need-returns
-returns c = search needs
-
-returns-2 : tie.Need-returns-2
-returns-2 c = search needs
-
 pub words-mut-spec : {M : Type 1} → statement M
-words-mut-spec = tie.close (tie.spec slice-aggregate-result returns returns-2)
+words-mut-spec = tie.close (tie.spec slice-aggregate-result (λ c. search needs) (λ c. search needs))

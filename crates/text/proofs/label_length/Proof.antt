@@ -13,14 +13,8 @@ Inv-loop n size₀ rest₀ size rest = (rest ≤ n) × (size + length (label res
 abbrev μ-loop : tie.MeasureT-loop
 μ-loop n size₀ rest₀ size rest = rest
 
-loop-holds : tie.Need-loop-holds Inv-loop μ-loop
-loop-holds c = omega arith
-
 add-size : tie.Need-add-size Inv-loop μ-loop
 add-size c = let n = c .before .before .args .n in omega (arith, longest-label n (omega arith))
-
-loop-less : tie.Need-loop-less Inv-loop μ-loop
-loop-less c = omega arith
 
 loop-again : tie.Need-loop-again Inv-loop μ-loop
 loop-again c = let r = c .before .loop .rest in omega (arith, longer-label r (omega arith))
@@ -30,4 +24,4 @@ returns c = let r = c .before .loop .rest in omega (arith, short-label r (omega 
 
 pub label-length-spec : {M : Type 1} → statement M
 label-length-spec =
-    tie.close (tie.spec Inv-loop μ-loop loop-holds add-size loop-less loop-again returns)
+    tie.close (tie.spec Inv-loop μ-loop (λ c. omega arith) add-size (λ c. omega arith) loop-again returns)

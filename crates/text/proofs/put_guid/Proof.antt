@@ -4,48 +4,6 @@ use Rattle.text.proofs.Written.{guid-parts}
 use Rattle.text.proofs.put_guid.Statement.{statement}
 use Rattle.text.proofs.put_guid.Tie as tie
 
-put-byte-requires : tie.Need-put-byte-requires
-put-byte-requires c κs = search needs
-
-put-pair-requires : tie.Need-put-pair-requires
-put-pair-requires c κs = search needs
-
-put-pair-requires-2 : tie.Need-put-pair-requires-2
-put-pair-requires-2 c κs = search needs
-
-put-byte-requires-2 : tie.Need-put-byte-requires-2
-put-byte-requires-2 c κs = search needs
-
-put-pair-requires-3 : tie.Need-put-pair-requires-3
-put-pair-requires-3 c κs = search needs
-
-put-byte-requires-3 : tie.Need-put-byte-requires-3
-put-byte-requires-3 c κs = search needs
-
-put-pair-requires-4 : tie.Need-put-pair-requires-4
-put-pair-requires-4 c κs = search needs
-
-put-byte-requires-4 : tie.Need-put-byte-requires-4
-put-byte-requires-4 c κs = search needs
-
-put-pair-requires-5 : tie.Need-put-pair-requires-5
-put-pair-requires-5 c κs = search needs
-
-put-byte-requires-5 : tie.Need-put-byte-requires-5
-put-byte-requires-5 c κs = search needs
-
-put-pair-requires-6 : tie.Need-put-pair-requires-6
-put-pair-requires-6 c κs = search needs
-
-put-pair-requires-7 : tie.Need-put-pair-requires-7
-put-pair-requires-7 c κs = search needs
-
-put-pair-requires-8 : tie.Need-put-pair-requires-8
-put-pair-requires-8 c κs = search needs
-
-put-byte-requires-6 : tie.Need-put-byte-requires-6
-put-byte-requires-6 c κs = search needs
-
 returns : tie.Need-returns
 returns c =
     let c14 = c .before .before in
@@ -85,19 +43,8 @@ pub put-guid-spec : {M : Type 1} → statement M
 put-guid-spec =
     tie.close
     (tie.spec
-    put-byte-requires
-    put-pair-requires
-    put-pair-requires-2
-    put-byte-requires-2
-    put-pair-requires-3
-    put-byte-requires-3
-    put-pair-requires-4
-    put-byte-requires-4
-    put-pair-requires-5
-    put-byte-requires-5
-    put-pair-requires-6
-    put-pair-requires-7
-    put-pair-requires-8
-    put-byte-requires-6
+    (λ c κs. search needs) (λ c κs. search needs) (λ c κs. search needs) (λ c κs. search needs) (λ c κs. search needs)
+    (λ c κs. search needs) (λ c κs. search needs) (λ c κs. search needs) (λ c κs. search needs) (λ c κs. search needs)
+    (λ c κs. search needs) (λ c κs. search needs) (λ c κs. search needs) (λ c κs. search needs)
     same-length
     returns)

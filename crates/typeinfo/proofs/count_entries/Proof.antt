@@ -15,28 +15,10 @@ Inv-loop s count p₀ left₀ found₀ p left found =
 abbrev μ-loop : tie.MeasureT-loop
 μ-loop s count p₀ left₀ found₀ p left found = left
 
-loop-holds : tie.Need-loop-holds Inv-loop μ-loop
-loop-holds c = omega arith
-
-sub-if1 : tie.Need-sub-if1 Inv-loop μ-loop
-sub-if1 c = omega arith
-
 returns : tie.Need-returns Inv-loop μ-loop
 returns c =
     let top = c .before .before in
     omega (arith, ap length (none-left (top .before .before .args .s .now) (top .loop .p) (top .loop .left) (omega arith)))
-
-type-info-entry-requires : tie.Need-type-info-entry-requires Inv-loop μ-loop
-type-info-entry-requires c κs = omega arith
-
-counted-requires : tie.Need-counted-requires Inv-loop μ-loop
-counted-requires c κs = omega arith
-
-sub-left : tie.Need-sub-left Inv-loop μ-loop
-sub-left c = omega arith
-
-loop-less : tie.Need-loop-less Inv-loop μ-loop
-loop-less c = omega arith
 
 loop-again : tie.Need-loop-again Inv-loop μ-loop
 loop-again c =
@@ -62,12 +44,8 @@ count-entries-spec =
     (tie.spec
     Inv-loop
     μ-loop
-    loop-holds
-    sub-if1
+    (λ c. omega arith) (λ c. omega arith)
     returns
-    type-info-entry-requires
-    counted-requires
-    sub-left
-    loop-less
+    (λ c κs. omega arith) (λ c κs. omega arith) (λ c. omega arith) (λ c. omega arith)
     loop-again
     returns-2)

@@ -8,9 +8,6 @@ use Rattle.typeinfo.proofs.counted.Tie as tie
 returns : tie.Need-returns
 returns c = omega (arith, not-one (c .before .args .type-code) (omega arith))
 
-add-result : tie.Need-add-result
-add-result c = search needs
-
 returns-2 : tie.Need-returns-2
 returns-2 c = omega (arith, one (c .before .args .type-code) (c .if1 .left))
 
@@ -19,5 +16,5 @@ counted-spec =
     tie.close
     (tie.spec
     returns
-    add-result
+    (λ c. search needs)
     returns-2)

@@ -5,14 +5,8 @@ use Rattle.typeinfo.proofs.EntryLaws.{tail-cut, tail-whole, no-tail}
 use Rattle.typeinfo.proofs.past_tail.Statement.{statement}
 use Rattle.typeinfo.proofs.past_tail.Tie as tie
 
-sub-if2 : tie.Need-sub-if2
-sub-if2 c = search needs
-
 returns : tie.Need-returns
 returns c = tail-cut (c .before .before .args .len) (c .before .before .args .type-code) (c .before .before .args .next) (c .before .if1 .taken) (omega arith) (omega arith)
-
-add-result : tie.Need-add-result
-add-result c = search needs
 
 returns-2 : tie.Need-returns-2
 returns-2 c = tail-whole (c .before .before .args .len) (c .before .before .args .type-code) (c .before .before .args .next) (c .before .if1 .taken) (omega arith) (omega arith)
@@ -24,8 +18,8 @@ pub past-tail-spec : {M : Type 1} → statement M
 past-tail-spec =
     tie.close
     (tie.spec
-    sub-if2
+    (λ c. search needs)
     returns
-    add-result
+    (λ c. search needs)
     returns-2
     returns-3)

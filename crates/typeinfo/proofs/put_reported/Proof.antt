@@ -11,23 +11,8 @@ returns c =
     let start = c .before .before .before in
     (omega (arith, not-one (start .args .e .«type_code») (omega arith)), put-nothing _ _ (start .args .e) (omega arith))
 
-cast-t8 : tie.Need-cast-t8
-cast-t8 c = search needs
-
-cast-t9 : tie.Need-cast-t9
-cast-t9 c = search needs
-
-cast-t10 : tie.Need-cast-t10
-cast-t10 c = search needs
-
 put-info-requires : tie.Need-put-info-requires
 put-info-requires c κs = omega (arith, one (c .before .before .before .before .before .before .before .args .e .«type_code») (c .before .before .before .before .if1 .left))
-
-add-result : tie.Need-add-result
-add-result c = search needs
-
-same-length : tie.Need-same-length
-same-length c = search needs
 
 returns-2 : tie.Need-returns-2
 returns-2 c =
@@ -39,10 +24,7 @@ put-reported-spec =
     tie.close
     (tie.spec
     returns
-    cast-t8
-    cast-t9
-    cast-t10
+    (λ c. search needs) (λ c. search needs) (λ c. search needs)
     put-info-requires
-    add-result
-    same-length
+    (λ c. search needs) (λ c. search needs)
     returns-2)

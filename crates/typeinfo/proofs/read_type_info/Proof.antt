@@ -12,20 +12,8 @@ use Rattle.typeinfo.proofs.read_type_info.Tie as tie
 accepts : (c : tie.After-header2) → headerOf (c .before .before .before .before .before .args .stream .now) ≡ Entries (c .header2 .given .0 .0)
 accepts c = sym (c .before .before .type-info-count .ensures) ∙ c .header2 .given .1
 
-type-info-count-requires : tie.Need-type-info-count-requires
-type-info-count-requires c κs = search needs
-
-enum-known-header : tie.Need-enum-known-header
-enum-known-header c = search needs
-
-enum-known-header-2 : tie.Need-enum-known-header-2
-enum-known-header-2 c = search needs
-
 count-entries-requires : tie.Need-count-entries-requires
 count-entries-requires c κs = accepted _ _ (accepts (c .before)) .header
-
-cast-if1 : tie.Need-cast-if1
-cast-if1 c = search needs
 
 returns : tie.Need-returns
 returns c = no-room _ _ _ (accepts (c .before .before .before)) _ (c .before .count-entries .ensures) (omega arith)
@@ -38,9 +26,6 @@ write-entries-requires c κs =
 returns-2 : tie.Need-returns-2
 returns-2 c = refused _ _ _ (sym (c .before .before .before .type-info-count .ensures) ∙ c .before .header .given .1)
 
-same-length : tie.Need-same-length
-same-length c = search needs
-
 returns-3 : tie.Need-returns-3
 returns-3 c = all-written _ _ _ (accepts (c .before .before .before .before .before .before .before)) _ (c .before .before .before .before .before .count-entries .ensures) (omega arith) _ (c .before .before .write-entries .ensures)
 
@@ -48,13 +33,11 @@ pub read-type-info-spec : {M : Type 1} → statement M
 read-type-info-spec =
     tie.close
     (tie.spec
-    type-info-count-requires
-    enum-known-header
-    enum-known-header-2
+    (λ c κs. search needs) (λ c. search needs) (λ c. search needs)
     count-entries-requires
-    cast-if1
+    (λ c. search needs)
     returns
     write-entries-requires
     returns-2
-    same-length
+    (λ c. search needs)
     returns-3)

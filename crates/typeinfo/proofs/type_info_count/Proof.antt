@@ -13,18 +13,6 @@ returns c = too-long (c .before .before .args .s .now) (omega arith)
 returns-2 : tie.Need-returns-2
 returns-2 c = too-short (c .before .before .before .args .s .now) (omega arith) (omega arith)
 
-u32-at-requires : tie.Need-u32-at-requires
-u32-at-requires c κs = search needs
-
-u32-at-requires-2 : tie.Need-u32-at-requires-2
-u32-at-requires-2 c κs = search needs
-
-cast-asked : tie.Need-cast-asked
-cast-asked c = search needs
-
-sub-most : tie.Need-sub-most
-sub-most c = search needs
-
 returns-3 : tie.Need-returns-3
 returns-3 c = other-magic (c .before .before .before .before .before .before .args .s .now) (omega arith) (omega arith) (c .before .before .u32-at .ensures) (c .if3 .taken)
 
@@ -40,10 +28,7 @@ type-info-count-spec =
     (tie.spec
     returns
     returns-2
-    u32-at-requires
-    u32-at-requires-2
-    cast-asked
-    sub-most
+    (λ c κs. search needs) (λ c κs. search needs) (λ c. search needs) (λ c. search needs)
     returns-3
     returns-4
     returns-5)

@@ -6,21 +6,6 @@ use Rattle.typeinfo.proofs.EntryLaws.{uses-first, uses-second}
 use Rattle.typeinfo.proofs.type_info_entry.Statement.{statement}
 use Rattle.typeinfo.proofs.type_info_entry.Tie as tie
 
-u16-at-requires : tie.Need-u16-at-requires
-u16-at-requires c κs = search needs
-
-add-u32-at : tie.Need-add-u32-at
-add-u32-at c = search needs
-
-u32-at-requires : tie.Need-u32-at-requires
-u32-at-requires c κs = search needs
-
-add-nul-terminated : tie.Need-add-nul-terminated
-add-nul-terminated c = search needs
-
-nul-terminated-requires : tie.Need-nul-terminated-requires
-nul-terminated-requires c κs = search needs
-
 nul-terminated-requires-2 : tie.Need-nul-terminated-requires-2
 nul-terminated-requires-2 c κs = next-of _ _ _ (c .nul-terminated .ensures)
 
@@ -43,11 +28,7 @@ pub type-info-entry-spec : {M : Type 1} → statement M
 type-info-entry-spec =
     tie.close
     (tie.spec
-    u16-at-requires
-    add-u32-at
-    u32-at-requires
-    add-nul-terminated
-    nul-terminated-requires
+    (λ c κs. search needs) (λ c. search needs) (λ c κs. search needs) (λ c. search needs) (λ c κs. search needs)
     nul-terminated-requires-2
     past-tail-requires
     returns

@@ -23,9 +23,6 @@ abbrev μ-loop : tie.MeasureT-loop
 loop-holds : tie.Need-loop-holds Inv-loop μ-loop
 loop-holds c = (c .before .before .pre .header, refl, omega arith, refl)
 
-sub-if1 : tie.Need-sub-if1 Inv-loop μ-loop
-sub-if1 c = omega arith
-
 same-length : tie.Need-same-length Inv-loop μ-loop
 same-length c = c .before .before .loop .inv .1
 
@@ -35,21 +32,12 @@ returns c =
     let s = top .before .before .before .args .s .now in
     put-end s _ _ _ _ (none-left s (top .loop .p) (top .loop .left) (omega arith)) ∙ top .loop .inv .3
 
-type-info-entry-requires : tie.Need-type-info-entry-requires Inv-loop μ-loop
-type-info-entry-requires c κs = omega arith
-
 put-reported-requires : tie.Need-put-reported-requires Inv-loop μ-loop
 put-reported-requires c κs =
     let top = c .before .before .before .before in
     let start = top .before .before .before in
     let read = c .before .type-info-entry in
     row-room (start .args .s .now) (top .loop .p) (top .loop .left) (read .result) (read .ensures) (omega arith) (omega arith) _ _ (start .pre .not-long) (top .loop .inv .2)
-
-sub-left : tie.Need-sub-left Inv-loop μ-loop
-sub-left c = omega arith
-
-loop-less : tie.Need-loop-less Inv-loop μ-loop
-loop-less c = omega arith
 
 loop-again : tie.Need-loop-again Inv-loop μ-loop
 loop-again c =
@@ -86,13 +74,12 @@ write-entries-spec =
     Inv-loop
     μ-loop
     loop-holds
-    sub-if1
+    (λ c. omega arith)
     same-length
     returns
-    type-info-entry-requires
+    (λ c κs. omega arith)
     put-reported-requires
-    sub-left
-    loop-less
+    (λ c. omega arith) (λ c. omega arith)
     loop-again
     same-length-2
     returns-2)
