@@ -7,6 +7,7 @@ use native.Mathlib.Numerals.{add-one}
 use native.Mathlib.Omega.{arith}
 use lib.ListN.{length, drop, length-drop}
 use lib.Seq.{drop-cons}
+use borrow.Author.Tests.{lt-leb}
 use Rattle.rules.specs.Bytes.{byte, u16}
 use Rattle.rules.specs.Utf16.{isHigh, isLow, same, paired}
 use Rattle.leaf.proofs.Signed.{no}
@@ -45,6 +46,10 @@ module _ (s : List ℕ) (i : ℕ) (pending : Bool) (h : i + 1 < length s) where
 
   pub stops : same pending (isLow (u16 s i)) ≡ false → paired pending (drop i s) ≡ false
   stops e = at-two ∙ rw e
+
+-- a unit below the surrogates, where none came before
+pub plain : (s : List ℕ) (i : ℕ) → i + 1 < length s → u16 s i < 0xD800 → paired false (drop i s) ≡ paired false (drop (i + 2) s)
+plain s i h l = goes s i false h (simp (lt-leb 0xDC00 (u16 s i) (omega arith))) ∙ ap (λ (t : Bool). paired t (drop (i + 2) s)) (simp (lt-leb 0xD800 (u16 s i) l))
 
 -- one byte is left over, or none
 over : (pending : Bool) (l : List ℕ) → length l ≡ 1 → paired pending l ≡ false

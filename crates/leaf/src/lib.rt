@@ -1,11 +1,12 @@
 // The leaves: numbers out of bytes, and a property's value. A read past the end is 0, so every function has an answer for every input.
 use rules::Value;
 ghost use mathlib.Core.Path.{_≡_};
-ghost use mathlib.Core.Bool.{cond};
-ghost use Prim.Native.Nat.{_+_, _*_};
+ghost use mathlib.Core.Bool.{false, cond};
+ghost use Prim.Native.Nat.{_+_, _*_, _≤_};
+ghost use lib.ListN.{length, drop};
 ghost use lib.Ieee.{binary32, binary64, ofBits};
 ghost use Rattle.rules.specs.Bytes.{byte, u16, u32};
-ghost use Rattle.rules.specs.Utf16.{isUtf16, isHigh, isLow};
+ghost use Rattle.rules.specs.Utf16.{paired, isUtf16, isHigh, isLow};
 ghost use Rattle.rules.specs.Value.{value, signed, word32, integerValue, widened, widenedNan, longOr, shortOr, boolValue, binaryValue, yesNoValue, entryValue, storedValue, valueAs};
 ghost use Rattle.leaf.specs.Int.{intOf, shortOf};
 ghost use Rattle.leaf.specs.Wide.{wordsOf, bitsOf};
@@ -174,11 +175,26 @@ fn is_low(u: u16) -> bool
     if u < 0xdc00 { false } else { u < 0xe000 }
 }
 
+// Passes over the units from `start` on that are no surrogates, most often all there are.
+fn past_plain(bytes: &[u8], start: usize) -> usize
+    requires { ⌜ start ≤ length (now bytes) ⌝ }
+    ensures { λ r. ⌜ (r ≤ length (now (bytes .entry))) × (paired false (drop start (now (bytes .entry))) ≡ paired false (drop r (now (bytes .entry)))) ⌝ }
+{
+    let mut i = start;
+    while 1 < bytes.len() - i {
+        if 0xd800 <= u16_at(bytes, i) {
+            return i;
+        }
+        i += 2;
+    }
+    i
+}
+
 // Whether bytes are UTF-16: a low surrogate stands right behind a high one (`pending`), and nowhere else.
 pub fn is_utf16(bytes: &[u8]) -> bool
     ensures { λ r. ⌜ r ≡ isUtf16 (now (bytes .entry)) ⌝ }
 {
-    let mut i = 0;
+    let mut i = past_plain(bytes, 0);
     let mut pending = false;
     while 1 < bytes.len() - i {
         let u = u16_at(bytes, i);

@@ -15,7 +15,7 @@ abbrev μ-loop : tie.MeasureT-loop
 μ-loop bytes i₀ pending₀ i pending = length bytes - i
 
 loop-holds : tie.Need-loop-holds Inv-loop μ-loop
-loop-holds c = (omega arith, refl)
+loop-holds c = c .past-plain .ensures
 
 u16-at-requires : tie.Need-u16-at-requires Inv-loop μ-loop
 u16-at-requires c κs = tt
@@ -27,7 +27,7 @@ returns : tie.Need-returns Inv-loop μ-loop
 unfolding isUtf16
 returns c =
     let l = c .before .before .before .before in
-    let b = c .before .before .before .before .before .before .args .bytes .now in
+    let b = c .before .before .before .before .before .before .before .args .bytes .now in
     let e = c .before .is-low .ensures ∙ ap isLow (c .before .before .u16-at .ensures) in
     sym (l .loop .inv .1 ∙ stops b (l .loop .i) (l .loop .pending) (omega arith) (sym (ap (λ (t : Bool). same (l .loop .pending) t) e) ∙ differ (c .before .is-low .result) (l .loop .pending) (c .if1 .taken)))
 
@@ -37,7 +37,7 @@ is-high-requires c κs = tt
 loop-again : tie.Need-loop-again Inv-loop μ-loop
 loop-again c =
     let l = c .before .before .before .before .before in
-    let b = c .before .before .before .before .before .before .before .args .bytes .now in
+    let b = c .before .before .before .before .before .before .before .before .args .bytes .now in
     let u = c .before .before .before .u16-at .ensures in
     let e = c .before .before .is-low .ensures ∙ ap isLow u in (
       omega arith,
@@ -50,13 +50,13 @@ returns-2 : tie.Need-returns-2 Inv-loop μ-loop
 unfolding isUtf16
 returns-2 c =
     let l = c .before .before in
-    sym (l .loop .inv .1 ∙ left-over (c .before .before .before .before .args .bytes .now) (l .loop .i) (l .loop .pending) (omega arith) (omega arith) (omega arith))
+    sym (l .loop .inv .1 ∙ left-over (c .before .before .before .before .before .args .bytes .now) (l .loop .i) (l .loop .pending) (omega arith) (omega arith) (omega arith))
 
 returns-3 : tie.Need-returns-3 Inv-loop μ-loop
 unfolding isUtf16
 returns-3 c =
     let l = c .before .before in
-    sym (l .loop .inv .1 ∙ all-read (c .before .before .before .before .args .bytes .now) (l .loop .i) (l .loop .pending) (omega arith) (omega arith) (omega arith))
+    sym (l .loop .inv .1 ∙ all-read (c .before .before .before .before .before .args .bytes .now) (l .loop .i) (l .loop .pending) (omega arith) (omega arith) (omega arith))
 
 pub is-utf16-spec : {M : Type 1} → statement M
 is-utf16-spec =
@@ -64,6 +64,7 @@ is-utf16-spec =
     (tie.spec
     Inv-loop
     μ-loop
+    (λ c κs. omega arith)
     loop-holds
     (λ c. omega arith)
     u16-at-requires
