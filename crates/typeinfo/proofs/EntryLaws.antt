@@ -5,9 +5,9 @@ use mathlib.Core.Path.{_≡_, refl, sym, ap, ap₂, _∙_}
 use mathlib.Core.Bool.{Bool, true, false, cond, not}
 use mathlib.Core.List.{List, [], _∷_, _++_, map}
 use lib.Bits.{bitAnd, and-mask}
-use lib.Dec.{eqb}
+use lib.Dec.{leb, eqb}
 use lib.ListN.{length}
-use borrow.Author.Tests.{le-leb, lt-leb, eq-eqb, ne-eqb}
+use borrow.Author.Tests.{le-leb, lt-leb, leb-true, leb-false, eq-eqb, ne-eqb}
 use Rattle.rules.specs.Lists.{keep}
 use Rattle.rules.specs.Bytes.{u16, u32}
 use Rattle.rules.specs.Answer.{longest}
@@ -98,8 +98,13 @@ unfolding reportedAt infosAt keep
 none-asked s p zero h = refl
 none-asked s p (suc n) h = absurd (omega arith)
 
-pub put-end : (s : List ℕ) (p n : ℕ) (rows : List ℕ) (at : ℕ) → reportedAt s p n ≡ [] → rows ≡ put typeInfoWidth rows at (map typeInfoRow (reportedAt s p n))
+put-end : (s : List ℕ) (p n : ℕ) (rows : List ℕ) (at : ℕ) → reportedAt s p n ≡ [] → rows ≡ put typeInfoWidth rows at (map typeInfoRow (reportedAt s p n))
 put-end s p n rows at e = sym (ap (λ l. put typeInfoWidth rows at (map typeInfoRow l)) e ∙ put-none typeInfoWidth rows at)
+
+-- with none left, what is done is all: so many rows, and these words
+pub at-end : (s : List ℕ) (p n : ℕ) (rows : List ℕ) (at all : ℕ) (new : List ℕ) → reportedAt s p n ≡ [] → at + length (reportedAt s p n) ≡ all
+    → put typeInfoWidth rows at (map typeInfoRow (reportedAt s p n)) ≡ new → (at ≡ all) × (rows ≡ new)
+at-end s p n rows at all new e a w = (omega (arith, ap length e, a), put-end s p n rows at e ∙ w)
 
 -- ---- one entry: counted, and put as a row
 pub not-one : (type : ℕ) → type ≡ 0x1EFF → oneIf type ≡ 0
@@ -158,6 +163,18 @@ length-one i is = go (eqb (i .type) 0x1EFF)
     go : (b : Bool) → length (cond b [] (i ∷ []) ++ is) ≡ cond b 0 1 + length is
     go true = omega arith
     go false = omega arith
+
+-- no more are reported than asked for
+pub at-most : (s : List ℕ) (p n : ℕ) → length (reportedAt s p n) ≤ n
+at-most s p zero = omega (arith, ap length (none-asked s p zero refl))
+at-most s p (suc n) = go (leb (p + 8) (length s)) refl (at-most s (nextInfo s p) n)
+  where
+    go : (b : Bool) → leb (p + 8) (length s) ≡ b → length (reportedAt s (nextInfo s p) n) ≤ n → length (reportedAt s p (suc n)) ≤ suc n
+    go true e h =
+        let k : suc n - 1 ≡ n = omega arith in
+        let more = ap length (one-more s p (suc n) (leb-true (p + 8) (length s) e) (omega arith)) ∙ length-one (infoAt s p) (reportedAt s (nextInfo s p) (suc n - 1)) in
+        omega (arith, rw k at more, at-most-one (infoAt s p .type), h)
+    go false e h = omega (arith, ap length (none-left s p (suc n) (leb-false (p + 8) (length s) e)))
 
 row-of : (i : Info) (next : ℕ) → map typeInfoRow (oneOf i) ≡ putIf (asEntry i next)
 unfolding putIf

@@ -6,7 +6,7 @@ use mathlib.Core.Bool.{Bool, true, false, cond, not}
 use mathlib.Core.List.{List, map}
 use lib.Dec.{ltb, eqb}
 use lib.ListN.{length}
-use borrow.Author.Tests.{lt-ltb, le-ltb, ne-eqb, ltb-false}
+use borrow.Author.Tests.{lt-ltb, le-ltb, ne-eqb, ltb-true, ltb-false}
 use Rattle.rules.specs.Lists.{keep}
 use Rattle.rules.specs.Bytes.{u32}
 use Rattle.rules.specs.Answer.{answer, refusal, tooShort, otherMagic, tooManyEntries, tooLong, moreControls, longest}
@@ -15,7 +15,9 @@ use Rattle.rules.specs.TypeInfo.{infosAt, isReportedInfo, typeInfoOf, typeInfoR
 use Rattle.rules.specs.declared.Answer.{Answer}
 use Rattle.rows.specs.Put.{put}
 use Rattle.rows.proofs.PutLaws.{written-put}
-use Rattle.typeinfo.specs.Entries.{headerOf, reportedAt}
+use Rattle.typeinfo.specs.Entries.{headerOf, fitOf, reportedAt}
+use Rattle.typeinfo.specs.declared.Fit.{Fit}
+use Rattle.typeinfo.specs.declared.Fit.the-variants.{Whole, Short}
 use Rattle.typeinfo.specs.declared.Header.{Header}
 use Rattle.typeinfo.specs.declared.Header.the-variants.{Entries, Refused}
 
@@ -43,6 +45,36 @@ told s = go (ltb longest (length s)) refl (ltb (length s) 32) refl (not (eqb (u3
 
 pub accepted : (s : List ℕ) (count : ℕ) → headerOf s ≡ Entries count → Accepted s count
 accepted s count e = rw e at (told s)
+
+-- what the room says of the fit, and the fit of the room
+pub whole : (rowRoom n : ℕ) → n ≤ rowRoom → Whole ≡ fitOf rowRoom n
+unfolding fitOf
+whole rowRoom n h = rw (le-ltb rowRoom n h)
+
+pub short : (rowRoom n found : ℕ) → found ≡ n → rowRoom < found → Short found ≡ fitOf rowRoom n
+unfolding fitOf
+short rowRoom n found e h = rw (sym e, lt-ltb rowRoom found h)
+
+module _ (rowRoom n : ℕ) (r : Fit) (is : r ≡ fitOf rowRoom n) where
+  pub too-few : (found : ℕ) → r ≡ Short found → (rowRoom < n) × (found ≡ n)
+  unfolding fitOf
+  too-few found k = go (ltb rowRoom n) refl (sym is ∙ k)
+    where
+      go : (b : Bool) → ltb rowRoom n ≡ b → cond b (Short n) Whole ≡ Short found → (rowRoom < n) × (found ≡ n)
+      go true e h = (ltb-true rowRoom n e, cc)
+      go false e h =
+          let z : _≡_ {A = ℕ} 0 1 = cc in
+          absurd (omega arith)
+
+  pub enough : r ≡ Whole → n ≤ rowRoom
+  unfolding fitOf
+  enough k = go (ltb rowRoom n) refl (sym is ∙ k)
+    where
+      go : (b : Bool) → ltb rowRoom n ≡ b → cond b (Short n) Whole ≡ Whole → n ≤ rowRoom
+      go true e h =
+          let z : _≡_ {A = ℕ} 0 1 = cc in
+          absurd (omega arith)
+      go false e h = ltb-false rowRoom n e
 
 -- the answer after each header
 abbrev answerFor : Header → Answer → Answer

@@ -12,6 +12,8 @@ use Rattle.rules.specs.TypeInfo as info
 use Rattle.rules.specs.TypeInfo.{Info, infosAt, isReportedInfo}
 use Rattle.typeinfo.specs.declared.Named.{Named}
 use Rattle.typeinfo.specs.declared.Entry.{Entry}
+use Rattle.typeinfo.specs.declared.Fit.{Fit}
+use Rattle.typeinfo.specs.declared.Fit.the-variants.{Whole, Short}
 use Rattle.typeinfo.specs.declared.Header.{Header}
 use Rattle.typeinfo.specs.declared.Header.the-variants.{Entries, Refused}
 
@@ -33,6 +35,10 @@ headerOf s =
     (cond (not (eqb (u32 s 0) 0xACCDEAF7)) (Refused otherMagic)
     (cond (ltb ((length s - 32) / 8) (u32 s 12)) (Refused tooManyEntries)
     (Entries (u32 s 12)))))
+
+-- whether so many rows fit the room
+unfoldable pub fitOf : ℕ → ℕ → Fit
+fitOf rowRoom n = cond (ltb rowRoom n) (Short n) Whole
 
 -- the reported ones of at most n entries from p on
 unfoldable pub reportedAt : List ℕ → ℕ → ℕ → List Info

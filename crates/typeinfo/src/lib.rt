@@ -8,7 +8,7 @@ ghost use lib.ListN.{length, drop};
 ghost use Rattle.rules.specs.Rows.{typeInfoWidth};
 ghost use Rattle.rules.specs.TypeInfo.{beforeNul, nulTerminated, infoAt, nextInfo, typeInfoRow, typeInfoExit};
 ghost use Rattle.rows.specs.Put.{put};
-ghost use Rattle.typeinfo.specs.Entries.{asNamed, asEntry, pastTail, headerOf, reportedAt, oneIf, putIf, RowRoom, Room};
+ghost use Rattle.typeinfo.specs.Entries.{asNamed, asEntry, pastTail, headerOf, fitOf, reportedAt, oneIf, putIf, RowRoom, Room};
 
 // Where a name stands, and the place behind its NUL.
 pub struct Named {
@@ -30,6 +30,12 @@ pub struct Entry {
 pub enum Header {
     Entries(u32),
     Refused(u32),
+}
+
+// Whether the rows lent hold all that is reported, or how many it is.
+pub enum Fit {
+    Whole,
+    Short(u32),
 }
 
 // The first place from `start` on that holds a NUL, or the end.
@@ -162,6 +168,21 @@ fn count_entries(s: &[u8], count: u32) -> u32
     found
 }
 
+// Entries are counted only where the header's count of them, which is never passed, is above the room.
+fn room_for(s: &[u8], count: u32, room: usize) -> Fit
+    requires { ⌜ 32 ≤ length (now s) ⌝ }
+    ensures { λ r. ⌜ r ≡ fitOf room (length (reportedAt (now (s .entry)) 32 count)) ⌝ }
+{
+    if count as usize <= room {
+        return Fit::Whole;
+    }
+    let found = count_entries(s, count);
+    if room < found as usize {
+        return Fit::Short(found);
+    }
+    Fit::Whole
+}
+
 // Writes the entry as row `at` where it is reported, and says which row is next.
 fn put_reported(rows: &mut [u32], at: usize, e: Entry) -> usize
     requires { ⌜ RowRoom (now rows) at e ⌝ }
@@ -184,9 +205,10 @@ fn put_reported(rows: &mut [u32], at: usize, e: Entry) -> usize
     at + 1
 }
 
-// Writes a row for each reported entry of at most `count`.
-fn write_entries(s: &[u8], count: u32, rows: &mut [u32])
+// Writes a row for each reported entry of at most `count`, and says how many these are.
+fn write_entries(s: &[u8], count: u32, rows: &mut [u32]) -> usize
     requires { ⌜ Room (now s) count (now rows) ⌝ }
+    ensures { λ r. ⌜ r ≡ length (reportedAt (now (s .entry)) 32 count) ⌝ }
     ensures { λ _. ⌜ now (rows .exit) ≡ put typeInfoWidth (now (rows .entry)) 0 (map typeInfoRow (reportedAt (now (s .entry)) 32 count)) ⌝ }
 {
     let mut p = 32;
@@ -194,13 +216,14 @@ fn write_entries(s: &[u8], count: u32, rows: &mut [u32])
     let mut at = 0;
     while 0 < left {
         if s.len() - p < 8 {
-            return;
+            return at;
         }
         let e = type_info_entry(s, p);
         at = put_reported(rows, at, e);
         p = e.next;
         left -= 1;
     }
+    at
 }
 
 // Reads TypeInfo into rows of type code, index, name start and name length.
@@ -217,21 +240,23 @@ pub fn read_type_info(stream: &[u8], rows: &mut [u32]) -> Answer
             third: 0,
         },
         Header::Entries(count) => {
-            let found = count_entries(stream, count);
-            if rows.len() / 4 < found as usize {
-                return Answer {
+            let room = rows.len() / 4;
+            match room_for(stream, count, room) {
+                Fit::Short(found) => Answer {
                     number: 6,
                     first: found,
                     second: 0,
                     third: 0,
-                };
-            }
-            write_entries(stream, count, rows);
-            Answer {
-                number: 0,
-                first: found,
-                second: 0,
-                third: 0,
+                },
+                Fit::Whole => {
+                    let found = write_entries(stream, count, rows);
+                    Answer {
+                        number: 0,
+                        first: found as u32,
+                        second: 0,
+                        third: 0,
+                    }
+                }
             }
         }
     }

@@ -1,10 +1,13 @@
 -- `read_type_info` meets `typeInfoExit`: a refusal leaves the rows, and with number 0 all reported entries are written.
+use Prim.Native.Nat.{_/_, _≤_}
 use native.Mathlib.Omega.{arith}
 use mathlib.Core.Path.{_≡_, sym, _∙_}
+use lib.ListN.{length}
 use borrow.Author.Needs.{needs}
-use Rattle.typeinfo.specs.Entries.{headerOf}
+use Rattle.typeinfo.specs.Entries.{headerOf, reportedAt}
 use Rattle.typeinfo.specs.declared.Header.the-variants.{Entries}
-use Rattle.typeinfo.proofs.ExitLaws.{accepted, refused, no-room, all-written}
+use Rattle.typeinfo.proofs.EntryLaws.{at-most}
+use Rattle.typeinfo.proofs.ExitLaws.{accepted, refused, too-few, enough, no-room, all-written}
 use Rattle.typeinfo.proofs.read_type_info.Statement.{statement}
 use Rattle.typeinfo.proofs.read_type_info.Tie as tie
 
@@ -12,32 +15,44 @@ use Rattle.typeinfo.proofs.read_type_info.Tie as tie
 accepts : (c : tie.After-header2) → headerOf (c .before .before .before .before .before .args .stream .now) ≡ Entries (c .header2 .given .0 .0)
 accepts c = sym (c .before .before .type-info-count .ensures) ∙ c .header2 .given .1
 
-count-entries-requires : tie.Need-count-entries-requires
-count-entries-requires c κs = accepted _ _ (accepts (c .before)) .header
+-- the rows lent hold what is reported
+fits : (c : tie.After-enum-told) → length (reportedAt (c .before .before .before .before .before .before .before .before .before .args .stream .now) 32 (c .before .before .before .before .header2 .given .0 .0)) ≤ length (c .before .before .before .before .before .before .before .before .before .args .rows .now) / 4
+fits c = enough _ _ _ (c .before .before .room-for .ensures) (c .enum-told .given .1)
 
-returns : tie.Need-returns
-returns c = no-room _ _ _ (accepts (c .before .before .before)) _ (c .before .count-entries .ensures) (omega arith)
+room-for-requires : tie.Need-room-for-requires
+room-for-requires c κs = accepted _ _ (accepts (c .before)) .header
 
 write-entries-requires : tie.Need-write-entries-requires
 write-entries-requires c κs =
-    let told = accepted _ _ (accepts (c .before .before .before .before)) in
-    record { header = told .header; not-long = told .not-long; all-rows = omega arith }
+    let told = accepted _ _ (accepts (c .before .before .before .before .before)) in
+    record { header = told .header; not-long = told .not-long; all-rows = omega (arith, fits (c .before)) }
+
+cast-t15 : tie.Need-cast-t15
+cast-t15 c = omega (arith, c .before .before .write-entries .ensures .0, at-most (c .before .before .before .before .before .before .before .before .before .before .before .before .before .args .stream .now) 32 (c .before .before .before .before .before .before .before .before .header2 .given .0 .0))
+
+returns : tie.Need-returns
+returns c = refused _ _ _ (sym (c .before .before .before .type-info-count .ensures) ∙ c .before .header .given .1)
 
 returns-2 : tie.Need-returns-2
-returns-2 c = refused _ _ _ (sym (c .before .before .before .type-info-count .ensures) ∙ c .before .header .given .1)
+returns-2 c =
+    let few = too-few _ _ _ (c .before .before .before .room-for .ensures) _ (c .before .found .given .1) in
+    no-room _ _ _ (accepts (c .before .before .before .before .before)) _ (few .1) (omega (arith, few))
 
 returns-3 : tie.Need-returns-3
-returns-3 c = all-written _ _ _ (accepts (c .before .before .before .before .before .before .before)) _ (c .before .before .before .before .before .count-entries .ensures) (omega arith) _ (c .before .before .write-entries .ensures)
+returns-3 c =
+    let wrote = c .before .before .write-entries .ensures in
+    all-written _ _ _ (accepts (c .before .before .before .before .before .before .before .before)) _ (wrote .0) (omega (arith, wrote .0, fits (c .before .before .before .before))) _ (wrote .1)
 
 pub read-type-info-spec : {M : Type 1} → statement M
 read-type-info-spec =
     tie.close
     (tie.spec
     (λ c κs. search needs) (λ c. search needs) (λ c. search needs)
-    count-entries-requires
-    (λ c. search needs)
-    returns
+    room-for-requires
+    (λ c. search needs) (λ c. search needs)
     write-entries-requires
+    cast-t15
+    returns
     returns-2
     (λ c. search needs)
     returns-3)

@@ -8,13 +8,13 @@ use Rattle.rules.specs.Rows.{typeInfoWidth}
 use Rattle.rules.specs.TypeInfo.{typeInfoRow}
 use Rattle.rows.specs.Put.{put}
 use Rattle.typeinfo.specs.Entries.{reportedAt}
-use Rattle.typeinfo.proofs.EntryLaws.{none-left, none-asked, put-end, inside, counted-more, put-more, row-room}
+use Rattle.typeinfo.proofs.EntryLaws.{none-left, none-asked, at-end, inside, counted-more, put-more, row-room}
 use Rattle.typeinfo.proofs.write_entries.Statement.{statement}
 use Rattle.typeinfo.proofs.write_entries.Tie as tie
 
 abbrev Inv-loop : tie.InvT-loop
 Inv-loop s count rows₀ p₀ left₀ at₀ rows p left at =
-    (p ≤ length s) × (length rows ≡ length rows₀) × ((at + length (reportedAt s p left)) * typeInfoWidth ≤ length rows)
+    (p ≤ length s) × (length rows ≡ length rows₀) × (at + length (reportedAt s p left) ≡ length (reportedAt s 32 count))
     × (put typeInfoWidth rows at (map typeInfoRow (reportedAt s p left)) ≡ put typeInfoWidth rows₀ 0 (map typeInfoRow (reportedAt s 32 count)))
 
 abbrev μ-loop : tie.MeasureT-loop
@@ -30,14 +30,14 @@ returns : tie.Need-returns Inv-loop μ-loop
 returns c =
     let top = c .before .before in
     let s = top .before .before .before .args .s .now in
-    put-end s _ _ _ _ (none-left s (top .loop .p) (top .loop .left) (omega arith)) ∙ top .loop .inv .3
+    at-end s (top .loop .p) (top .loop .left) _ _ _ _ (none-left s (top .loop .p) (top .loop .left) (omega arith)) (top .loop .inv .2) (top .loop .inv .3)
 
 put-reported-requires : tie.Need-put-reported-requires Inv-loop μ-loop
 put-reported-requires c κs =
     let top = c .before .before .before .before in
     let start = top .before .before .before in
     let read = c .before .type-info-entry in
-    row-room (start .args .s .now) (top .loop .p) (top .loop .left) (read .result) (read .ensures) (omega arith) (omega arith) _ _ (start .pre .not-long) (top .loop .inv .2)
+    row-room (start .args .s .now) (top .loop .p) (top .loop .left) (read .result) (read .ensures) (omega arith) (omega arith) _ _ (start .pre .not-long) (omega (arith, start .pre .all-rows, top .loop .inv .1, top .loop .inv .2))
 
 loop-again : tie.Need-loop-again Inv-loop μ-loop
 loop-again c =
@@ -53,7 +53,7 @@ loop-again c =
     let k : 0 < left = omega arith in (
       inside s p left e is h k,
       call .kept .0 ∙ top .loop .inv .1,
-      omega (arith, call .ensures .0, call .kept .0, counted-more s p left e is h k),
+      omega (arith, call .ensures .0, counted-more s p left e is h k, top .loop .inv .2),
       ap₂ (λ l a. put typeInfoWidth l a (map typeInfoRow (reportedAt s (e .next) (left - 1)))) (call .ensures .1) (call .ensures .0)
           ∙ sym (put-more s p left e is h k (top .loop .rows) (top .loop .at)) ∙ top .loop .inv .3,
     )
@@ -65,7 +65,7 @@ returns-2 : tie.Need-returns-2 Inv-loop μ-loop
 returns-2 c =
     let top = c .before in
     let s = top .before .before .before .args .s .now in
-    put-end s _ _ _ _ (none-asked s (top .loop .p) (top .loop .left) (omega arith)) ∙ top .loop .inv .3
+    at-end s (top .loop .p) (top .loop .left) _ _ _ _ (none-asked s (top .loop .p) (top .loop .left) (omega arith)) (top .loop .inv .2) (top .loop .inv .3)
 
 pub write-entries-spec : {M : Type 1} → statement M
 write-entries-spec =
