@@ -2,9 +2,8 @@
 use Prim.Native.Nat.{ℕ, suc, _+_, _*_}
 use native.Mathlib.Omega.{arith}
 use native.Mathlib.Nat.{zero-mul, add-mul}
-use native.Mathlib.Numerals.{towards-suc}
 use mathlib.Core.Path.{_≡_, refl, sym, ap, _∙_}
-use mathlib.Core.List.{List, [], _∷_, _++_}
+use mathlib.Core.List.{List, [], _∷_, _++_, append-nil}
 use lib.ListN.{length, set}
 use lib.Seq.{sets, length-sets}
 use Rattle.rules.specs.Lists.{concat}
@@ -33,12 +32,25 @@ pub written-put : (w : ℕ) (l : List ℕ) (rows : List (List ℕ)) → put w l 
 unfolding put
 written-put w l rows = rw (zero-mul w)
 
--- a row of six and of four words, store by store
-pub put-six : (l : List ℕ) (k a b c d e f : ℕ)
-    → set (set (set (set (set (set l (k * 6) a) (k * 6 + 1) b) (k * 6 + 2) c) (k * 6 + 3) d) (k * 6 + 4) e) (k * 6 + 5) f ≡ put 6 l k ((a ∷ b ∷ c ∷ d ∷ e ∷ f ∷ []) ∷ [])
-unfolding put concat
-put-six l k a b c d e f = simp towards-suc
+-- words stored one by one as code has them: at i, i + 1, i + 2, ..
+abbrev storesFrom : ℕ → List ℕ → ℕ → List ℕ → List ℕ
+storesFrom n l i [] = l
+storesFrom n l i (a ∷ ws) = storesFrom (n + 1) (set l (i + n) a) i ws
 
-pub put-four : (l : List ℕ) (k a b c d : ℕ) → set (set (set (set l (k * 4) a) (k * 4 + 1) b) (k * 4 + 2) c) (k * 4 + 3) d ≡ put 4 l k ((a ∷ b ∷ c ∷ d ∷ []) ∷ [])
+abbrev pub stores : List ℕ → ℕ → List ℕ → List ℕ
+stores l i [] = l
+stores l i (a ∷ ws) = storesFrom 1 (set l i a) i ws
+
+stores-from : (n : ℕ) (l : List ℕ) (i : ℕ) (ws : List ℕ) → storesFrom n l i ws ≡ sets l (i + n) ws
+stores-from n l i [] = refl
+stores-from n l i (a ∷ ws) =
+    let e : i + (n + 1) ≡ suc (i + n) = omega arith in
+    stores-from (n + 1) (set l (i + n) a) i ws ∙ rw e
+
+-- a row of any width, store by store
+pub put-stores : (w : ℕ) (l : List ℕ) (k : ℕ) (ws : List ℕ) → stores l (k * w) ws ≡ put w l k (ws ∷ [])
 unfolding put concat
-put-four l k a b c d = simp towards-suc
+put-stores w l k [] = refl
+put-stores w l k (a ∷ ws) =
+    let e : k * w + 1 ≡ suc (k * w) = omega arith in
+    stores-from 1 (set l (k * w) a) (k * w) ws ∙ rw (e, append-nil)
