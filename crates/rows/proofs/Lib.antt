@@ -2,3 +2,7 @@
 pub mod PutLaws
 pub mod WritingLaws
 pub mod CountingLaws
+pub mod LevelLaws
+pub mod TakenLaws
+pub mod ActLaws
+pub mod RemainLaws

@@ -1,8 +1,11 @@
 -- What the counting pass counts, of a tree alone: entries with all below them, and their properties.
 use Prim.Native.Nat.{ℕ, _+_}
+use mathlib.Core.Bool.{cond}
 use mathlib.Core.List.{List, [], _∷_}
+use mathlib.Core.Option.{Option, none, some}
 use lib.ListN.{length}
-use Rattle.rules.specs.Tree.{Entry, plain, parent, Entries, end, more, Node}
+use Rattle.rules.specs.Tree.{Entry, plain, parent, Entries, end, more, Node, isReported, reported}
+use Rattle.rows.specs.declared.Part.{Part}
 
 abbrev mutual
   pub size1 : {P : Type 0} → Entry P → ℕ
@@ -26,3 +29,22 @@ abbrev mutual
 unfoldable pub propsIn : {P : Type 0} → List (Node P) → ℕ
 propsIn [] = 0
 propsIn (n ∷ ns) = length (n .props) + propsIn ns
+
+-- ---- what was read, counted, with the place behind it
+abbrev pub part1 : {P : Type 0} → Option (Entry P × ℕ) → Part
+part1 none = Part.Bad
+part1 (some x) = Part.Of (size1 (x .0)) (props1 (x .0)) (x .1)
+
+abbrev pub part : {P : Type 0} → Option (Entries P × ℕ) → Part
+part none = Part.Bad
+part (some x) = Part.Of (size (x .0)) (props (x .0)) (x .1)
+
+-- of the top list, what is reported
+abbrev pub partTop : {P : Type 0} → Option (Entries P × ℕ) → Part
+partTop none = Part.Bad
+partTop (some x) = Part.Of (size (reported (x .0))) (props (reported (x .0))) (x .1)
+
+-- of an entry of the top list, where it is reported
+abbrev pub partKept : {P : Type 0} → Option (Entry P × ℕ) → Part
+partKept none = Part.Bad
+partKept (some x) = cond (isReported (x .0)) (part1 (some x)) (Part.Of 0 0 (x .1))

@@ -1,3 +1,4 @@
 pub mod Put
 pub mod Writing
 pub mod Counting
+pub mod Acts

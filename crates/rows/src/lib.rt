@@ -1,11 +1,14 @@
 // Rows of words put into a lent slice. Every other word keeps its value.
+use rules::Name;
 use rules::Property;
+use text::label_length;
 ghost use mathlib.Core.Path.{_≡_};
-ghost use mathlib.Core.List.{[], _∷_};
+ghost use mathlib.Core.List.{[], _∷_, _++_};
 ghost use Prim.Native.Nat.{_+_, _*_, _≤_};
 ghost use lib.ListN.{length};
 ghost use Rattle.rules.specs.Rows.{controlWidth, propertyWidth, typeInfoWidth};
-ghost use Rattle.rules.specs.Reading.{propertyRow};
+ghost use Rattle.rules.specs.Reading.{nameWords, propertyRow};
+ghost use Rattle.rules.specs.Tree.{isSection};
 ghost use Rattle.rows.specs.Put.{put, controlWords, infoWords};
 
 // The words of a control's row.
@@ -24,6 +27,62 @@ pub struct InfoRow {
     pub index: u32,
     pub start: u32,
     pub size: u32,
+}
+
+// What was counted of a stream's part: controls, their properties, and the place behind it.
+pub enum Part {
+    Bad,
+    Of {
+        controls: usize,
+        props: usize,
+        next: usize,
+    },
+}
+
+// The place behind what was written, and the rows behind it.
+pub struct Next {
+    pub at: usize,
+    pub control: usize,
+    pub property: usize,
+}
+
+// A control's row: it is control `n` of the output, and its `count` property rows begin at row `first`.
+pub fn control_row(type_code: u32, name: Name, n: u32, first: u32, count: u32) -> ControlRow
+    ensures { λ r. ⌜ controlWords r ≡ «type_code» ∷ nameWords n name ++ (first ∷ count ∷ []) ⌝ }
+{
+    match name {
+        Name::Text { start, size } => ControlRow {
+            type_code,
+            mark: 0,
+            start,
+            size,
+            first,
+            count,
+        },
+        Name::Numbered => ControlRow {
+            type_code,
+            mark: 1,
+            start: n,
+            size: label_length(n),
+            first,
+            count,
+        },
+        Name::Loose { start, size } => ControlRow {
+            type_code,
+            mark: 2,
+            start,
+            size,
+            first,
+            count,
+        },
+    }
+}
+
+// A type of sections. At the top, an entry without a list is reported where it has one.
+pub fn is_section(kind: usize) -> bool
+    ensures { λ r. ⌜ r ≡ isSection kind ⌝ }
+{
+    0x98 <= kind && kind <= 0x9E
 }
 
 // Writes row `at` of the control rows.

@@ -1,0 +1,65 @@
+-- What writing the nodes of a tree does, whatever the layout: `f` makes a control of a node.
+use Prim.Native.Nat.{ℕ, _+_, _≤_}
+use mathlib.Core.Bool.{cond}
+use mathlib.Core.List.{List, [], _++_, map}
+use mathlib.Core.Option.{Option, none, some}
+use lib.ListN.{length}
+use Rattle.rules.specs.Lists.{_>>=_}
+use Rattle.rules.specs.Answer.{longest}
+use Rattle.rules.specs.Tree.{Entry, Entries, Node, preorder1, preorder, nodesOf, isReported}
+use Rattle.rules.specs.Reading.{Control}
+use Rattle.rows.specs.Writing.{State, state, theirs, writeControls, Room}
+
+-- ---- nodes in output order, and the place behind them, of what a reader read
+abbrev pub Nodes : Type 0 → Type 0
+Nodes P = Option (List (Node P) × ℕ)
+
+abbrev pub entryNodes : {P : Type 0} → Option (Entry P × ℕ) → Nodes P
+entryNodes none = none
+entryNodes (some x) = some (preorder1 (x .0), x .1)
+
+abbrev pub listNodes : {P : Type 0} → Option (Entries P × ℕ) → Nodes P
+listNodes none = none
+listNodes (some x) = some (preorder (x .0), x .1)
+
+-- of the top list, those that are reported
+abbrev pub topNodes : {P : Type 0} → Option (Entries P × ℕ) → Nodes P
+topNodes none = none
+topNodes (some x) = some (nodesOf (x .0), x .1)
+
+-- an entry of the top list with all below it, where it is reported
+abbrev pub keptNodes : {P : Type 0} → Option (Entry P × ℕ) → Nodes P
+keptNodes none = none
+keptNodes (some x) = some (cond (isReported (x .0)) (preorder1 (x .0)) [], x .1)
+
+-- these, and then those from the place behind them on
+abbrev pub _then_ : {P : Type 0} → Nodes P → (ℕ → Nodes P) → Nodes P
+o then g = o >>= λ x. g (x .1) >>= λ y. some (x .0 ++ y .0, y .1)
+
+infixl 20 _then_
+-- ---- what holds of what was read, where something was
+abbrev pub Held : {A : Type 0} → (A → Type 0) → Option A → Type 0
+Held P none = ⊥
+Held P (some a) = P a
+
+-- there is room for the rows of these controls, and their numbers fit a word
+pub record Fit (cs : List Control) (st : State) : Type 0 where
+  pub room : Room cs st
+  pub few : st .ci + st .pi + (length cs + length (theirs cs)) ≤ longest
+
+-- ---- what is left in the slices, and the place behind what was written
+pub record Stood : Type 0 where
+  pub state : State
+  pub next : ℕ
+
+abbrev pub stood : List ℕ → ℕ → List ℕ → ℕ → ℕ → Stood
+stood cs ci ps pi next = record { state = state cs ci ps pi; next = next }
+
+abbrev pub actBy : {P : Type 0} → (Node P → Control) → Nodes P → State → Option Stood
+actBy f none st = none
+actBy f (some x) st = some (record { state = writeControls (map f (x .0)) st; next = x .1 })
+
+-- what a writer asks: K, what a layout knows beforehand, and that the nodes could be read and fit
+pub record Ready {P : Type 0} (K : Type 0) (f : Node P → Control) (o : Nodes P) (st : State) : Type 0 where
+  pub known : K
+  pub fits : Held (λ x. Fit (map f (x .0)) st) o
