@@ -11,49 +11,51 @@ use borrow.Author.Tests.{lt-ltb, le-ltb}
 use Rattle.rules.specs.Lists.{_>>=_, concat}
 use Rattle.rules.specs.Answer.{answer, longest}
 use Rattle.rules.specs.Rows.{controlWidth, propertyWidth, room, written}
-use Rattle.rules.specs.Tree.{Entries, Node}
+use Rattle.rules.specs.Tree.{Entries, Node, levels}
 use Rattle.rules.specs.Later.{Prop, childrenAt, nodesAt, objectGroup, treeOf, nodesBy, scanFrom, laterOf}
 use Rattle.rules.specs.Reading.{properties, controlRowsFrom, controlRows, propertyRows}
 use Rattle.rules.specs.ReadLater.{propertyOf, controlOf, readLater}
 use Rattle.rules.specs.Blob.{counted}
 use Rattle.rules.specs.declared.Answer.{Answer}
+use Rattle.rows.specs.Counting.{propsIn}
 use Rattle.rows.specs.Writing.{State, state, theirs, writeControls, writeProperties}
+use Rattle.rows.specs.Acts.{topNodes, Held, Fit, Stood}
 use Rattle.rows.proofs.WritingLaws.{properties-length, reading-written}
-use Rattle.later.specs.Flat.{top, Good, nodesIn}
-use Rattle.later.specs.Count.{children, wholeTree, isTree, Counted}
-use Rattle.later.specs.Write.{trailerOr0, GroupReady, GroupDone, write, Ready, NodesReady, NodesDone, scanned, ScanReady, started, BlobReady, BlobDone, Ended}
-use Rattle.later.specs.declared.Children.{Children}
-use Rattle.later.specs.declared.Counts.{Counts}
+use Rattle.rows.proofs.CountingLaws.{theirs-many}
+use Rattle.rows.proofs.ActLaws.{at-place}
+use Rattle.countlater.specs.Count.{children, wholeTree, isTree, Counted}
+use Rattle.countlater.specs.declared.Children.{Children}
+use Rattle.countlater.specs.declared.Counts.{Counts}
+use Rattle.countlater.proofs.CountLaws.{whole, whole-by, entriesIn, tree-open, tree-by, object-within}
+use Rattle.countlater.proofs.NodeLaws.{children-of, children-bad}
+use Rattle.later.specs.Write.{trailerOr0, GroupReady, GroupDone, NodesReady, act, scanned, ScanReady, started, BlobReady, BlobDone, Ended}
 use Rattle.later.specs.declared.Wrote.{Wrote}
-use Rattle.later.proofs.CountLaws.{whole, whole-by, entriesIn, tree-open, tree-by, object-within}
-use Rattle.later.proofs.NodeLaws.{children-of, children-bad}
-use Rattle.later.proofs.RemainLaws.{room-by, their-many}
+use Rattle.later.proofs.WriteNodeLaws.{own-many}
 
 -- ---- the tree, written by its top list
-whole-same : (s : List ℕ) (o : Option (List (Node Prop) × ℕ)) → Good (o >>= whole s) → (o >>= whole s) ≡ o
-whole-same s none h = absurd h
-whole-same s (some y) h = go (eqb (y .1) (length s)) h
+whole-same : (s : List ℕ) (Q : List (Node Prop) × ℕ → Type 0) (o : Option (Entries Prop × ℕ)) → Held Q (topNodes (o >>= whole s)) → (o >>= whole s) ≡ o
+whole-same s Q none h = absurd h
+whole-same s Q (some x) h = go (eqb (x .1) (length s)) h
   where
-    go : (b : Bool) → Good (cond b (some y) none) → cond b (some y) none ≡ some y
+    go : (b : Bool) → Held Q (topNodes (cond b (some (x .0, x .1)) none)) → cond b (some (x .0, x .1)) none ≡ some x
     go true h = refl
     go false h = absurd h
 
-module _ (s : List ℕ) (t p : ℕ) (st : State) (h : NodesReady s (top (wholeTree s t p)) st) (u : Children) (ue : u ≡ children (childrenAt s t p)) where
+module _ (s : List ℕ) (t p : ℕ) (st : State) (h : NodesReady s (topNodes (wholeTree s t p)) st) (u : Children) (ue : u ≡ children (childrenAt s t p)) where
   pub tree-never : u ≡ Children.Bad → ⊥
   unfolding wholeTree
-  tree-never uk = subst (λ o. Good (top (o >>= λ y. nodesAt 256 s (y .0) (y .1) >>= λ x. cond (eqb (x .1) (length s)) (some (x .0, x .1)) none))) (children-bad (childrenAt s t p) u ue uk) (h .good)
+  tree-never uk = rw (children-bad (childrenAt s t p) u ue uk) at (h .fits)
 
-  module _ (n q : ℕ) (uk : u ≡ Children.Of n q) where
-    tree-same : top (wholeTree s t p) ≡ top (nodesAt 256 s n q)
-    tree-same =
-        let e = whole-by s t p n q (children-of (childrenAt s t p) u n q ue uk) in
-        e ∙ whole-same s (top (nodesAt 256 s n q)) (subst Good e (h .good))
+  pub tree-same : (n q : ℕ) → u ≡ Children.Of n q → topNodes (wholeTree s t p) ≡ topNodes (nodesAt levels s n q)
+  tree-same n q uk =
+      let e = whole-by s t p n q (children-of (childrenAt s t p) u n q ue uk) in
+      ap topNodes (e ∙ whole-same s _ (nodesAt levels s n q) (subst (λ o. Held (λ x. Fit (map (controlOf s) (x .0)) st) (topNodes o)) e (h .fits)))
 
-    pub tree-ready : NodesReady s (top (nodesAt 256 s n q)) st
-    tree-ready = subst (λ o. NodesReady s o st) tree-same h
+  pub tree-ready : (n q : ℕ) → u ≡ Children.Of n q → NodesReady s (topNodes (nodesAt levels s n q)) st
+  tree-ready n q uk = rw (tree-same n q uk) at h
 
-    pub tree-done : (new : State) (e : ℕ) → NodesDone s (top (nodesAt 256 s n q)) st new e → NodesDone s (top (wholeTree s t p)) st new e
-    tree-done new e d = subst (λ o. NodesDone s o st new e) (sym tree-same) d
+  pub tree-done : (n q : ℕ) → u ≡ Children.Of n q → (r : Stood) → some r ≡ act s (topNodes (nodesAt levels s n q)) st → some r ≡ act s (topNodes (wholeTree s t p)) st
+  tree-done n q uk r d = d ∙ ap (λ o. act s o st) (sym (tree-same n q uk))
 
 -- ---- the stream
 later-is : (s : List ℕ) → 14 ≤ length s → readLater s ≡ record { own = map (propertyOf s) (objectGroup s .props); controls = map (controlOf s) (nodesBy s (treeOf s)) }
@@ -61,45 +63,50 @@ unfolding readLater laterOf
 later-is s h = rw (le-ltb (length s) 14 h)
 
 module _ (s : List ℕ) (h : 14 ≤ length s) where
-  blob-by : (cs ps cs′ ps′ : List ℕ) (ci pi : ℕ) → state cs′ ci ps′ pi ≡ write s (nodesBy s (treeOf s)) (started s cs ps) → BlobDone s cs ps cs′ ps′
-  unfolding write
-  blob-by cs ps cs′ ps′ ci pi e =
+  -- the nodes' rows are written behind the object's
+  blob-by : (cs ps cs′ ps′ : List ℕ) (ci pi e f : ℕ) → some (at-place (state cs′ ci ps′ pi) e) ≡ act s (some (nodesBy s (treeOf s), f)) (started s cs ps) → BlobDone s cs ps cs′ ps′
+  blob-by cs ps cs′ ps′ ci pi e f d =
       let r = later-is s h in
+      let z : at-place (state cs′ ci ps′ pi) e ≡ at-place (writeControls (map (controlOf s) (nodesBy s (treeOf s))) (started s cs ps)) f = cc in
       let l : length (objectGroup s .props) ≡ length (map (propertyOf s) (objectGroup s .props)) = sym (simp length-map) in
-      let w = e ∙ ap (λ n. writeControls (map (controlOf s) (nodesBy s (treeOf s))) (state cs 0 (writeProperties (map (propertyOf s) (objectGroup s .props)) ps 0) n)) l
+      let w = ap (λ o. o .state) z ∙ ap (λ n. writeControls (map (controlOf s) (nodesBy s (treeOf s))) (state cs 0 (writeProperties (map (propertyOf s) (objectGroup s .props)) ps 0) n)) l
       ∙ reading-written (record { own = map (propertyOf s) (objectGroup s .props); controls = map (controlOf s) (nodesBy s (treeOf s)) }) cs ps in
       record { controls = ap (λ st. st .cs) w ∙ sym (ap (λ r. written (controlRows r) cs) r); properties = ap (λ st. st .ps) w ∙ sym (ap (λ r. written (propertyRows r) ps) r) }
 
 module _ (s : List ℕ) (tree : Bool) (cs ps : List ℕ) (h : BlobReady s tree cs ps) where
   pub own-ready : GroupReady s (length s) 14 (length ps) 0
-  own-ready = record { inside = omega arith; small = h .ready .small; fits = omega (arith, h .own) }
+  own-ready = record { inside = omega arith; small = h .small; fits = omega (arith, h .own) }
 
   module _ (w : Wrote) (ps′ : List ℕ) (d : GroupDone s (length s) 14 ps 0 ps′ w) where
     started-is : started s cs ps ≡ state cs 0 ps′ (w .count)
     started-is = let a = sym (d .rows) in let b = sym (d .count) in λ i. state cs 0 (a i) (b i)
 
-    tree-is : tree ≡ true → (e : ℕ) × (top (wholeTree s (w .trailer) (w .stop)) ≡ some (nodesBy s (treeOf s), e))
+    all-fit : Fit (map (controlOf s) (nodesBy s (treeOf s))) (state cs 0 ps′ (w .count))
+    all-fit = subst (Fit (map (controlOf s) (nodesBy s (treeOf s)))) started-is (h .fits)
+
+    done-by : (cs′ ps″ : List ℕ) (ci pi e f : ℕ) → some (at-place (state cs′ ci ps″ pi) e) ≡ act s (some (nodesBy s (treeOf s), f)) (state cs 0 ps′ (w .count)) → BlobDone s cs ps cs′ ps″
+    done-by cs′ ps″ ci pi e f n = blob-by s (h .long) cs ps cs′ ps″ ci pi e f (n ∙ ap (act s (some (nodesBy s (treeOf s), f))) (sym started-is))
+
+    tree-is : tree ≡ true → (e : ℕ) × (topNodes (wholeTree s (w .trailer) (w .stop)) ≡ some (nodesBy s (treeOf s), e))
     tree-is b = go (objectGroup s .trailer) refl
       where
-        last : (t : ℕ) (o : Option (Entries Prop × ℕ)) → wholeTree s t (objectGroup s .stop) ≡ o → treeOf s ≡ entriesIn o → (e : ℕ) × (top (wholeTree s t (objectGroup s .stop)) ≡ some (nodesBy s (treeOf s), e))
+        last : (t : ℕ) (o : Option (Entries Prop × ℕ)) → wholeTree s t (objectGroup s .stop) ≡ o → treeOf s ≡ entriesIn o → (e : ℕ) × (topNodes (wholeTree s t (objectGroup s .stop)) ≡ some (nodesBy s (treeOf s), e))
         last t none f g = absurd (let k : false ≡ true = sym (ap isTree g) ∙ sym (h .is) ∙ b in let z : _≡_ {A = ℕ} 0 1 = cc in omega arith)
-        last t (some x) f g = (x .1, ap top f ∙ sym (ap (λ o. some (nodesBy s o, x .1)) g))
+        last t (some x) f g = (x .1, ap topNodes f ∙ sym (ap (λ o. some (nodesBy s o, x .1)) g))
 
-        go : (o : Option ℕ) → objectGroup s .trailer ≡ o → (e : ℕ) × (top (wholeTree s (w .trailer) (w .stop)) ≡ some (nodesBy s (treeOf s), e))
+        go : (o : Option ℕ) → objectGroup s .trailer ≡ o → (e : ℕ) × (topNodes (wholeTree s (w .trailer) (w .stop)) ≡ some (nodesBy s (treeOf s), e))
         go none e = absurd (let k : false ≡ true = sym (ap isTree (tree-open s e)) ∙ sym (h .is) ∙ b in let z : _≡_ {A = ℕ} 0 1 = cc in omega arith)
         go (some t) e =
             let x = last t (wholeTree s t (objectGroup s .stop)) refl (tree-by s t e) in
-            (x .0, ap₂ (λ a b. top (wholeTree s a b)) (d .trailer ∙ ap trailerOr0 e) (d .stop) ∙ x .1)
+            (x .0, ap₂ (λ a b. topNodes (wholeTree s a b)) (d .trailer ∙ ap trailerOr0 e) (d .stop) ∙ x .1)
 
-    pub blob-tree-ready : tree ≡ true → NodesReady s (top (wholeTree s (w .trailer) (w .stop))) (state cs 0 ps′ (w .count))
-    blob-tree-ready b =
-        let x = tree-is b in
-        rw (x .1) (record { good = tt; ready = subst (λ st. Ready s (nodesBy s (treeOf s)) st) started-is (h .ready) })
+    pub blob-tree-ready : tree ≡ true → NodesReady s (topNodes (wholeTree s (w .trailer) (w .stop))) (state cs 0 ps′ (w .count))
+    blob-tree-ready b = rw (tree-is b .1) (record { known = h .small; fits = all-fit })
 
-    pub blob-tree-done : tree ≡ true → (cs′ ps″ : List ℕ) (ci pi e : ℕ) → NodesDone s (top (wholeTree s (w .trailer) (w .stop))) (state cs 0 ps′ (w .count)) (state cs′ ci ps″ pi) e → BlobDone s cs ps cs′ ps″
+    pub blob-tree-done : tree ≡ true → (cs′ ps″ : List ℕ) (ci pi e : ℕ) → some (at-place (state cs′ ci ps″ pi) e) ≡ act s (topNodes (wholeTree s (w .trailer) (w .stop))) (state cs 0 ps′ (w .count)) → BlobDone s cs ps cs′ ps″
     blob-tree-done b cs′ ps″ ci pi e n =
         let x = tree-is b in
-        blob-by s (h .long) cs ps cs′ ps″ ci pi (n .is ∙ ap₂ (λ ns st. write s ns st) (ap nodesIn (x .1)) (sym started-is))
+        done-by cs′ ps″ ci pi e (x .0) (n ∙ ap (λ o. act s o (state cs 0 ps′ (w .count))) (x .1))
 
     scan-is : tree ≡ false → nodesBy s (treeOf s) ≡ scanFrom s (w .stop)
     scan-is b = go (treeOf s) refl
@@ -111,11 +118,11 @@ module _ (s : List ℕ) (tree : Bool) (cs ps : List ℕ) (h : BlobReady s tree c
     pub blob-scan-ready : tree ≡ false → ScanReady s (w .stop) (state cs 0 ps′ (w .count))
     blob-scan-ready b = record {
       within = omega (arith, d .stop, object-within s (h .long));
-      ready = record { good = tt; ready = subst (λ ns. Ready s ns (state cs 0 ps′ (w .count))) (scan-is b) (subst (λ st. Ready s (nodesBy s (treeOf s)) st) started-is (h .ready)) };
+      ready = record { known = h .small; fits = rw (sym (scan-is b)) all-fit };
     }
 
-    pub blob-scan-done : tree ≡ false → (cs′ ps″ : List ℕ) (ci pi e : ℕ) → NodesDone s (scanned s (w .stop)) (state cs 0 ps′ (w .count)) (state cs′ ci ps″ pi) e → BlobDone s cs ps cs′ ps″
-    blob-scan-done b cs′ ps″ ci pi e n = blob-by s (h .long) cs ps cs′ ps″ ci pi (n .is ∙ ap₂ (λ ns st. write s ns st) (sym (scan-is b)) (sym started-is))
+    pub blob-scan-done : tree ≡ false → (cs′ ps″ : List ℕ) (ci pi e : ℕ) → some (at-place (state cs′ ci ps″ pi) e) ≡ act s (scanned s (w .stop)) (state cs 0 ps′ (w .count)) → BlobDone s cs ps cs′ ps″
+    blob-scan-done b cs′ ps″ ci pi e n = done-by cs′ ps″ ci pi e (length s) (n ∙ ap (λ ns. act s (some (ns, length s)) (state cs 0 ps′ (w .count))) (sym (scan-is b)))
 
 -- ---- what a caller sees
 pub ended-short : (s cs ps : List ℕ) → length s < 14 → Ended s cs ps (answer 0 0 0 0) cs ps
@@ -143,7 +150,7 @@ module _ (s : List ℕ) (h : 14 ≤ length s) (n : Counts) (c : Counted s n) whe
       let l : length (map (propertyOf s) (objectGroup s .props)) ≡ length (objectGroup s .props) = simp length-map in
       ap (λ r. length (properties r)) (later-is s h)
       ∙ length-append (map (propertyOf s) (objectGroup s .props)) (theirs (map (controlOf s) (nodesBy s (treeOf s))))
-      ∙ ap₂ (λ a b. a + b) (l ∙ sym (c .own)) (their-many s (nodesBy s (treeOf s)) ∙ sym (c .props))
+      ∙ ap₂ (λ a b. a + b) (l ∙ sym (c .own)) (theirs-many (controlOf s) (own-many s) (nodesBy s (treeOf s)) ∙ sym (c .props))
 
   counted-is : (k : ℕ) → answer k (n .controls) (n .own + n .props) (n .own) ≡ counted k (readLater s)
   counted-is k =
@@ -171,17 +178,19 @@ module _ (s : List ℕ) (h : 14 ≤ length s) (n : Counts) (c : Counted s n) whe
 
       module _ (k : n .own + n .props ≤ room propertyWidth ps) where
         pub blob-ready : length s ≤ longest → BlobReady s (n .tree) cs ps
-        blob-ready small = record {
-          long = h;
-          is = c .tree;
-          own = omega (arith, c .own);
-          ready = record {
-            small = small;
-            room = room-by s (nodesBy s (treeOf s)) (started s cs ps) (omega (arith, c .controls)) (omega (arith, c .own, c .props, properties-length (map (propertyOf s) (objectGroup s .props)) ps 0));
-            controls = omega (arith, c .controls, c .few);
-            props = omega (arith, c .own, c .props, c .few);
-          };
-        }
+        blob-ready small =
+            let m : length (map (controlOf s) (nodesBy s (treeOf s))) ≡ n .controls = simp length-map (sym (c .controls)) in
+            let q : length (theirs (map (controlOf s) (nodesBy s (treeOf s)))) ≡ n .props = theirs-many (controlOf s) (own-many s) (nodesBy s (treeOf s)) ∙ sym (c .props) in
+            record {
+              long = h;
+              is = c .tree;
+              own = omega (arith, c .own);
+              small = small;
+              fits = record {
+                room = record { controls = omega (arith, m); properties = omega (arith, c .own, q, properties-length (map (propertyOf s) (objectGroup s .props)) ps 0) };
+                few = omega (arith, c .own, c .few, m, q);
+              };
+            }
 
         pub ended-read : (cs′ ps′ : List ℕ) → BlobDone s cs ps cs′ ps′ → (r : Answer) → r ≡ answer 0 (n .controls) (n .own + n .props) (n .own) → Ended s cs ps r cs′ ps′
         ended-read cs′ ps′ d r e =

@@ -3,7 +3,7 @@ use Prim.Native.Nat.{ℕ, _+_, _-_, _*_, _≤_}
 use native.Mathlib.Omega.{arith}
 use mathlib.Core.Path.{_≡_, refl, sym, ap, ap₂, _∙_}
 use mathlib.Core.Bool.{Bool, true, false, cond}
-use mathlib.Core.List.{List, [], _∷_, _++_, map}
+use mathlib.Core.List.{List, [], _∷_, map}
 use mathlib.Core.Option.{some}
 use lib.Dec.{eqb}
 use lib.ListN.{length, take, drop}
@@ -12,24 +12,23 @@ use Rattle.rules.specs.Lists.{find}
 use Rattle.rules.specs.Bytes.{u16, u32, part}
 use Rattle.rules.specs.Rows.{propertyWidth}
 use Rattle.rules.specs.Value.{entryValue}
-use Rattle.rules.specs.Reading.{nameWords, propertyRow}
-use Rattle.rules.specs.Texts.{label}
+use Rattle.rules.specs.Reading.{propertyRow}
 use Rattle.rules.specs.Later.{Prop, lengthAt, endAt, propertyAt, endsGroup, groupAt}
 use Rattle.rules.specs.ReadLater.{propertyOf, nameBy, nameOr}
 use Rattle.rules.specs.declared.Value.{Value}
 use Rattle.rules.specs.declared.Property.{Property}
 use Rattle.rules.specs.declared.Name.{Name}
-use Rattle.rules.specs.declared.Name.the-variants.{Text, Numbered, Loose}
+use Rattle.rules.specs.declared.Name.the-variants.{Numbered}
 use Rattle.rows.specs.Put.{put}
 use Rattle.rows.specs.Writing.{writeProperties}
 use Rattle.rows.proofs.PutLaws.{put-length}
 use Rattle.rows.proofs.WritingLaws.{properties-more, properties-none}
-use Rattle.later.specs.Count.{item}
+use Rattle.countlater.specs.Count.{item}
 use Rattle.later.specs.Write.{orName, firstName, nameIn, trailerOr0, propsAt, GroupReady, GroupDone, PropertyInside}
-use Rattle.later.specs.declared.Item.{Item}
+use Rattle.countlater.specs.declared.Item.{Item}
 use Rattle.later.specs.declared.Named.{Named}
-use Rattle.later.proofs.GroupLaws.{group-none, group-last, group-more}
-use Rattle.later.proofs.PassedLaws.{Inside, item-inside, item-outside, props-some}
+use Rattle.countlater.proofs.GroupLaws.{group-none, group-last, group-more}
+use Rattle.countlater.proofs.PassedLaws.{Inside, item-inside, item-outside, props-some}
 
 -- ---- a property
 pub property-is : (s : List ℕ) (at size type id : ℕ) (v : Value) → size ≡ lengthAt s at → type ≡ u32 s (at + 2) → id ≡ u16 s at
@@ -62,16 +61,6 @@ first-new known q m e t em = sym (ap (λ k. firstName k q) e ∙ rw (eq-eqb (q .
 
 pub first-other : (known : Named) (q : Property) → known ≡ Named.Not → (q .id ≡ 0x0014 → ⊥) → Named.Not ≡ firstName known q
 first-other known q e t = sym (ap (λ k. firstName k q) e ∙ rw (ne-eqb (q .id) 0x0014 t))
-
--- ---- a control's row, by its name
-pub row-text : (kind number first count start size : ℕ) (m : Name) → m ≡ Text start size → kind ∷ 0 ∷ start ∷ size ∷ first ∷ count ∷ [] ≡ kind ∷ nameWords number m ++ (first ∷ count ∷ [])
-row-text kind number first count start size m e = sym (ap (λ m. kind ∷ nameWords number m ++ (first ∷ count ∷ [])) e)
-
-pub row-numbered : (kind number first count size : ℕ) (m : Name) → m ≡ Numbered → size ≡ length (label number) → kind ∷ 1 ∷ number ∷ size ∷ first ∷ count ∷ [] ≡ kind ∷ nameWords number m ++ (first ∷ count ∷ [])
-row-numbered kind number first count size m e z = ap (λ z. kind ∷ 1 ∷ number ∷ z ∷ first ∷ count ∷ []) z ∙ sym (ap (λ m. kind ∷ nameWords number m ++ (first ∷ count ∷ [])) e)
-
-pub row-loose : (kind number first count start size : ℕ) (m : Name) → m ≡ Loose start size → kind ∷ 2 ∷ start ∷ size ∷ first ∷ count ∷ [] ≡ kind ∷ nameWords number m ++ (first ∷ count ∷ [])
-row-loose kind number first count start size m e = sym (ap (λ m. kind ∷ nameWords number m ++ (first ∷ count ∷ [])) e)
 
 -- ---- the loop
 pub record Writing (s : List ℕ) (limit at : ℕ) (old : List ℕ) (first : ℕ) (new : List ℕ) (p n : ℕ) (known : Named) : Type 0 where

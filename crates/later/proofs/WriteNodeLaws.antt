@@ -1,190 +1,144 @@
 -- The writing pass over nodes, from what the code answers.
-use Prim.Native.Nat.{ℕ, _+_, _-_, _≤_, _<_}
+use Prim.Native.Nat.{ℕ, _+_, _*_, _≤_, _<_}
 use native.Mathlib.Omega.{arith}
-use mathlib.Core.Path.{_≡_, refl, sym, ap, ap₂, _∙_, subst}
+use mathlib.Core.Path.{_≡_, refl, sym, ap, ap₂, _∙_}
 use mathlib.Core.Bool.{Bool, true, false}
-use mathlib.Core.List.{List, _++_}
+use mathlib.Core.List.{List, [], _∷_, _++_, map}
 use mathlib.Core.Option.{Option, none, some}
 use lib.Dec.{ltb}
-use lib.ListN.{length}
+use lib.ListN.{length, length-map}
 use borrow.Author.Tests.{ltb-true, ltb-false}
 use Rattle.rules.specs.Bytes.{u16}
 use Rattle.rules.specs.Answer.{longest}
-use Rattle.rules.specs.Tree.{node}
-use Rattle.rules.specs.Later.{groupAt, childrenAt, nodesAt, matchAt, scanFrom}
-use Rattle.rows.specs.Counting.{propsIn}
-use Rattle.rows.specs.Writing.{State, state}
-use Rattle.later.specs.Flat.{flat1, flat, top, join, Good}
-use Rattle.later.specs.Count.{item, group, groupBy, children, oneNode, section, NextMatch}
-use Rattle.later.specs.Write.{trailerOr0, NodesReady, NodesDone, groupNode, ControlReady, ControlDone, scanned, ScanReady}
-use Rattle.later.specs.declared.Item.{Item}
-use Rattle.later.specs.declared.Group.{Group}
-use Rattle.later.specs.declared.Children.{Children}
-use Rattle.later.specs.declared.Section.{Section}
+use Rattle.rules.specs.Rows.{controlWidth, propertyWidth}
+use Rattle.rules.specs.Reading.{nameWords, controlRow}
+use Rattle.rules.specs.Tree.{Node, node}
+use Rattle.rules.specs.Later.{Prop, groupAt, childrenAt, nodesAt, matchAt, scanFrom}
+use Rattle.rules.specs.ReadLater.{propertyOf, nameOf, controlOf}
+use Rattle.rows.specs.Put.{put, controlWords}
+use Rattle.rows.specs.Writing.{State, state, theirs, writeControls}
+use Rattle.rows.specs.Acts.{entryNodes, listNodes, _then_}
+use Rattle.rows.specs.declared.ControlRow.{ControlRow}
+use Rattle.rows.proofs.WritingLaws.{theirs-one, write-one}
+use Rattle.rows.proofs.ActLaws.{at-place, held-none, held-some}
+use Rattle.rows.proofs.RemainLaws.{Remain, remain-start, remain-as, ready-first, remain-step, remain-done}
+use Rattle.countlater.specs.Count.{item, children, groupIn, childrenOf, oneNode, NextMatch}
+use Rattle.countlater.specs.declared.Item.{Item}
+use Rattle.countlater.specs.declared.Children.{Children}
+use Rattle.countlater.proofs.PassedLaws.{item-inside, item-outside, props-some, props-none}
+use Rattle.countlater.proofs.MatchLaws.{scan-same, scan-step, scan-end}
+use Rattle.countlater.proofs.ScanLaws.{shown-some, shown-none}
+use Rattle.countlater.proofs.NodeLaws.{children-of, children-bad, head-past, node-none, headNode, node-nodes}
+use Rattle.later.specs.Write.{nameIn, trailerOr0, propsAt, GroupReady, GroupDone, NodesReady, act, groupControl, ControlReady, ControlDone, scanned, ScanReady}
 use Rattle.later.specs.declared.Wrote.{Wrote}
-use Rattle.later.proofs.PassedLaws.{item-inside, item-outside, props-some, props-none}
-use Rattle.later.proofs.MatchLaws.{scan-same, scan-step, scan-end}
-use Rattle.later.proofs.ScanLaws.{shown-some, shown-none}
-use Rattle.later.proofs.NodeLaws.{groupIn, headed, node-past, node-open, node-bad, node-head, nodes-next, nodes-none, nodes-deep, tops-none, tops-kept, tops-left}
-use Rattle.later.proofs.RemainLaws.{Remain, remain-start, remain-as, remain-done, remain-first, remain-step}
 
--- ---- the parts of a node that can be read
-pub record NodeParts (d : ℕ) (s : List ℕ) (p : ℕ) : Type 0 where
-  pub t : ℕ
-  pub n : ℕ
-  pub q : ℕ
-  pub by : groupIn s p .trailer ≡ some t
-  pub below : childrenAt s t (groupIn s p .stop) ≡ some (n, q)
-  pub is : flat1 (oneNode d s p) ≡ join (headed s p q) (λ e. flat (nodesAt d s n e))
+-- ---- one control with its group
+pub own-many : (s : List ℕ) (n : Node Prop) → length (controlOf s n .properties) ≡ length (n .props)
+unfolding controlOf
+own-many s n = simp length-map
 
-node-parts : (d : ℕ) (s : List ℕ) (p : ℕ) → Good (flat1 (oneNode d s p)) → NodeParts d s p
-node-parts d s p h = go (groupIn s p .trailer) refl
-  where
-    go : (o : Option ℕ) → groupIn s p .trailer ≡ o → NodeParts d s p
-    go none e =
-        absurd (subst (λ o. Good (flat1 o)) (node-open s (nodesAt d s) p (group (groupIn s p)) refl (length (groupIn s p .props)) (groupIn s p .stop) (ap (groupBy (length (groupIn s p .props)) (groupIn s p .stop)) e)) h)
-    go (some t) e = also (childrenAt s t (groupIn s p .stop)) refl
-      where
-        g : group (groupIn s p) ≡ Group.Ended (length (groupIn s p .props)) (groupIn s p .stop) t
-        g = ap (groupBy (length (groupIn s p .props)) (groupIn s p .stop)) e
+module _ (s : List ℕ) (kind limit at : ℕ) (cs : List ℕ) (ci : ℕ) (ps : List ℕ) (pi : ℕ) (h : ControlReady s kind limit at (state cs ci ps pi)) where
+  their-own : length (theirs (groupControl s kind limit at ∷ [])) ≡ length (propsAt s limit at)
+  their-own = ap length (theirs-one (groupControl s kind limit at)) ∙ own-many s (node kind (propsAt s limit at))
 
-        also : (o : Option (ℕ × ℕ)) → childrenAt s t (groupIn s p .stop) ≡ o → NodeParts d s p
-        also none f =
-            absurd
-            (subst (λ o. Good (flat1 o))
-            (node-bad s (nodesAt d s) p (group (groupIn s p)) refl (length (groupIn s p .props)) (groupIn s p .stop) t g (children (childrenAt s t (groupIn s p .stop))) refl (ap children f)) h)
-        also (some y) f = record {
-          t = t;
-          n = y .0;
-          q = y .1;
-          by = e;
-          below = f;
-          is = node-head s (nodesAt d s) p (group (groupIn s p)) refl (length (groupIn s p .props)) (groupIn s p .stop) t g (children (childrenAt s t (groupIn s p .stop))) refl (y .0) (y .1) (ap children f);
+  pub group-ready : GroupReady s limit at (length ps) pi
+  group-ready = record { inside = h .inside; small = h .small; fits = omega (arith, h .fits .room .properties, their-own) }
+
+  pub row-ready : ci * controlWidth + controlWidth ≤ length cs
+  row-ready = omega (arith, h .fits .room .controls)
+
+  module _ (w : Wrote) (ps′ : List ℕ) (d : GroupDone s limit at ps pi ps′ w) where
+    pub words-ready : ci + pi + (1 + w .count) ≤ longest
+    words-ready = omega (arith, h .fits .few, their-own, d .count)
+
+    pub control-done : (row : ControlRow) → controlWords row ≡ kind ∷ nameWords ci (w .name) ++ (pi ∷ w .count ∷ [])
+        → (cs′ : List ℕ) → cs′ ≡ put controlWidth cs ci (controlWords row ∷ []) → ControlDone s kind limit at (state cs ci ps pi) cs′ ps′ w
+    unfolding controlOf nameOf nameIn controlRow
+    control-done row er cs′ ec =
+        let st = state cs ci ps pi in
+        let c = groupControl s kind limit at in
+        let n : length (map (propertyOf s) (propsAt s limit at)) ≡ length (propsAt s limit at) = simp length-map in
+        let k : w .count ≡ length (map (propertyOf s) (propsAt s limit at)) = d .count ∙ sym n in
+        let e : controlWords row ≡ controlRow ci pi c = er ∙ ap₂ (λ m j. kind ∷ nameWords ci m ++ (pi ∷ j ∷ [])) (d .name) k in
+        let a : cs′ ≡ put controlWidth cs ci (controlRow ci pi c ∷ []) = ec ∙ ap (λ r. put controlWidth cs ci (r ∷ [])) e in
+        record {
+          is = (λ i. state (a i) (ci + 1) (d .rows i) (pi + k i)) ∙ sym (write-one c st);
+          count = d .count;
+          stop = d .stop;
+          trailer = d .trailer;
         }
 
-good-inside : (d : ℕ) (s : List ℕ) (p : ℕ) → Good (flat1 (oneNode d s p)) → p ≤ length s
-good-inside d s p h = go (ltb (length s) p) refl
+-- ---- a node
+-- what the code asks for its children, once the group is written
+children-told : (s : List ℕ) (p : ℕ) (y : ℕ × ℕ) → childrenOf s p ≡ some y → childrenAt s (trailerOr0 (groupIn s p .trailer)) (groupIn s p .stop) ≡ some y
+unfolding childrenOf
+children-told s p y e = go (groupIn s p .trailer) refl
   where
-    go : (b : Bool) → ltb (length s) p ≡ b → p ≤ length s
-    go true e = absurd (subst (λ o. Good (flat1 o)) (node-past s (nodesAt d s) p (ltb-true (length s) p e)) h)
-    go false e = ltb-false (length s) p e
+    go : (o : Option ℕ) → groupIn s p .trailer ≡ o → childrenAt s (trailerOr0 (groupIn s p .trailer)) (groupIn s p .stop) ≡ some y
+    go none f = let k = rw f at e in cc
+    go (some t) f = rw f (rw f at e)
 
--- a control's row with its group, as a reading that ends anywhere
-pub as-nodes : (s : List ℕ) (kind limit at : ℕ) (old : State) (cs ps : List ℕ) (w : Wrote) (e : ℕ) → ControlDone s kind limit at old cs ps w
-    → NodesDone s (some (groupNode s kind limit at, e)) old (state cs (old .ci + 1) ps (old .pi + w .count)) e
-as-nodes s kind limit at old cs ps w e d = record { is = d .is; end = refl }
+module _ (d : ℕ) (s : List ℕ) (p : ℕ) (cs : List ℕ) (ci : ℕ) (ps : List ℕ) (pi : ℕ) (h : NodesReady s (entryNodes (oneNode d s p)) (state cs ci ps pi)) where
+  found : (y : ℕ × ℕ) × (childrenOf s p ≡ some y)
+  found = go (childrenOf s p) refl
+    where
+      go : (o : Option (ℕ × ℕ)) → childrenOf s p ≡ o → (y : ℕ × ℕ) × (childrenOf s p ≡ some y)
+      go none e = absurd (held-none _ (entryNodes (oneNode d s p)) (h .fits) (ap entryNodes (node-none s (nodesAt d s) p e)))
+      go (some y) e = (y, e)
 
-module _ (d : ℕ) (s : List ℕ) (p : ℕ) (cs : List ℕ) (ci : ℕ) (ps : List ℕ) (pi : ℕ) (h : NodesReady s (flat1 (oneNode d s p)) (state cs ci ps pi)) where
   pub node-inside : p ≤ length s
-  node-inside = good-inside d s p (h .good)
-
-  parts : NodeParts d s p
-  parts = node-parts d s p (h .good)
-
-  whole : Remain s (flat1 (oneNode d s p)) (flat1 (oneNode d s p)) (state cs ci ps pi) (state cs ci ps pi)
-  whole = remain-start s (flat1 (oneNode d s p)) (state cs ci ps pi) h
-
-  first : NodesReady s (headed s p (parts .q)) (state cs ci ps pi)
-  first = remain-first s (flat1 (oneNode d s p)) (flat1 (oneNode d s p)) (state cs ci ps pi) (state cs ci ps pi) whole (headed s p (parts .q)) (λ e. flat (nodesAt d s (parts .n) e)) (parts .is)
+  node-inside = go (ltb (length s) p) refl
+    where
+      go : (b : Bool) → ltb (length s) p ≡ b → p ≤ length s
+      go true e = absurd (let k : none ≡ some (found .0) = sym (head-past s p (ltb-true (length s) p e)) ∙ found .1 in let z : _≡_ {A = ℕ} 0 1 = cc in omega arith)
+      go false e = ltb-false (length s) p e
 
   pub node-ready : (kind : ℕ) → kind ≡ u16 s p → ControlReady s kind (length s) (p + 6) (state cs ci ps pi)
-  node-ready kind e = rw e (record { inside = omega arith; ready = first .ready })
+  node-ready kind e =
+      let y = found in
+      let r = ready-first (length s ≤ longest) (controlOf s) (headNode s p (y .0 .1)) (λ q. listNodes (nodesAt d s (y .0 .0) q)) (state cs ci ps pi) (rw (node-nodes s (nodesAt d s) p (y .0 .0) (y .0 .1) (y .1)) at h) in
+      rw e (record { inside = omega arith; small = h .known; fits = r .fits })
 
   module _ (kind : ℕ) (ek : kind ≡ u16 s p) (w : Wrote) (cs′ ps′ : List ℕ) (done : ControlDone s kind (length s) (p + 6) (state cs ci ps pi) cs′ ps′ w) where
-    pub node-adds : (ci + 1 ≤ longest) × (pi + w .count ≤ longest)
-    unfolding propsIn
-    node-adds = (omega (arith, first .ready .controls), omega (arith, first .ready .props, done .count))
+    pub node-adds : ci + pi + (1 + w .count) ≤ longest
+    node-adds =
+        let r = node-ready kind ek in
+        omega (arith, r .fits .few, their-own s kind (length s) (p + 6) cs ci ps pi r, done .count)
 
     module _ (u : Children) (ue : u ≡ children (childrenAt s (w .trailer) (w .stop))) where
-      below-is : u ≡ Children.Of (parts .n) (parts .q)
-      below-is = ue ∙ ap₂ (λ a b. children (childrenAt s a b)) (done .trailer ∙ ap trailerOr0 (parts .by)) (done .stop) ∙ ap children (parts .below)
+      below-is : childrenAt s (w .trailer) (w .stop) ≡ some (found .0)
+      below-is = ap₂ (childrenAt s) (done .trailer) (done .stop) ∙ children-told s p (found .0) (found .1)
 
       pub node-never : u ≡ Children.Bad → ⊥
-      node-never uk = let b = below-is in let z : _≡_ {A = ℕ} 0 1 = cc in omega arith
+      node-never uk = let b = below-is in let k = children-bad (childrenAt s (w .trailer) (w .stop)) u ue uk in let z : _≡_ {A = ℕ} 0 1 = cc in omega arith
 
-      pub node-remain : (n q : ℕ) → u ≡ Children.Of n q → Remain s (flat (nodesAt d s n q)) (flat1 (oneNode d s p)) (state cs ci ps pi) (state cs′ (ci + 1) ps′ (pi + w .count))
+      pub node-remain : (n q : ℕ) → u ≡ Children.Of n q
+          → Remain (length s ≤ longest) (controlOf s) (listNodes (nodesAt d s n q)) (entryNodes (oneNode d s p)) (state cs ci ps pi) (state cs′ (ci + 1) ps′ (pi + w .count))
       node-remain n q uk =
-          let b = below-is in
-          let en : n ≡ parts .n = cc in
-          let eq : q ≡ parts .q = cc in
-          rw (en, eq)
-          (remain-step s (flat1 (oneNode d s p)) (flat1 (oneNode d s p)) (state cs ci ps pi) (state cs ci ps pi) whole (headed s p (parts .q)) (λ e. flat (nodesAt d s (parts .n) e)) (parts .is)
-          (state cs′ (ci + 1) ps′ (pi + w .count)) (parts .q)
-          (as-nodes s (u16 s p) (length s) (p + 6) (state cs ci ps pi) cs′ ps′ w (parts .q) (rw (sym ek) done)))
-
--- ---- a list of nodes
-pub Filling : ℕ → List ℕ → ℕ → ℕ → State → ℕ → ℕ → State → Type 0
-Filling d s n at old k p now = Remain s (flat (nodesAt d s k p)) (flat (nodesAt d s n at)) old now
-
-pub filling-start : (d : ℕ) (s : List ℕ) (n at : ℕ) (st : State) → NodesReady s (flat (nodesAt d s n at)) st → Filling d s n at st n at st
-unfolding Filling
-filling-start d s n at st h = remain-start s (flat (nodesAt d s n at)) st h
-
-module _ (d : ℕ) (s : List ℕ) (n at : ℕ) (old : State) (k p : ℕ) (now : State) (known : Filling d s n at old k p now) where
-  pub filling-deep : 0 < k → d ≡ 0 → ⊥
-  unfolding Filling
-  filling-deep h z = subst Good (nodes-deep d s k p z h) (known .good)
-
-  pub filling-ready : 0 < k → NodesReady s (flat1 (oneNode (d - 1) s p)) now
-  unfolding Filling
-  filling-ready h =
-      remain-first s (flat (nodesAt d s k p)) (flat (nodesAt d s n at)) old now known (flat1 (oneNode (d - 1) s p)) (λ q. flat (nodesAt d s (k - 1) q)) (nodes-next d s k p (filling-deep h) h)
-
-  pub filling-more : 0 < k → (next : State) (e : ℕ) → NodesDone s (flat1 (oneNode (d - 1) s p)) now next e → Filling d s n at old (k - 1) e next
-  unfolding Filling
-  filling-more h next e done =
-      remain-step s (flat (nodesAt d s k p)) (flat (nodesAt d s n at)) old now known (flat1 (oneNode (d - 1) s p)) (λ q. flat (nodesAt d s (k - 1) q)) (nodes-next d s k p (filling-deep h) h) next e done
-
-  pub filling-done : k ≤ 0 → NodesDone s (flat (nodesAt d s n at)) old now p
-  unfolding Filling
-  filling-done h = remain-done s (flat (nodesAt d s k p)) (flat (nodesAt d s n at)) old now known p (nodes-none d s k p h)
-
--- ---- the top list
-pub Placing : ℕ → List ℕ → ℕ → ℕ → State → ℕ → ℕ → State → Type 0
-Placing d s n at old k p now = Remain s (top (nodesAt d s k p)) (top (nodesAt d s n at)) old now
-
-pub placing-start : (d : ℕ) (s : List ℕ) (n at : ℕ) (st : State) → NodesReady s (top (nodesAt d s n at)) st → Placing d s n at st n at st
-unfolding Placing
-placing-start d s n at st h = remain-start s (top (nodesAt d s n at)) st h
-
-module _ (d : ℕ) (s : List ℕ) (n at : ℕ) (old : State) (k p : ℕ) (now : State) (known : Placing d s n at old k p now) where
-  pub placing-done : k ≤ 0 → NodesDone s (top (nodesAt d s n at)) old now p
-  unfolding Placing
-  placing-done h = remain-done s (top (nodesAt d s k p)) (top (nodesAt d s n at)) old now known p (tops-none d s k p h)
-
-  module _ (f : d ≡ 0 → ⊥) (h : 0 < k) (v : Section) (ve : v ≡ section (oneNode (d - 1) s p)) where
-    pub placing-left : (e : ℕ) → v ≡ Section.Left e → Placing d s n at old (k - 1) e now
-    unfolding Placing
-    placing-left e vk = remain-as s (top (nodesAt d s k p)) (top (nodesAt d s n at)) old now known (top (nodesAt d s (k - 1) e)) (tops-left d s k p f h v ve e vk)
-
-    module _ (vk : v ≡ Section.Kept) where
-      pub placing-ready : NodesReady s (flat1 (oneNode (d - 1) s p)) now
-      unfolding Placing
-      placing-ready =
-          remain-first s (top (nodesAt d s k p)) (top (nodesAt d s n at)) old now known (flat1 (oneNode (d - 1) s p)) (λ q. top (nodesAt d s (k - 1) q)) (tops-kept d s k p f h v ve vk)
-
-      pub placing-more : (next : State) (e : ℕ) → NodesDone s (flat1 (oneNode (d - 1) s p)) now next e → Placing d s n at old (k - 1) e next
-      unfolding Placing
-      placing-more next e done =
-          remain-step s (top (nodesAt d s k p)) (top (nodesAt d s n at)) old now known (flat1 (oneNode (d - 1) s p)) (λ q. top (nodesAt d s (k - 1) q)) (tops-kept d s k p f h v ve vk) next e done
+          let st = state cs ci ps pi in
+          let next = state cs′ (ci + 1) ps′ (pi + w .count) in
+          let e : childrenOf s p ≡ some (n, q) = found .1 ∙ sym below-is ∙ children-of (childrenAt s (w .trailer) (w .stop)) u n q ue uk in
+          let k : some (at-place next q) ≡ act s (headNode s p q) st = ap (λ z. some (at-place z q)) (done .is ∙ ap (λ k. writeControls (groupControl s k (length s) (p + 6) ∷ []) st) ek) in
+          remain-step _ (controlOf s) (headNode s p q) (λ e. listNodes (nodesAt d s n e)) (entryNodes (oneNode d s p)) st st next q
+          (remain-start _ (controlOf s) (headNode s p q then λ e. listNodes (nodesAt d s n e)) (entryNodes (oneNode d s p)) st (node-nodes s (nodesAt d s) p n q e) h) k
 
 -- ---- the scan
 pub record Sweeping (s : List ℕ) (from : ℕ) (old : State) (a : ℕ) (now : State) : Type 0 where
   pub within : a ≤ length s
   pub here : a < length s → matchAt s a ≡ true
-  pub remain : Remain s (scanned s a) (scanned s from) old now
+  pub remain : Remain (length s ≤ longest) (controlOf s) (scanned s a) (scanned s from) old now
 
 pub sweeping-start : (s : List ℕ) (from : ℕ) (st : State) (a : ℕ) → ScanReady s from st → NextMatch s from a → Sweeping s from st a st
 sweeping-start s from st a h n = record {
   within = n .within;
   here = n .here;
-  remain = remain-as s (scanned s from) (scanned s from) st st (remain-start s (scanned s from) st (h .ready)) (scanned s a) (ap (λ ns. some (ns, length s)) (scan-same s from a n));
+  remain = remain-start _ (controlOf s) (scanned s a) (scanned s from) st (ap (λ ns. some (ns, length s)) (scan-same s from a n)) (h .ready);
 }
 
-pub sweeping-done : (s : List ℕ) (from : ℕ) (old : State) (a : ℕ) (now : State) → Sweeping s from old a now → length s ≤ a → NodesDone s (scanned s from) old now a
+pub sweeping-done : (s : List ℕ) (from : ℕ) (old : State) (a : ℕ) (now : State) → Sweeping s from old a now → length s ≤ a → some (at-place now a) ≡ act s (scanned s from) old
 sweeping-done s from old a now w h =
     let z : length s ≡ a = omega (arith, w .within) in
-    remain-done s (scanned s a) (scanned s from) old now (w .remain) a (ap₂ (λ ns e. some (ns, e)) (scan-end s a h) z)
+    remain-done _ (controlOf s) (scanned s from) old now a (remain-as _ (controlOf s) (scanned s a) (some ([], a)) (scanned s from) old now (ap₂ (λ ns e. some (ns, e)) (scan-end s a h) z) (w .remain))
 
 module _ (s : List ℕ) (from : ℕ) (old : State) (a : ℕ) (cs : List ℕ) (ci : ℕ) (ps : List ℕ) (pi : ℕ) (known : Sweeping s from old a (state cs ci ps pi)) (l : a < length s) (b : ℕ) (next : NextMatch s (a + 6) b)
     (r : Item) (re : r ≡ item s b a) where
@@ -194,31 +148,30 @@ module _ (s : List ℕ) (from : ℕ) (old : State) (a : ℕ) (cs : List ℕ) (ci
       record {
         within = next .within;
         here = next .here;
-        remain = remain-as s (scanned s a) (scanned s from) old (state cs ci ps pi) (known .remain) (scanned s b)
-            (ap (λ ns. some (ns, length s)) (scan-step s a b (known .here l) next ∙ ap (λ ns. ns ++ scanFrom s b) e));
+        remain = remain-as _ (controlOf s) (scanned s a) (scanned s b) (scanned s from) old (state cs ci ps pi)
+            (ap (λ ns. some (ns, length s)) (scan-step s a b (known .here l) next ∙ ap (λ ns. ns ++ scanFrom s b) e)) (known .remain);
       }
 
   module _ (z e t : ℕ) (rk : r ≡ Item.Inside z e t) where
-    step : scanned s a ≡ join (some (groupNode s 0 b a, b)) (scanned s)
-    step =
-        ap (λ ns. some (ns, length s))
-        (scan-step s a b (known .here l) next ∙ ap (λ ns. ns ++ scanFrom s b) (shown-some (groupAt s b a .props) (props-some s b a (next .within) (item-inside s b a r z e t re rk .test))))
-
-    one : NodesReady s (some (groupNode s 0 b a, b)) (state cs ci ps pi)
-    one = remain-first s (scanned s a) (scanned s from) old (state cs ci ps pi) (known .remain) (some (groupNode s 0 b a, b)) (scanned s) step
+    first-left : Remain (length s ≤ longest) (controlOf s) (some (node 0 (propsAt s b a) ∷ [], b) then scanned s) (scanned s from) old (state cs ci ps pi)
+    first-left = remain-as _ (controlOf s) (scanned s a) _ (scanned s from) old (state cs ci ps pi)
+        (ap (λ ns. some (ns, length s))
+        (scan-step s a b (known .here l) next ∙ ap (λ ns. ns ++ scanFrom s b) (shown-some (groupAt s b a .props) (props-some s b a (next .within) (item-inside s b a r z e t re rk .test)))))
+        (known .remain)
 
     pub sweeping-ready : ControlReady s 0 b a (state cs ci ps pi)
-    sweeping-ready = record { inside = next .within; ready = one .ready }
+    sweeping-ready =
+        let f = ready-first (length s ≤ longest) (controlOf s) (some (node 0 (propsAt s b a) ∷ [], b)) (scanned s) (state cs ci ps pi) (first-left .ready) in
+        record { inside = next .within; small = f .known; fits = f .fits }
 
     module _ (w : Wrote) (cs′ ps′ : List ℕ) (done : ControlDone s 0 b a (state cs ci ps pi) cs′ ps′ w) where
-      pub sweeping-adds : (ci + 1 ≤ longest) × (pi + w .count ≤ longest)
-      unfolding propsIn
-      sweeping-adds = (omega (arith, one .ready .controls), omega (arith, one .ready .props, done .count))
+      pub sweeping-adds : ci + pi + (1 + w .count) ≤ longest
+      sweeping-adds = omega (arith, sweeping-ready .fits .few, their-own s 0 b a cs ci ps pi sweeping-ready, done .count)
 
       pub sweeping-more : Sweeping s from old b (state cs′ (ci + 1) ps′ (pi + w .count))
       sweeping-more = record {
         within = next .within;
         here = next .here;
-        remain = remain-step s (scanned s a) (scanned s from) old (state cs ci ps pi) (known .remain) (some (groupNode s 0 b a, b)) (scanned s) step (state cs′ (ci + 1) ps′ (pi + w .count)) b
-            (as-nodes s 0 b a (state cs ci ps pi) cs′ ps′ w b done);
+        remain = remain-step _ (controlOf s) (some (node 0 (propsAt s b a) ∷ [], b)) (scanned s) (scanned s from) old (state cs ci ps pi) (state cs′ (ci + 1) ps′ (pi + w .count)) b first-left
+            (ap (λ z. some (at-place z b)) (done .is));
       }

@@ -1,4 +1,2 @@
--- What the functions of this crate answer, by the definitions of the later layout.
-pub mod Flat
-pub mod Count
+-- What the functions of this crate ask and leave, by the definitions of the later layout.
 pub mod Write

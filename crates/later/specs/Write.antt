@@ -9,18 +9,17 @@ use lib.ListN.{length}
 use Rattle.rules.specs.Lists.{find}
 use Rattle.rules.specs.Answer.{longest}
 use Rattle.rules.specs.Rows.{controlWidth, propertyWidth, room, written}
-use Rattle.rules.specs.Reading.{controlRows, propertyRows}
+use Rattle.rules.specs.Reading.{Control, controlRows, propertyRows}
 use Rattle.rules.specs.Blob.{Outcome, fit, answerOf, exitBy}
 use Rattle.rules.specs.declared.Answer.{Answer}
-use Rattle.rules.specs.Tree.{Node, node}
+use Rattle.rules.specs.Tree.{node}
 use Rattle.rules.specs.Later.{Prop, lengthAt, groupAt, scanFrom, objectGroup, treeOf, nodesBy}
 use Rattle.rules.specs.ReadLater.{propertyOf, nameBy, nameOr, controlOf, readLater}
 use Rattle.rules.specs.declared.Property.{Property}
 use Rattle.rules.specs.declared.Name.{Name}
-use Rattle.rows.specs.Counting.{propsIn}
-use Rattle.rows.specs.Writing.{State, state, writeControls, writeProperties, Room}
-use Rattle.later.specs.Flat.{Good, nodesIn, endIn}
-use Rattle.later.specs.Count.{isTree}
+use Rattle.rows.specs.Writing.{State, state, writeControls, writeProperties}
+use Rattle.rows.specs.Acts.{Nodes, Fit, Stood, actBy, Ready}
+use Rattle.countlater.specs.Count.{isTree}
 use Rattle.later.specs.declared.Named.{Named}
 use Rattle.later.specs.declared.Wrote.{Wrote}
 
@@ -65,41 +64,31 @@ pub record GroupDone (s : List ℕ) (limit at : ℕ) (old : List ℕ) (first : �
   pub name : r .name ≡ nameIn s (propsAt s limit at)
 
 -- ---- nodes
--- what writing the rows of these nodes does
-unfoldable pub write : List ℕ → List (Node Prop) → State → State
-write s ns st = writeControls (map (controlOf s) ns) st
+-- there is room for their rows, and the stream is not too long
+abbrev pub NodesReady : List ℕ → Nodes Prop → State → Type 0
+NodesReady s o st = Ready (length s ≤ longest) (controlOf s) o st
 
--- there is room for them, and their numbers are small
-pub record Ready (s : List ℕ) (ns : List (Node Prop)) (st : State) : Type 0 where
-  pub small : length s ≤ longest
-  pub room : Room (map (controlOf s) ns) st
-  pub controls : st .ci + length ns ≤ longest
-  pub props : st .pi + propsIn ns ≤ longest
-
-pub record NodesReady (s : List ℕ) (o : Option (List (Node Prop) × ℕ)) (st : State) : Type 0 where
-  pub good : Good o
-  pub ready : Ready s (nodesIn o) st
-
-pub record NodesDone (s : List ℕ) (o : Option (List (Node Prop) × ℕ)) (old new : State) (next : ℕ) : Type 0 where
-  pub is : new ≡ write s (nodesIn o) old
-  pub end : next ≡ endIn o
+-- what writing their rows does
+abbrev pub act : List ℕ → Nodes Prop → State → Option Stood
+act s o st = actBy (controlOf s) o st
 
 -- a group with its control's row
-abbrev pub groupNode : List ℕ → ℕ → ℕ → ℕ → List (Node Prop)
-groupNode s kind limit at = node kind (propsAt s limit at) ∷ []
+abbrev pub groupControl : List ℕ → ℕ → ℕ → ℕ → Control
+groupControl s kind limit at = controlOf s (node kind (propsAt s limit at))
 
 pub record ControlReady (s : List ℕ) (kind limit at : ℕ) (st : State) : Type 0 where
   pub inside : limit ≤ length s
-  pub ready : Ready s (groupNode s kind limit at) st
+  pub small : length s ≤ longest
+  pub fits : Fit (groupControl s kind limit at ∷ []) st
 
 pub record ControlDone (s : List ℕ) (kind limit at : ℕ) (old : State) (cs ps : List ℕ) (r : Wrote) : Type 0 where
-  pub is : state cs (old .ci + 1) ps (old .pi + r .count) ≡ write s (groupNode s kind limit at) old
+  pub is : state cs (old .ci + 1) ps (old .pi + r .count) ≡ writeControls (groupControl s kind limit at ∷ []) old
   pub count : r .count ≡ length (propsAt s limit at)
   pub stop : r .stop ≡ groupAt s limit at .stop
   pub trailer : r .trailer ≡ trailerOr0 (groupAt s limit at .trailer)
 
 -- the scan as a reading that ends with the stream
-abbrev pub scanned : List ℕ → ℕ → Option (List (Node Prop) × ℕ)
+abbrev pub scanned : List ℕ → ℕ → Nodes Prop
 scanned s p = some (scanFrom s p, length s)
 
 pub record ScanReady (s : List ℕ) (p : ℕ) (st : State) : Type 0 where
@@ -115,7 +104,8 @@ pub record BlobReady (s : List ℕ) (tree : Bool) (cs ps : List ℕ) : Type 0 wh
   pub long : 14 ≤ length s
   pub is : tree ≡ isTree (treeOf s)
   pub own : length (objectGroup s .props) * propertyWidth ≤ length ps
-  pub ready : Ready s (nodesBy s (treeOf s)) (started s cs ps)
+  pub small : length s ≤ longest
+  pub fits : Fit (map (controlOf s) (nodesBy s (treeOf s))) (started s cs ps)
 
 pub record BlobDone (s old-cs old-ps cs ps : List ℕ) : Type 0 where
   pub controls : cs ≡ written (controlRows (readLater s)) old-cs

@@ -2,14 +2,10 @@ use borrow.Author.Tests.{eq-eqb, ne-eqb}
 use Rattle.later.proofs.name_by.Statement.{statement}
 use Rattle.later.proofs.name_by.Tie as tie
 
-returns : tie.Need-returns
-returns c = simp (eq-eqb _ _ (c .if1 .taken))
-
-returns-2 : tie.Need-returns-2
-returns-2 c = simp (ne-eqb _ _ (c .before .before .if1 .left), eq-eqb _ _ (c .if2 .taken))
-
-returns-3 : tie.Need-returns-3
-returns-3 c = simp (ne-eqb _ _ (c .before .before .if1 .left), ne-eqb _ _ (c .if2 .left))
-
 pub name-by-spec : {M : Type 1} → statement M
-name-by-spec = tie.close (tie.spec returns returns-2 returns-3)
+name-by-spec =
+    tie.close
+    (tie.spec
+    (λ c. simp (eq-eqb _ _ (c .if1 .taken)))
+    (λ c. simp (ne-eqb _ _ (c .before .before .if1 .left), eq-eqb _ _ (c .if2 .taken)))
+    (λ c. simp (ne-eqb _ _ (c .before .before .if1 .left), ne-eqb _ _ (c .if2 .left))))

@@ -1,0 +1,82 @@
+-- Matches, one at a time: the bound on the number of steps does not matter.
+use Prim.Native.Nat.{ℕ, zero, suc, _+_, _≤_, _<_}
+use native.Mathlib.Omega.{arith}
+use mathlib.Core.Path.{_≡_, refl, ap, ap₂, _∙_}
+use mathlib.Core.Bool.{Bool, true, false, cond, not, _&&_}
+use mathlib.Core.List.{List, [], _∷_, _++_, map}
+use lib.Dec.{ltb, leb, eqb}
+use lib.ListN.{length}
+use borrow.Author.Tests.{lt-leb, leb-true, ltb-true, ltb-false}
+use Rattle.rules.specs.Lists.{keep}
+use Rattle.rules.specs.Bytes.{u16}
+use Rattle.rules.specs.Tree.{Node, node}
+use Rattle.rules.specs.Later.{Prop, groupAt, matchAt, matchesOf, matchesFrom, groupsOf, isEmpty, scanFrom}
+use Rattle.rules.proofs.ListLaws.{and-l}
+use Rattle.countlater.specs.Count.{NextMatch}
+
+pub match-past : (s : List ℕ) (p : ℕ) → length s < p + 6 → matchAt s p ≡ false
+unfolding matchAt
+match-past s p h = rw (lt-leb (p + 6) (length s))
+
+pub match-room : (s : List ℕ) (p : ℕ) → matchAt s p ≡ true → p + 6 ≤ length s
+unfolding matchAt
+match-room s p t = leb-true _ _ (and-l (leb (p + 6) (length s)) _ (and-l (leb (p + 6) (length s) && eqb (u16 s p) 0x14) _ t))
+
+enough : (k j : ℕ) (s : List ℕ) (p : ℕ) → length s ≤ k + p → length s ≤ j + p → matchesOf k s p ≡ matchesOf j s p
+unfolding matchesOf
+enough zero zero s p hk hj = refl
+enough zero (suc j) s p hk hj = rw (match-past s p (omega arith)) (enough zero j s (p + 1) (omega arith) (omega arith))
+enough (suc k) zero s p hk hj = rw (match-past s p (omega arith)) (enough k zero s (p + 1) (omega arith) (omega arith))
+enough (suc k) (suc j) s p hk hj =
+    ap₂ (λ a b. cond (matchAt s p) (p ∷ a) b) (enough k j s (p + 6) (omega arith) (omega arith)) (enough k j s (p + 1) (omega arith) (omega arith))
+
+pub match-step : (s : List ℕ) (p : ℕ) → matchesFrom s p ≡ cond (matchAt s p) (p ∷ matchesFrom s (p + 6)) (matchesFrom s (p + 1))
+unfolding matchesFrom matchesOf
+match-step s p = enough (length s) (suc (length s)) s p (omega arith) (omega arith)
+
+pub match-here : (s : List ℕ) (p : ℕ) → matchAt s p ≡ true → matchesFrom s p ≡ p ∷ matchesFrom s (p + 6)
+match-here s p t = match-step s p ∙ rw t
+
+pub match-on : (s : List ℕ) (p : ℕ) → matchAt s p ≡ false → matchesFrom s p ≡ matchesFrom s (p + 1)
+match-on s p t = match-step s p ∙ rw t
+
+pub match-end : (s : List ℕ) (p : ℕ) → length s ≤ p → matchesFrom s p ≡ []
+unfolding matchesFrom matchesOf
+match-end s p h = enough (length s) zero s p (omega arith) (omega arith)
+
+-- ---- the groups of the matches: each reaches to the next match or the end
+groups-next : (s : List ℕ) (a b : ℕ) → b ≤ length s → (b < length s → matchAt s b ≡ true)
+    → groupsOf s (a ∷ matchesFrom s b) ≡ groupAt s b a .props ∷ groupsOf s (matchesFrom s b)
+unfolding groupsOf
+groups-next s a b w m = go (ltb b (length s)) refl
+  where
+    go : (t : Bool) → ltb b (length s) ≡ t → groupsOf s (a ∷ matchesFrom s b) ≡ groupAt s b a .props ∷ groupsOf s (matchesFrom s b)
+    go true e = rw (match-here s b (m (ltb-true _ _ e)))
+    go false e =
+        let h = ltb-false b (length s) e in
+        let z : length s ≡ b = omega arith in
+        rw (match-end s b h, z)
+
+-- "reported with type 0 unless it has no property"
+abbrev pub shown : List Prop → List (Node Prop)
+shown qs = cond (not (isEmpty qs)) (node 0 qs ∷ []) []
+
+keep-shown : (qs : List Prop) (r : List (List Prop)) → map (node 0) (keep (λ qs. not (isEmpty qs)) (qs ∷ r)) ≡ shown qs ++ map (node 0) (keep (λ qs. not (isEmpty qs)) r)
+unfolding keep
+keep-shown [] r = refl
+keep-shown (q ∷ qs) r = refl
+
+pub scan-same : (s : List ℕ) (p r : ℕ) → NextMatch s p r → scanFrom s p ≡ scanFrom s r
+unfolding scanFrom
+scan-same s p r n = ap (λ ms. map (node 0) (keep (λ qs. not (isEmpty qs)) (groupsOf s ms))) (n .same)
+
+pub scan-step : (s : List ℕ) (a b : ℕ) → matchAt s a ≡ true → NextMatch s (a + 6) b → scanFrom s a ≡ shown (groupAt s b a .props) ++ scanFrom s b
+unfolding scanFrom
+scan-step s a b t n =
+    ap (λ gs. map (node 0) (keep (λ qs. not (isEmpty qs)) gs))
+    (ap (groupsOf s) (match-here s a t ∙ ap (λ ms. a ∷ ms) (n .same)) ∙ groups-next s a b (n .within) (n .here))
+    ∙ keep-shown (groupAt s b a .props) (groupsOf s (matchesFrom s b))
+
+pub scan-end : (s : List ℕ) (p : ℕ) → length s ≤ p → scanFrom s p ≡ []
+unfolding scanFrom groupsOf keep
+scan-end s p h = rw (match-end s p h)

@@ -1,0 +1,18 @@
+use native.Mathlib.Omega.{arith}
+use borrow.Author.Needs.{needs}
+use Rattle.countlater.proofs.CountLaws.{within-open, within-ended, counted-open, counted-scan, counted-tree}
+use Rattle.countlater.proofs.count.Statement.{statement}
+use Rattle.countlater.proofs.count.Tie as tie
+
+pub count-spec : {M : Type 1} → statement M
+count-spec =
+    tie.close
+    (tie.spec
+    (λ c κs. search needs) (λ c. search needs)
+    (λ c κs. omega (arith, within-open _ (c .before .before .before .before .before .pre) _ (c .before .before .before .parse-group .ensures) _ _ (c .before .count .given .1)))
+    (λ c. search needs) (λ c κs. search needs) (λ c. search needs)
+    (λ c κs. omega (arith, within-ended _ (c .before .before .before .before .before .before .before .before .pre) _ (c .before .before .before .before .before .before .parse-group .ensures) _ _ _ (c .before .before .before .before .count2 .given .1)))
+    (λ c. search needs)
+    (λ c. counted-open _ (c .before .before .before .before .before .before .pre) _ (c .before .before .before .before .parse-group .ensures) _ _ (c .before .before .count .given .1) _ (c .count-scanned .ensures))
+    (λ c. counted-scan _ (c .before .before .before .before .before .before .before .before .before .pre) _ (c .before .before .before .before .before .before .before .parse-group .ensures) _ _ _ (c .before .before .before .before .before .count2 .given .1) _ (c .before .before .before .controls-of-tree .ensures) (c .before .enum-told .given .1) _ (c .count-scanned2 .ensures))
+    (λ c. counted-tree _ (c .before .before .before .before .before .before .before .before .before .pre) _ (c .before .before .before .before .before .before .before .parse-group .ensures) _ _ _ (c .before .before .before .before .before .count2 .given .1) _ (c .before .before .before .controls-of-tree .ensures) _ _ _ (c .before .controls .given .1)))

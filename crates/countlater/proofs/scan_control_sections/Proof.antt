@@ -1,0 +1,31 @@
+use native.Mathlib.Omega.{arith}
+use Prim.Native.Nat.{_-_}
+use lib.ListN.{length}
+use Rattle.countlater.proofs.MatchLaws.{match-room}
+use Rattle.countlater.proofs.ScanLaws.{Scanning, scanning-start, group-few, scanning-more, scanning-same, scanning-done}
+use Rattle.countlater.proofs.scan_control_sections.Statement.{statement}
+use Rattle.countlater.proofs.scan_control_sections.Tie as tie
+
+abbrev Inv-loop : tie.InvT-loop
+Inv-loop s from a₀ all₀ theirs₀ a all theirs = Scanning s from a all theirs
+
+abbrev μ-loop : tie.MeasureT-loop
+μ-loop s from a₀ all₀ theirs₀ a all theirs = length s - a
+
+pub scan-control-sections-spec : {M : Type 1} → statement M
+scan-control-sections-spec =
+    tie.close
+    (tie.spec
+    Inv-loop μ-loop
+    (λ c κs. omega arith)
+    (λ c. scanning-start _ _ _ (c .find-match .ensures))
+    (λ c. omega (arith, match-room _ _ (c .before .loop .inv .here (c .loop-test .taken))))
+    (λ c κs. omega (arith, match-room _ _ (c .before .loop .inv .here (c .loop-test .taken))))
+    (λ c κs. omega (arith, c .find-match2 .ensures .within))
+    (λ c. omega (arith, c .before .before .before .before .loop .inv .few))
+    (λ c. omega (arith, c .before .before .before .before .loop .inv .few, group-few _ _ _ _ _ (c .before .before .before .before .loop .inv) (c .before .before .before .loop-test .taken) _ (c .before .before .find-match2 .ensures) _ (c .before .section-size .ensures)))
+    (λ c. omega (arith, c .before .before .find-match2 .ensures .behind))
+    (λ c. scanning-more _ _ _ _ _ (c .before .before .before .before .loop .inv) (c .before .before .before .loop-test .taken) _ (c .before .before .find-match2 .ensures) _ (c .before .section-size .ensures) (c .if1 .taken))
+    (λ c. omega (arith, c .before .before .find-match2 .ensures .behind))
+    (λ c. scanning-same _ _ _ _ _ (c .before .before .before .before .loop .inv) (c .before .before .before .loop-test .taken) _ (c .before .before .find-match2 .ensures) _ (c .before .section-size .ensures) (c .if1 .left))
+    (λ c. scanning-done _ _ _ _ _ (c .before .loop .inv) (c .loop-test .left)))

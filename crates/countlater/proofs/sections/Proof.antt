@@ -1,0 +1,40 @@
+use native.Mathlib.Omega.{arith}
+use borrow.Author.Needs.{needs}
+use Prim.Native.Nat.{_+_, _≤_}
+use mathlib.Core.Path.{refl, sym, _∙_}
+use borrow.Author.Tests.{eqb-false}
+use Rattle.rules.specs.Later.{nodeAt, nodesAt}
+use Rattle.rows.proofs.TakenLaws.{Choosing, choosing-start, choosing-all, choosing-left, choosing-bad, choosing-more}
+use Rattle.countlater.proofs.NodeLaws.{node-fits, kept-part, left-part, left-behind}
+use Rattle.countlater.proofs.sections.Statement.{statement}
+use Rattle.countlater.proofs.sections.Tie as tie
+
+abbrev Inv-loop : tie.InvT-loop
+Inv-loop s n at p₀ k₀ all₀ theirs₀ p k all theirs = (at + all + theirs ≤ p) × Choosing (nodeAt s) 256 n at all theirs k p
+
+abbrev μ-loop : tie.MeasureT-loop
+μ-loop s n at p₀ k₀ all₀ theirs₀ p k all theirs = k
+
+pub sections-spec : {M : Type 1} → statement M
+unfolding nodesAt
+sections-spec =
+    tie.close
+    (tie.spec
+    Inv-loop μ-loop
+    (λ c. (omega arith, choosing-start _ _ _ _))
+    (λ c κs. search needs) (λ c. search needs) (λ c. search needs) (λ c. search needs)
+    (λ c. (
+      omega (arith, left-behind _ _ _ _ _ (c .before .before .before .section-at .ensures) (c .before .next .given .1)),
+      choosing-left _ _ _ _ _ _ _ _ (c .before .before .before .before .before .loop .inv .1) (eqb-false 256 0 refl) (c .before .before .before .before .loop-test .taken) _ (left-part _ _ _ _ (c .before .before .before .section-at .ensures) _ (c .before .next .given .1)),
+    ))
+    (λ c. search needs) (λ c κs. search needs) (λ c. search needs)
+    (λ c. choosing-bad _ _ _ _ _ _ _ _ (c .before .before .before .before .before .before .before .loop .inv .1) (eqb-false 256 0 refl) (c .before .before .before .before .before .before .loop-test .taken) _ (c .before .before .parse-node .ensures ∙ sym (kept-part _ _ _ _ (c .before .before .before .before .before .section-at .ensures) (c .before .before .before .enum-told .given .1))) (c .enum-told2 .given .1))
+    (λ c. search needs)
+    (λ c. omega (arith, node-fits _ _ _ _ _ _ _ (c .before .before .before .parse-node .ensures) (c .before .controls .given .1)))
+    (λ c. omega (arith, node-fits _ _ _ _ _ _ _ (c .before .before .before .parse-node .ensures) (c .before .controls .given .1)))
+    (λ c. search needs) (λ c. search needs)
+    (λ c. (
+      omega (arith, node-fits _ _ _ _ _ _ _ (c .before .before .before .parse-node .ensures) (c .before .controls .given .1)),
+      choosing-more _ _ _ _ _ _ _ _ (c .before .before .before .before .before .before .before .before .loop .inv .1) (eqb-false 256 0 refl) (c .before .before .before .before .before .before .before .loop-test .taken) _ (c .before .before .before .parse-node .ensures ∙ sym (kept-part _ _ _ _ (c .before .before .before .before .before .before .section-at .ensures) (c .before .before .before .before .enum-told .given .1))) _ _ _ (c .before .controls .given .1),
+    ))
+    (λ c. choosing-all _ _ _ _ _ _ _ _ (c .before .loop .inv .1) (c .loop-test .left)))

@@ -1,0 +1,418 @@
+// Counts what a stream of the later layout has: groups, nodes and the scan.
+use leaf::u16_at;
+use leaf::u32_at;
+use rows::Part;
+use rows::is_section;
+ghost use mathlib.Core.Path.{_≡_};
+ghost use Prim.Native.Nat.{_+_, _≤_};
+ghost use lib.ListN.{length};
+ghost use Rattle.rules.specs.Later.{endsGroup, groupAt, childrenAt, nodesAt, matchAt};
+ghost use Rattle.rows.specs.Counting.{part1, part, partTop};
+ghost use Rattle.countlater.specs.Count.{item, group, children, head, oneNode, section, wholeTree, NextMatch, ScanCounted, CountedBy, Counted};
+
+// ---- properties and groups
+// A property: its value's size, where the next one starts, and its trailer.
+pub enum Item {
+    Outside,
+    Inside(usize, usize, u32),
+}
+
+pub enum Group {
+    Unended {
+        count: usize,
+        stop: usize,
+    },
+    Ended {
+        count: usize,
+        stop: usize,
+        trailer: u32,
+    },
+}
+
+pub enum Children {
+    Bad,
+    Of { count: usize, next: usize },
+}
+
+// What stands before a node's children: how many properties it has, how many children, and where they start.
+pub enum Head {
+    Bad,
+    Of {
+        count: usize,
+        below: usize,
+        next: usize,
+    },
+}
+
+// A top node is reported, or it is passed over.
+pub enum Section {
+    Kept,
+    Left { next: usize },
+}
+
+pub struct Scanned {
+    pub controls: usize,
+    pub props: usize,
+}
+
+pub struct Counts {
+    pub tree: bool,
+    pub own: usize,
+    pub controls: usize,
+    pub props: usize,
+}
+
+// The property at `at`. What is compared is what is left, since a stored length can be near 2^32.
+pub fn parse_entry(s: &[u8], limit: usize, at: usize) -> Item
+    ensures { λ r. ⌜ r ≡ item (now (s .entry)) limit at ⌝ }
+{
+    if limit < at {
+        return Item::Outside;
+    }
+    if limit - at < 18 {
+        return Item::Outside;
+    }
+    let size = u32_at(s, at + 10) as usize;
+    if limit - at - 18 < size {
+        return Item::Outside;
+    }
+    let trailer = u32_at(s, at + 14 + size);
+    Item::Inside(size, at + 14 + size + 4, trailer)
+}
+
+pub fn ends_group(trailer: u32) -> bool
+    ensures { λ r. ⌜ r ≡ endsGroup trailer ⌝ }
+{
+    253 <= trailer && trailer <= 255
+}
+
+// Counts the properties of the group at `at`, which reaches to `limit` at most.
+fn parse_group(s: &[u8], limit: usize, at: usize) -> Group
+    requires { ⌜ limit ≤ length (now s) ⌝ }
+    ensures { λ r. ⌜ r ≡ group (groupAt (now (s .entry)) limit at) ⌝ }
+{
+    let mut p = at;
+    let mut n: usize = 0;
+    loop {
+        match parse_entry(s, limit, p) {
+            Item::Outside => {
+                return Group::Unended { count: n, stop: p };
+            }
+            Item::Inside(_, next, trailer) => {
+                n = n + 1;
+                p = next;
+                if ends_group(trailer) {
+                    return Group::Ended {
+                        count: n,
+                        stop: p,
+                        trailer,
+                    };
+                }
+            }
+        }
+    }
+}
+
+// How many nodes follow a group that ended by `trailer`, and where they start.
+pub fn children_at(s: &[u8], trailer: u32, at: usize) -> Children
+    ensures { λ r. ⌜ r ≡ children (childrenAt (now (s .entry)) trailer at) ⌝ }
+{
+    if trailer == 253 {
+        return Children::Of { count: 0, next: at };
+    }
+    if trailer == 254 {
+        return Children::Of { count: 1, next: at };
+    }
+    if s.len() < at {
+        return Children::Bad;
+    }
+    if s.len() - at < 2 {
+        return Children::Bad;
+    }
+    Children::Of {
+        count: u16_at(s, at) as usize,
+        next: at + 2,
+    }
+}
+
+// ---- the tree
+// The head of the node at `at`: its group, and its children's count.
+fn head_at(s: &[u8], at: usize) -> Head
+    ensures { λ r. ⌜ r ≡ head (now (s .entry)) at ⌝ }
+{
+    if s.len() < at {
+        return Head::Bad;
+    }
+    let Group::Ended {
+        count,
+        stop,
+        trailer,
+    } = parse_group(s, s.len(), at + 6)
+    else {
+        return Head::Bad;
+    };
+    match children_at(s, trailer, stop) {
+        Children::Bad => Head::Bad,
+        Children::Of { count: below, next } => Head::Of { count, below, next },
+    }
+}
+
+// Counts the node at `at` and all below it, where `left` levels are left below it.
+fn parse_node(s: &[u8], at: usize, left: usize) -> Part
+    ensures { λ r. ⌜ r ≡ part1 (oneNode left (now (s .entry)) at) ⌝ }
+{
+    let Head::Of {
+        count,
+        below,
+        next: q,
+    } = head_at(s, at)
+    else {
+        return Part::Bad;
+    };
+    match parse_nodes(s, below, q, left) {
+        Part::Bad => Part::Bad,
+        Part::Of {
+            controls,
+            props,
+            next,
+        } => Part::Of {
+            controls: 1 + controls,
+            props: count + props,
+            next,
+        },
+    }
+}
+
+// Counts `n` nodes from `at` on, with `left` levels left.
+fn parse_nodes(s: &[u8], n: usize, at: usize, left: usize) -> Part
+    ensures { λ r. ⌜ r ≡ part (nodesAt left (now (s .entry)) n at) ⌝ }
+{
+    let mut p = at;
+    let mut k = n;
+    let mut all: usize = 0;
+    let mut theirs: usize = 0;
+    while 0 < k {
+        if left == 0 {
+            return Part::Bad;
+        }
+        match parse_node(s, p, left - 1) {
+            Part::Bad => {
+                return Part::Bad;
+            }
+            Part::Of {
+                controls,
+                props,
+                next,
+            } => {
+                all = all + controls;
+                theirs = theirs + props;
+                p = next;
+                k = k - 1;
+            }
+        }
+    }
+    Part::Of {
+        controls: all,
+        props: theirs,
+        next: p,
+    }
+}
+
+// Is the top node at `at` reported? It is where its type is a section's, or where it has a child.
+pub fn section_at(s: &[u8], at: usize) -> Section
+    ensures { λ r. ⌜ r ≡ section (oneNode 255 (now (s .entry)) at) ⌝ }
+{
+    if is_section(u16_at(s, at) as usize) {
+        return Section::Kept;
+    }
+    match head_at(s, at) {
+        Head::Bad => Section::Kept,
+        Head::Of {
+            count: _,
+            below: count,
+            next,
+        } => {
+            if 0 < count {
+                Section::Kept
+            } else {
+                Section::Left { next }
+            }
+        }
+    }
+}
+
+// Counts the reported of the `n` top nodes from `at` on, with all below them.
+fn sections(s: &[u8], n: usize, at: usize) -> Part
+    ensures { λ r. ⌜ r ≡ partTop (nodesAt 256 (now (s .entry)) n at) ⌝ }
+{
+    let mut p = at;
+    let mut k = n;
+    let mut all: usize = 0;
+    let mut theirs: usize = 0;
+    while 0 < k {
+        match section_at(s, p) {
+            Section::Left { next } => {
+                p = next;
+                k = k - 1;
+            }
+            Section::Kept => match parse_node(s, p, 255) {
+                Part::Bad => {
+                    return Part::Bad;
+                }
+                Part::Of {
+                    controls,
+                    props,
+                    next,
+                } => {
+                    all = all + controls;
+                    theirs = theirs + props;
+                    p = next;
+                    k = k - 1;
+                }
+            },
+        }
+    }
+    Part::Of {
+        controls: all,
+        props: theirs,
+        next: p,
+    }
+}
+
+// Counts the tree behind the object's group, which ended by `trailer` at `at`. It must use up the stream.
+fn controls_of_tree(s: &[u8], trailer: u32, at: usize) -> Part
+    ensures { λ r. ⌜ r ≡ partTop (wholeTree (now (s .entry)) trailer at) ⌝ }
+{
+    let Children::Of { count: n, next: q } = children_at(s, trailer, at) else {
+        return Part::Bad;
+    };
+    match sections(s, n, q) {
+        Part::Bad => Part::Bad,
+        Part::Of {
+            controls,
+            props,
+            next,
+        } => {
+            if next == s.len() {
+                Part::Of {
+                    controls,
+                    props,
+                    next,
+                }
+            } else {
+                Part::Bad
+            }
+        }
+    }
+}
+
+// ---- the scan
+// The six bytes 14 00 0A 00 00 00 stand at `at`.
+fn match_at(s: &[u8], at: usize) -> bool
+    ensures { λ r. ⌜ r ≡ matchAt (now (s .entry)) at ⌝ }
+{
+    if s.len() < at {
+        return false;
+    }
+    if s.len() - at < 6 {
+        return false;
+    }
+    u16_at(s, at) == 0x14 && u32_at(s, at + 2) == 0x0A
+}
+
+// The first match from `from` on, or the end.
+pub fn find_match(s: &[u8], from: usize) -> usize
+    requires { ⌜ from ≤ length (now s) ⌝ }
+    ensures { λ r. ⌜ NextMatch (now (s .entry)) from r ⌝ }
+{
+    let mut p = from;
+    while p < s.len() {
+        if match_at(s, p) {
+            return p;
+        }
+        p = p + 1;
+    }
+    p
+}
+
+// How many properties the group has that reaches from a match to the next one.
+fn section_size(s: &[u8], limit: usize, at: usize) -> usize
+    requires { ⌜ limit ≤ length (now s) ⌝ }
+    ensures { λ r. ⌜ r ≡ length (groupAt (now (s .entry)) limit at .props) ⌝ }
+{
+    match parse_group(s, limit, at) {
+        Group::Unended { count, stop: _ } => count,
+        Group::Ended {
+            count,
+            stop: _,
+            trailer: _,
+        } => count,
+    }
+}
+
+// Counts what the scan from `from` on finds.
+fn scan_control_sections(s: &[u8], from: usize) -> Scanned
+    requires { ⌜ from ≤ length (now s) ⌝ }
+    ensures { λ r. ⌜ ScanCounted (now (s .entry)) from r ⌝ }
+{
+    let mut a = find_match(s, from);
+    let mut all: usize = 0;
+    let mut theirs: usize = 0;
+    while a < s.len() {
+        let b = find_match(s, a + 6);
+        let n = section_size(s, b, a);
+        if 0 < n {
+            all = all + 1;
+            theirs = theirs + n;
+            a = b;
+        } else {
+            a = b;
+        }
+    }
+    Scanned {
+        controls: all,
+        props: theirs,
+    }
+}
+
+// ---- the whole stream
+// The counts of a stream whose object's group, of `own` properties, stops at `stop`, and that has no tree.
+fn count_scanned(s: &[u8], own: usize, stop: usize) -> Counts
+    requires { ⌜ stop ≤ length (now s) ⌝ }
+    ensures { λ r. ⌜ CountedBy (now (s .entry)) own stop r ⌝ }
+{
+    let found = scan_control_sections(s, stop);
+    Counts {
+        tree: false,
+        own,
+        controls: found.controls,
+        props: found.props,
+    }
+}
+
+// Counts a stream of 14 bytes or more: by its tree where it has one, and by the scan otherwise.
+pub fn count(s: &[u8]) -> Counts
+    requires { ⌜ 14 ≤ length (now s) ⌝ }
+    ensures { λ r. ⌜ Counted (now (s .entry)) r ⌝ }
+{
+    match parse_group(s, s.len(), 14) {
+        Group::Unended { count, stop } => count_scanned(s, count, stop),
+        Group::Ended {
+            count,
+            stop,
+            trailer,
+        } => match controls_of_tree(s, trailer, stop) {
+            Part::Bad => count_scanned(s, count, stop),
+            Part::Of {
+                controls,
+                props,
+                next: _,
+            } => Counts {
+                tree: true,
+                own: count,
+                controls,
+                props,
+            },
+        },
+    }
+}
