@@ -18,7 +18,7 @@ use Rattle.rows.specs.Counting.{size1, size, props1, props, part1, part, partKe
 use Rattle.rows.specs.Acts.{Nodes, entryNodes, listNodes, keptNodes, _then_}
 use Rattle.rows.specs.declared.Part.{Part}
 use Rattle.rows.proofs.LevelLaws.{EntryGrows, EntriesGrow, Below, isMore, levels-none, levels-more, levels-grow}
-use Rattle.rows.proofs.TakenLaws.{part-of, part-bad, part1-room, part-room}
+use Rattle.rows.proofs.TakenLaws.{part-of, part-bad, part-room, part1-grows, part-grows}
 use Rattle.countlater.specs.Count.{group, groupBy, children, groupIn, childrenOf, headBy, head, oneNode, section, sectionBy}
 use Rattle.countlater.specs.declared.Group.{Group}
 use Rattle.countlater.specs.declared.Children.{Children}
@@ -206,11 +206,11 @@ unfolding nodesAt
 nodes-grow d s = levels-grow (nodeAt s) (node-grows s) d
 
 pub node-fits : (d : ℕ) (s : List ℕ) (p : ℕ) (r : Part) (c n e : ℕ) → r ≡ part1 (oneNode d s p) → r ≡ Part.Of c n e → p + c + n ≤ e
-node-fits d s p r c n e re rk = part1-room p (oneNode d s p) r c n e (node-grows s (nodesAt d s) (nodes-grow d s) p) re rk
+node-fits d s p r c n e re rk = part-room p (part1 (oneNode d s p)) c n e (part1-grows p (oneNode d s p) (node-grows s (nodesAt d s) (nodes-grow d s) p)) (sym re ∙ rk)
 
 -- what is counted of a node takes its bytes
 pub node-room : (d : ℕ) (s : List ℕ) (p c n q : ℕ) → Headed s p c n q → (v : Part) → v ≡ part (nodesAt d s n q) → (a m e : ℕ) → v ≡ Part.Of a m e → p + (1 + a) + (c + m) ≤ e
-node-room d s p c n q h v ve a m e vk = omega (arith, h .past, part-room q (nodesAt d s n q) v a m e (nodes-grow d s n q) ve vk)
+node-room d s p c n q h v ve a m e vk = omega (arith, h .past, part-room q (part (nodesAt d s n q)) a m e (part-grows q (nodesAt d s n q) (nodes-grow d s n q)) (sym ve ∙ vk))
 
 -- ---- the top list
 section-kept : (o : Option (Entry Prop × ℕ)) (r : Section) → r ≡ section o → r ≡ Section.Kept → Every (λ x. isReported (x .0) ≡ true) o

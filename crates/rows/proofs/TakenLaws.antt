@@ -34,29 +34,24 @@ top-bad none r p k = cc
 top-bad (some x) r p k = cc
 
 -- ---- what is counted takes its bytes
-pub part1-room : {P : Type 0} (p : ℕ) (o : Option (Entry P × ℕ)) (r : Part) (c n e : ℕ) → Every (EntryGrows p) o → r ≡ part1 o → r ≡ Part.Of c n e → p + c + n ≤ e
-part1-room p none r c n e g re rk = absurd (let z : _≡_ {A = ℕ} 0 1 = cc in omega arith)
-part1-room p (some x) r c n e g re rk =
-    let a : size1 (x .0) ≡ c = cc in
-    let b : props1 (x .0) ≡ n = cc in
-    let d : x .1 ≡ e = cc in
-    omega arith
+abbrev pub PartGrows : ℕ → Part → Type 0
+PartGrows p Part.Bad = Unit
+PartGrows p (Part.Of c n e) = p + c + n ≤ e
 
-pub part-room : {P : Type 0} (p : ℕ) (o : Option (Entries P × ℕ)) (r : Part) (c n e : ℕ) → Every (EntriesGrow p) o → r ≡ part o → r ≡ Part.Of c n e → p + c + n ≤ e
-part-room p none r c n e g re rk = absurd (let z : _≡_ {A = ℕ} 0 1 = cc in omega arith)
-part-room p (some x) r c n e g re rk =
-    let a : size (x .0) ≡ c = cc in
-    let b : props (x .0) ≡ n = cc in
-    let d : x .1 ≡ e = cc in
-    omega arith
+pub part-room : (p : ℕ) (r : Part) (c n e : ℕ) → PartGrows p r → r ≡ Part.Of c n e → p + c + n ≤ e
+part-room p r c n e g k = rw k at g
 
-pub top-room : {P : Type 0} (p : ℕ) (o : Option (Entries P × ℕ)) (r : Part) (c n e : ℕ) → Every (EntriesGrow p) o → r ≡ partTop o → r ≡ Part.Of c n e → p + c + n ≤ e
-top-room p none r c n e g re rk = absurd (let z : _≡_ {A = ℕ} 0 1 = cc in omega arith)
-top-room p (some x) r c n e g re rk =
-    let a : size (reported (x .0)) ≡ c = cc in
-    let b : props (reported (x .0)) ≡ n = cc in
-    let d : x .1 ≡ e = cc in
-    omega (arith, fewer (x .0))
+pub part1-grows : {P : Type 0} (p : ℕ) (o : Option (Entry P × ℕ)) → Every (EntryGrows p) o → PartGrows p (part1 o)
+part1-grows p none g = tt
+part1-grows p (some x) g = g
+
+pub part-grows : {P : Type 0} (p : ℕ) (o : Option (Entries P × ℕ)) → Every (EntriesGrow p) o → PartGrows p (part o)
+part-grows p none g = tt
+part-grows p (some x) g = g
+
+pub top-grows : {P : Type 0} (p : ℕ) (o : Option (Entries P × ℕ)) → Every (EntriesGrow p) o → PartGrows p (partTop o)
+top-grows p none g = tt
+top-grows p (some x) g = omega (arith, fewer (x .0))
 
 -- ---- one after the other
 -- c entries and n properties more than the answer says

@@ -9,20 +9,14 @@ use Rattle.countlater.proofs.MatchLaws.{match-past}
 use Rattle.countlater.proofs.match_at.Statement.{statement}
 use Rattle.countlater.proofs.match_at.Tie as tie
 
-returns-3 : tie.Need-returns-3
-unfolding matchAt
-returns-3 c = let a = c .before .before .before .before .before .before .args in simp (le-leb (a .at + 6) (length (a .s .now)) (omega arith), eq-eqb _ _ (sym (c .before .before .u16-at .ensures) ∙ c .before .if3 .taken), c .u32-at .ensures)
-
-returns-4 : tie.Need-returns-4
-unfolding matchAt
-returns-4 c = let a = c .before .before .before .before .before .args in simp (le-leb (a .at + 6) (length (a .s .now)) (omega arith), ne-eqb _ _ (λ e. c .if3 .left (c .before .u16-at .ensures ∙ e)), ne-eqb _ _ (c .if3 .left))
-
 pub match-at-spec : {M : Type 1} → statement M
+unfolding matchAt
 match-at-spec =
     tie.close
     (tie.spec
-    (λ c. sym (match-past _ _ (omega arith)))
+    (λ c. let a = c .before .before .args in sym (match-past (a .s .now) (a .at) (omega arith)))
     (λ c. search needs)
-    (λ c. sym (match-past _ _ (omega arith)))
+    (λ c. let a = c .before .before .before .args in sym (match-past (a .s .now) (a .at) (omega arith)))
     (λ c κs. search needs) (λ c. search needs) (λ c κs. search needs)
-    returns-3 returns-4)
+    (λ c. let a = c .before .before .before .before .before .before .args in simp (le-leb (a .at + 6) (length (a .s .now)) (omega arith), eq-eqb _ _ (sym (c .before .before .u16-at .ensures) ∙ c .before .if3 .taken), c .u32-at .ensures))
+    (λ c. let a = c .before .before .before .before .before .args in simp (le-leb (a .at + 6) (length (a .s .now)) (omega arith), ne-eqb _ _ (λ e. c .if3 .left (c .before .u16-at .ensures ∙ e)), ne-eqb _ _ (c .if3 .left))))
