@@ -1,0 +1,23 @@
+use mathlib.Core.Path.{ap, _∙_}
+use Rattle.oskuramos.specs.Handed.{handed}
+use borrow.Author.Needs.{needs}
+use Rattle.oskuramos.proofs.oskuramos_read_type_info.Statement.{statement}
+use Rattle.oskuramos.proofs.oskuramos_read_type_info.Tie as tie
+
+read-type-info-requires : tie.Need-read-type-info-requires
+read-type-info-requires c κs = search needs
+
+handed-requires : tie.Need-handed-requires
+handed-requires c κs = search needs
+
+same-length : tie.Need-same-length
+same-length c = search needs
+
+returns : tie.Need-returns
+returns c =
+    let e = c .before .before .before .read-type-info .ensures in
+    (c .handed .ensures ∙ ap handed (e .0), e .1)
+
+pub oskuramos-read-type-info-spec : {M : Type 1} → statement M
+oskuramos-read-type-info-spec =
+    tie.close (tie.spec read-type-info-requires handed-requires same-length returns)
