@@ -1,9 +1,18 @@
 // The functions that C and Rust call: each hands its arguments on to the proved function behind it.
 ghost use mathlib.Core.Path.{_≡_};
 ghost use Rattle.rules.specs.Blob.{exit};
+ghost use Rattle.rules.specs.CodeTable.{wellFormed};
+ghost use Rattle.rules.specs.NamePart.{namePart};
+ghost use Rattle.rules.specs.NameTables.{textNames, numberNames, bytesNames, controlTypeNames};
+ghost use Rattle.rules.specs.Names.{nameIn, namesFor};
+ghost use Rattle.rules.specs.Texts.{guidExit, labelExit};
 ghost use Rattle.rules.specs.TypeInfo.{typeInfoExit};
-ghost use Rattle.oskuramos.specs.Handed.{handed};
+ghost use Rattle.rules.specs.Utf16.{isUtf16};
+ghost use Rattle.rules.specs.Value.{entryValue, storedValue, valueAs};
+ghost use Rattle.names.specs.Lookup.{named};
+ghost use Rattle.oskuramos.specs.Handed.{handedAnswer, handedValue, handedName, handedPart, partOr};
 
+// ---- structs laid out as C's
 // Document 01's answer number with its three counts.
 #[repr(C)]
 pub struct Answer {
@@ -13,8 +22,32 @@ pub struct Answer {
     pub third: u32,
 }
 
-fn handed(a: rules::Answer) -> Answer
-    ensures { λ r. ⌜ r ≡ handed a ⌝ }
+// A property's value.
+#[repr(C)]
+pub struct Value {
+    pub mark: u32,
+    pub low: u32,
+    pub high: u32,
+}
+
+// A name's bytes, zeros after them, and how many there are. Nothing has the id where `found` is false.
+#[repr(C)]
+pub struct Name {
+    pub found: bool,
+    pub bytes: [u8; 26],
+    pub length: usize,
+}
+
+// A part of the stream (source 0) or of the label (source 1).
+#[repr(C)]
+pub struct Part {
+    pub source: u32,
+    pub start: u32,
+    pub length: u32,
+}
+
+fn handed_answer(a: rules::Answer) -> Answer
+    ensures { λ r. ⌜ r ≡ handedAnswer a ⌝ }
 {
     Answer {
         number: a.number,
@@ -24,6 +57,28 @@ fn handed(a: rules::Answer) -> Answer
     }
 }
 
+fn handed_value(v: rules::Value) -> Value
+    ensures { λ r. ⌜ r ≡ handedValue v ⌝ }
+{
+    Value {
+        mark: v.mark,
+        low: v.low,
+        high: v.high,
+    }
+}
+
+fn handed_name(n: names::Name) -> Name
+    ensures { λ r. ⌜ r ≡ handedName n ⌝ }
+{
+    let bytes = n.bytes;
+    Name {
+        found: n.found,
+        bytes,
+        length: n.len,
+    }
+}
+
+// ---- streams
 #[no_mangle]
 pub extern "C" fn oskuramos_read_blob(
     table: &[u8],
@@ -31,17 +86,143 @@ pub extern "C" fn oskuramos_read_blob(
     controls: &mut [u32],
     properties: &mut [u32],
 ) -> Answer
-    ensures { λ r. ⌜ r ≡ handed (exit (now (table .entry)) (now (stream .entry)) (now (controls .entry)) (now (properties .entry)) .answer) ⌝ }
+    ensures { λ r. ⌜ r ≡ handedAnswer (exit (now (table .entry)) (now (stream .entry)) (now (controls .entry)) (now (properties .entry)) .answer) ⌝ }
     ensures { λ _. ⌜ now (controls .exit) ≡ exit (now (table .entry)) (now (stream .entry)) (now (controls .entry)) (now (properties .entry)) .controls ⌝ }
     ensures { λ _. ⌜ now (properties .exit) ≡ exit (now (table .entry)) (now (stream .entry)) (now (controls .entry)) (now (properties .entry)) .properties ⌝ }
 {
-    handed(blob::read_blob(table, stream, controls, properties))
+    handed_answer(blob::read_blob(table, stream, controls, properties))
 }
 
 #[no_mangle]
 pub extern "C" fn oskuramos_read_type_info(stream: &[u8], rows: &mut [u32]) -> Answer
-    ensures { λ r. ⌜ r ≡ handed (typeInfoExit (now (stream .entry)) (now (rows .entry)) .answer) ⌝ }
+    ensures { λ r. ⌜ r ≡ handedAnswer (typeInfoExit (now (stream .entry)) (now (rows .entry)) .answer) ⌝ }
     ensures { λ _. ⌜ now (rows .exit) ≡ typeInfoExit (now (stream .entry)) (now (rows .entry)) .rows ⌝ }
 {
-    handed(typeinfo::read_type_info(stream, rows))
+    handed_answer(typeinfo::read_type_info(stream, rows))
+}
+
+#[no_mangle]
+pub extern "C" fn oskuramos_well_formed(table: &[u8]) -> bool
+    ensures { λ r. ⌜ r ≡ wellFormed (now (table .entry)) ⌝ }
+{
+    codetable::well_formed(table)
+}
+
+// ---- the name of a control
+// So many bytes from `start` on, where a slice of `size` bytes has them; the empty part at the stream's start where it doesn't.
+fn part_or(source: u32, size: usize, start: u32, length: u32) -> Part
+    ensures { λ r. ⌜ r ≡ partOr source size start length ⌝ }
+{
+    if size < start as usize + length as usize {
+        return Part {
+            source: 0,
+            start: 0,
+            length: 0,
+        };
+    }
+    Part {
+        source,
+        start,
+        length,
+    }
+}
+
+// Where the name of a control stands, by the words of its row: in the stream, or in the label for a numbered one.
+#[no_mangle]
+pub extern "C" fn oskuramos_control_name(
+    stream: &[u8],
+    label: &[u8],
+    mark: u32,
+    start: u32,
+    length: u32,
+) -> Part
+    ensures { λ r. ⌜ r ≡ handedPart (namePart (now (stream .entry)) (now (label .entry)) mark start length) ⌝ }
+{
+    match mark {
+        0 | 2 => part_or(0, stream.len(), start, length),
+        1 => part_or(1, label.len(), 0, length),
+        _ => part_or(0, 0, 0, 0),
+    }
+}
+
+// ---- text
+#[no_mangle]
+pub extern "C" fn oskuramos_guid_text(guid: &[u8], out: &mut [u8]) -> Answer
+    ensures { λ r. ⌜ r ≡ handedAnswer (guidExit (now (guid .entry)) (now (out .entry)) .answer) ⌝ }
+    ensures { λ _. ⌜ now (out .exit) ≡ guidExit (now (guid .entry)) (now (out .entry)) .out ⌝ }
+{
+    handed_answer(text::guid_text(guid, out))
+}
+
+#[no_mangle]
+pub extern "C" fn oskuramos_label_text(n: u32, out: &mut [u8]) -> Answer
+    ensures { λ r. ⌜ r ≡ handedAnswer (labelExit n (now (out .entry)) .answer) ⌝ }
+    ensures { λ _. ⌜ now (out .exit) ≡ labelExit n (now (out .entry)) .out ⌝ }
+{
+    handed_answer(text::label_text(n, out))
+}
+
+#[no_mangle]
+pub extern "C" fn oskuramos_is_utf16(bytes: &[u8]) -> bool
+    ensures { λ r. ⌜ r ≡ isUtf16 (now (bytes .entry)) ⌝ }
+{
+    leaf::is_utf16(bytes)
+}
+
+// ---- names by id
+#[no_mangle]
+pub extern "C" fn oskuramos_text_name(id: u16) -> Name
+    ensures { λ r. ⌜ r ≡ handedName (named (nameIn textNames id)) ⌝ }
+{
+    handed_name(names::text_name(id))
+}
+
+#[no_mangle]
+pub extern "C" fn oskuramos_number_name(id: u16) -> Name
+    ensures { λ r. ⌜ r ≡ handedName (named (nameIn numberNames id)) ⌝ }
+{
+    handed_name(names::number_name(id))
+}
+
+#[no_mangle]
+pub extern "C" fn oskuramos_bytes_name(id: u16) -> Name
+    ensures { λ r. ⌜ r ≡ handedName (named (nameIn bytesNames id)) ⌝ }
+{
+    handed_name(names::bytes_name(id))
+}
+
+#[no_mangle]
+pub extern "C" fn oskuramos_control_type_name(id: u16) -> Name
+    ensures { λ r. ⌜ r ≡ handedName (named (nameIn controlTypeNames id)) ⌝ }
+{
+    handed_name(names::control_type_name(id))
+}
+
+#[no_mangle]
+pub extern "C" fn oskuramos_value_name(mark: u32, id: u16) -> Name
+    ensures { λ r. ⌜ r ≡ handedName (named (nameIn (namesFor mark) id)) ⌝ }
+{
+    handed_name(names::value_name(mark, id))
+}
+
+// ---- values
+#[no_mangle]
+pub extern "C" fn oskuramos_entry_value(type_code: u32, bytes: &[u8]) -> Value
+    ensures { λ r. ⌜ r ≡ handedValue (entryValue «type_code» (now (bytes .entry))) ⌝ }
+{
+    handed_value(leaf::entry_value(type_code, bytes))
+}
+
+#[no_mangle]
+pub extern "C" fn oskuramos_stored_value(id: u8, bytes: &[u8]) -> Value
+    ensures { λ r. ⌜ r ≡ handedValue (storedValue id (now (bytes .entry))) ⌝ }
+{
+    handed_value(leaf::stored_value(id, bytes))
+}
+
+#[no_mangle]
+pub extern "C" fn oskuramos_value_as(kind: u8, id: u8, bytes: &[u8]) -> Value
+    ensures { λ r. ⌜ r ≡ handedValue (valueAs kind id (now (bytes .entry))) ⌝ }
+{
+    handed_value(leaf::value_as(kind, id, bytes))
 }

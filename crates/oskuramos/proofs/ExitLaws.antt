@@ -1,0 +1,11 @@
+-- What `read_blob` shows, taken apart.
+use Prim.Native.Nat.{ℕ}
+use mathlib.Core.Path.{_≡_, ap}
+use mathlib.Core.List.{List}
+use Rattle.rules.specs.Blob.{Exit}
+use Rattle.rules.specs.declared.Answer.{Answer}
+use Rattle.blob.specs.Exit.{exited}
+use Rattle.oskuramos.specs.Handed.{handedAnswer}
+
+pub apart : (a : Answer) (controls properties : List ℕ) (x : Exit) → exited a controls properties ≡ x → (handedAnswer a ≡ handedAnswer (x .answer)) × ((controls ≡ x .controls) × (properties ≡ x .properties))
+apart a controls properties x e = (ap (λ y. handedAnswer (y .answer)) e, (ap (λ y. y .controls) e, ap (λ y. y .properties) e))

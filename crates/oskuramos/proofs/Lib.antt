@@ -1,0 +1,2 @@
+pub mod ExitLaws
+pub mod PartLaws

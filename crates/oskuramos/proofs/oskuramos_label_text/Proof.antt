@@ -1,0 +1,23 @@
+use mathlib.Core.Path.{ap, _∙_}
+use Rattle.oskuramos.specs.Handed.{handedAnswer}
+use borrow.Author.Needs.{needs}
+use Rattle.oskuramos.proofs.oskuramos_label_text.Statement.{statement}
+use Rattle.oskuramos.proofs.oskuramos_label_text.Tie as tie
+
+label-text-requires : tie.Need-label-text-requires
+label-text-requires c κs = search needs
+
+handed-answer-requires : tie.Need-handed-answer-requires
+handed-answer-requires c κs = search needs
+
+same-length : tie.Need-same-length
+same-length c = search needs
+
+returns : tie.Need-returns
+returns c =
+    let e = c .before .before .before .label-text .ensures in
+    (c .handed-answer .ensures ∙ ap handedAnswer (e .0), e .1)
+
+pub oskuramos-label-text-spec : {M : Type 1} → statement M
+oskuramos-label-text-spec =
+    tie.close (tie.spec label-text-requires handed-answer-requires same-length returns)
