@@ -1,0 +1,260 @@
+/* Calls each function of the archive: document 01's worked example word for word, every refusal, and what stays unwritten. */
+#include "lent.h"
+#include "oskuramos.h"
+
+#include <stdio.h>
+#include <stdlib.h>
+#include <string.h>
+
+static int failures = 0;
+
+static void check(bool holds, const char *what) {
+    printf("%s %s\n", holds ? "ok    " : "FAILED", what);
+    if (!holds) failures++;
+}
+
+static bool is(oskuramos_answer a, uint32_t number, uint32_t first, uint32_t second, uint32_t third) {
+    return a.number == number && a.first == first && a.second == second && a.third == third;
+}
+
+/* ---- document 01's worked example (K1) */
+static const uint8_t table[17] = {0x2A, 0, 1, 0, 2, 0x64, 0, 2, 0, 0x60, 0x36, 0, 0, 0xDC, 0x14, 0, 1};
+static const uint8_t blob[26] = {0x2A, 0,    0, 0,    0,    0, 0,    0,    0,    0,    0x31, 5,    0xFE,
+                                 0x98, 0,    0xFE, 0x64, 0, 0x60, 0xFF, 0xFF, 0xDC, 2, 0x41, 0,    0xFD};
+static const uint32_t control_rows[12] = {0x98, 1, 0, 9, 1, 0, 0x64, 0, 23, 2, 1, 2};
+static const uint32_t property_rows[18] = {0x8031, 2, 5, 0, 11, 1, 0x36, 2, 0xFFFFFFFF, 0, 19, 2, 0x14, 6, 0, 0, 23, 2};
+
+static oskuramos_answer read_example(words *c, size_t controls_length, words *p, size_t properties_length) {
+    return oskuramos_read_blob(table, sizeof table, blob, sizeof blob, lend_words(c), controls_length, lend_words(p), properties_length);
+}
+
+static bool example_read(size_t controls_length, size_t properties_length) {
+    words c, p;
+    oskuramos_answer a = read_example(&c, controls_length, &p, properties_length);
+    return is(a, 0, 2, 3, 1) && memcmp(c.word + GUARD, control_rows, sizeof control_rows) == 0 &&
+           memcmp(p.word + GUARD, property_rows, sizeof property_rows) == 0 && words_kept(&c, 12) && words_kept(&p, 18);
+}
+
+static void worked_example(void) {
+    check(example_read(12, 18), "K1 with room for its rows: each word, and the guards");
+    check(example_read(17, 23), "K1 with five words more: no row fits there, and they stay");
+    check(example_read(ROOM, ROOM), "K1 with much room: rows beyond the count stay");
+}
+
+/* The lines of document 01's listing that need names, from the rows and the library alone. */
+static void print_name(oskuramos_name n) { printf(" %.*s", n.found ? (int)n.length : 1, n.found ? (const char *)n.bytes : "-"); }
+
+static void print_control(uint32_t n, const uint32_t *row) {
+    printf("C %u %04X", n, row[0]);
+    print_name(oskuramos_control_type_name((uint16_t)row[0]));
+    oskuramos_part part = oskuramos_control_name(blob, sizeof blob, NULL, 0, row[1], row[2], row[3]);
+    if (row[1] == 1) printf(" - %u %u\n", row[4], row[5]);
+    else printf(" %u %u %u\n", part.length / 2, row[4], row[5]);
+}
+
+static void print_property(uint32_t n, const uint32_t *row) {
+    printf("P %u %04X", n, row[0]);
+    print_name(oskuramos_value_name(row[1], (uint16_t)row[0]));
+    if (row[1] == OSKURAMOS_SHORT) printf(" short %d\n", (int)(int32_t)row[2]);
+    else if (row[1] == OSKURAMOS_TEXT) printf(" text %u\n", row[5] / 2);
+    else printf(" mark %u\n", row[1]);
+}
+
+static void listing(void) {
+    words c, p;
+    oskuramos_answer a = read_example(&c, ROOM, &p, ROOM);
+    printf("answer %u %u %u %u\n", a.number, a.first, a.second, a.third);
+    for (uint32_t i = 0; i < a.first; i++) print_control(i, c.word + GUARD + i * OSKURAMOS_CONTROL_WORDS);
+    for (uint32_t i = 0; i < a.second; i++) print_property(i, p.word + GUARD + i * OSKURAMOS_PROPERTY_WORDS);
+}
+
+/* ---- refusals of a Blob */
+static bool blob_refused(const uint8_t *t, size_t t_length, const uint8_t *s, size_t s_length, uint32_t number) {
+    words c, p;
+    oskuramos_answer a = oskuramos_read_blob(t, t_length, s, s_length, lend_words(&c), ROOM, lend_words(&p), ROOM);
+    return is(a, number, 0, 0, 0) && words_kept(&c, 0) && words_kept(&p, 0);
+}
+
+static bool example_lacks_room(size_t controls_length, size_t properties_length, uint32_t number) {
+    words c, p;
+    oskuramos_answer a = read_example(&c, controls_length, &p, properties_length);
+    return is(a, number, 2, 3, 1) && words_kept(&c, 0) && words_kept(&p, 0);
+}
+
+/* Zeros are properties of 18 bytes each from 14 on, in the later layout. */
+static bool longest_counted(const uint8_t *large) {
+    oskuramos_answer a = oskuramos_read_blob(table, sizeof table, large, OSKURAMOS_LONGEST, NULL, 0, NULL, 0);
+    return is(a, 7, 0, 932066, 932066);
+}
+
+static void blob_refusals(const uint8_t *large) {
+    check(blob_refused(table, sizeof table, blob, sizeof blob - 1, 4), "4 for a Blob whose last byte is missing");
+    check(blob_refused(table, sizeof table, large, OSKURAMOS_LONGEST + 1, 5), "5 for a Blob of 16,777,217 bytes");
+    check(longest_counted(large), "not 5 for a Blob of 16,777,216 bytes: its 932,066 properties are counted");
+    check(blob_refused(table, sizeof table - 1, large, OSKURAMOS_LONGEST + 1, 5), "5 before 8");
+    check(example_lacks_room(11, ROOM, 6), "6 for controls that lack a word");
+    check(example_lacks_room(ROOM, 17, 7), "7 for properties that lack a word");
+    check(example_lacks_room(11, 17, 6), "6 before 7");
+    check(example_lacks_room(0, 0, 6), "6 where nothing is lent");
+    check(blob_refused(table, sizeof table - 1, blob, sizeof blob, 8), "8 for a table whose last byte is missing");
+    check(blob_refused(table, sizeof table - 1, blob, 1, 8), "8 before 4");
+}
+
+/* ---- TypeInfo: a header with a count, then one entry with two names */
+static void type_info_stream(uint8_t s[48], uint8_t count) {
+    static const uint8_t magic[4] = {0xF7, 0xEA, 0xCD, 0xAC};
+    memset(s, 0, 48);
+    memcpy(s, magic, 4);
+    s[12] = count;
+    s[32] = 0x6D;
+    s[36] = 3;
+    memcpy(s + 40, "a\0Text\0", 8);
+}
+
+static bool info_answers(const uint8_t *s, size_t s_length, size_t room, uint32_t number, uint32_t first) {
+    words r;
+    oskuramos_answer a = oskuramos_read_type_info(s, s_length, lend_words(&r), room);
+    return is(a, number, first, 0, 0) && words_kept(&r, 0);
+}
+
+static bool info_read(const uint8_t *s) {
+    static const uint32_t row[4] = {0x6D, 3, 42, 4};
+    words r;
+    oskuramos_answer a = oskuramos_read_type_info(s, 48, lend_words(&r), ROOM);
+    return is(a, 0, 1, 0, 0) && memcmp(r.word + GUARD, row, sizeof row) == 0 && words_kept(&r, 4);
+}
+
+static void type_info(const uint8_t *large) {
+    uint8_t s[48];
+    type_info_stream(s, 1);
+    check(info_read(s), "TypeInfo of one entry: each word, and what stands beyond");
+    check(info_answers(s, 31, ROOM, 1, 0), "1 for TypeInfo of 31 bytes");
+    check(info_answers(large, OSKURAMOS_LONGEST + 1, ROOM, 5, 0), "5 for TypeInfo of 16,777,217 bytes");
+    check(info_answers(large, OSKURAMOS_LONGEST, ROOM, 2, 0), "not 5 for TypeInfo of 16,777,216 bytes");
+    check(info_answers(s, 48, 3, 6, 1), "6 for rows that lack a word");
+    type_info_stream(s, 3);
+    check(info_answers(s, 48, ROOM, 3, 0), "3 for a count of 3 in 48 bytes");
+    s[0] = 0xF6;
+    check(info_answers(s, 48, ROOM, 2, 0), "2 for another first byte, before 3");
+    check(info_answers(s, 31, ROOM, 1, 0), "1 before 2");
+}
+
+/* ---- text */
+static bool guid_refused(size_t guid_length, size_t out_length, uint32_t number) {
+    static const uint8_t guid[17] = {0};
+    bytes out;
+    oskuramos_answer a = oskuramos_guid_text(guid, guid_length, lend_bytes(&out), out_length);
+    return is(a, number, 0, 0, 0) && bytes_kept(&out, 0);
+}
+
+static bool guid_written(void) {
+    uint8_t guid[16];
+    bytes out;
+    for (uint8_t i = 0; i < 16; i++) guid[i] = i;
+    oskuramos_answer a = oskuramos_guid_text(guid, sizeof guid, lend_bytes(&out), ROOM);
+    return is(a, 0, 38, 0, 0) && memcmp(out.byte + GUARD, "{03020100-0504-0706-0809-0A0B0C0D0E0F}", 38) == 0 && bytes_kept(&out, 38);
+}
+
+static bool label_written(uint32_t n, const char *label) {
+    size_t size = strlen(label);
+    bytes out;
+    bool right = is(oskuramos_label_text(n, lend_bytes(&out), size), 0, (uint32_t)size, 0, 0) && memcmp(out.byte + GUARD, label, size) == 0;
+    right = right && bytes_kept(&out, size);
+    return right && is(oskuramos_label_text(n, lend_bytes(&out), size - 1), 9, 0, 0, 0) && bytes_kept(&out, 0);
+}
+
+static void texts(void) {
+    check(guid_written(), "K11: GUID text, and bytes beyond it stay");
+    check(guid_refused(16, 37, 9), "9 for GUID text in 37 bytes");
+    check(guid_refused(15, ROOM, 10) && guid_refused(17, ROOM, 10), "10 for a GUID of 15 or 17 bytes");
+    check(guid_refused(15, 37, 10), "10 before 9");
+    check(label_written(0, "Control_0"), "the label of 0, and 9 for a byte too few");
+    check(label_written(10, "Control_10"), "the label of 10, and 9 for a byte too few");
+    check(label_written(UINT32_MAX, "Control_4294967295"), "the longest label, and 9 for a byte too few");
+    check(oskuramos_is_utf16((const uint8_t *)"\x3D\xD8\x00\xDE", 4), "K10: a pair of surrogates is UTF-16");
+    check(!oskuramos_is_utf16((const uint8_t *)"\x3D\xD8", 2), "K10: half of it isn't");
+}
+
+/* ---- parts */
+static bool part_is(uint32_t mark, uint32_t start, uint32_t length, uint32_t source, uint32_t part_start, uint32_t part_length) {
+    static const uint8_t label[9] = "Control_";
+    oskuramos_part p = oskuramos_control_name(blob, sizeof blob, label, sizeof label, mark, start, length);
+    return p.source == source && p.start == part_start && p.length == part_length;
+}
+
+static void parts(void) {
+    check(part_is(0, 23, 2, OSKURAMOS_OF_STREAM, 23, 2), "a text name is a part of the stream");
+    check(part_is(2, 24, 2, OSKURAMOS_OF_STREAM, 24, 2), "text that isn't UTF-16 too, to the stream's end");
+    check(part_is(1, 5, 9, OSKURAMOS_OF_LABEL, 0, 9), "a numbered name is the label's first bytes");
+    check(part_is(0, 25, 2, OSKURAMOS_OF_STREAM, 0, 0), "a part past the stream is the empty part");
+    check(part_is(0, UINT32_MAX, 2, OSKURAMOS_OF_STREAM, 0, 0), "a start and length that pass 2^32 too");
+    check(part_is(1, 0, 10, OSKURAMOS_OF_STREAM, 0, 0), "a part past the label is the stream's empty part");
+    check(part_is(3, 23, 2, OSKURAMOS_OF_STREAM, 0, 0), "mark 3 is the empty part");
+}
+
+/* ---- names and values */
+static bool named(oskuramos_name n, const char *name) {
+    size_t size = strlen(name);
+    bool zeros = true;
+    for (size_t i = size; i < sizeof n.bytes; i++) zeros = zeros && n.bytes[i] == 0;
+    return n.found == (size > 0) && n.length == size && memcmp(n.bytes, name, size) == 0 && zeros;
+}
+
+static void names(void) {
+    check(named(oskuramos_text_name(0x1B), "ControlSource"), "a text name");
+    check(named(oskuramos_number_name(0x36), "Left"), "a number name");
+    check(named(oskuramos_number_name(0x13E), "DatasheetGridlinesBehavior"), "a name of 26 bytes");
+    check(named(oskuramos_bytes_name(0x178), "GUID"), "a bytes name");
+    check(named(oskuramos_control_type_name(0x1899), "FormHeader"), "a control type's name");
+    check(named(oskuramos_value_name(8, 0x14), "Name"), "a value's name by its mark");
+    check(named(oskuramos_value_name(9, 0x14), ""), "no name for mark 9");
+    check(named(oskuramos_text_name(0xFFFF), ""), "no name for an id that no row has");
+}
+
+static bool valued(oskuramos_value v, uint32_t mark, uint32_t low, uint32_t high) { return v.mark == mark && v.low == low && v.high == high; }
+
+static void values(void) {
+    static const uint8_t largest[4] = {0xFF, 0x7F, 0, 0}, above[4] = {0, 0x80, 0, 0}, one[2] = {1, 0}, single[4] = {0, 0, 0xC0, 0x3F};
+    static const uint8_t letter[2] = {0x41, 0};
+    check(valued(oskuramos_entry_value(2, largest, 4), OSKURAMOS_SHORT, 32767, 0), "K2: Short 32767");
+    check(valued(oskuramos_entry_value(2, above, 4), OSKURAMOS_BINARY, 0, 0), "K2: Binary above it");
+    check(valued(oskuramos_entry_value(2, largest, 1), OSKURAMOS_SHORT, 255, 0), "K3: Short 255");
+    check(valued(oskuramos_entry_value(1, one, 2), OSKURAMOS_LONG, 1, 0), "K4: Long 1");
+    check(valued(oskuramos_entry_value(1, NULL, 0), OSKURAMOS_NOT_DEFAULT, 0, 0), "K5: NotDefault");
+    check(valued(oskuramos_entry_value(6, single, 4), OSKURAMOS_DOUBLE, 0, 0x3FF80000), "K12: a single widened");
+    check(valued(oskuramos_stored_value(0x60, one, 2), OSKURAMOS_SHORT, 1, 0), "a stored Short");
+    check(valued(oskuramos_stored_value(0xDC, letter, 2), OSKURAMOS_BINARY, 0, 0), "stored bytes are Binary");
+    check(valued(oskuramos_value_as(1, 0xDC, letter, 2), OSKURAMOS_TEXT, 0, 0), "and Text by kind 1");
+    check(valued(oskuramos_value_as(1, 0xDC, letter, 1), OSKURAMOS_BINARY, 0, 0), "but not where they aren't UTF-16");
+}
+
+/* ---- empty slices by null */
+static void nulls(void) {
+    check(oskuramos_read_blob(NULL, 0, NULL, 0, NULL, 0, NULL, 0).number == 8, "null for all that read_blob is lent");
+    check(is(oskuramos_read_blob(table, sizeof table, NULL, 0, NULL, 0, NULL, 0), 0, 0, 0, 0), "null for an empty stream, and no room");
+    check(oskuramos_read_type_info(NULL, 0, NULL, 0).number == 1, "null for all that read_type_info is lent");
+    check(!oskuramos_well_formed(NULL, 0) && oskuramos_well_formed(table, sizeof table), "null for a code table");
+    check(oskuramos_guid_text(NULL, 0, NULL, 0).number == 10, "null for a GUID and its text");
+    check(oskuramos_label_text(0, NULL, 0).number == 9, "null for a label");
+    check(oskuramos_is_utf16(NULL, 0), "null for no bytes at all, which are UTF-16");
+    check(oskuramos_control_name(NULL, 0, NULL, 0, 0, 0, 1).length == 0, "null for stream and label");
+    check(valued(oskuramos_stored_value(0x60, NULL, 0), OSKURAMOS_SHORT, 0, 0), "null for a stored value");
+    check(valued(oskuramos_value_as(2, 0xDC, NULL, 0), OSKURAMOS_BINARY, 0, 0), "null for a value by kind");
+}
+
+int main(void) {
+    uint8_t *large = calloc(OSKURAMOS_LONGEST + 1, 1);
+    if (large == NULL) return 2;
+    worked_example();
+    listing();
+    blob_refusals(large);
+    type_info(large);
+    texts();
+    parts();
+    names();
+    values();
+    nulls();
+    free(large);
+    printf("%d failed\n", failures);
+    return failures == 0 ? 0 : 1;
+}
