@@ -1,7 +1,7 @@
 -- The counting pass: what each function answers.
 use Prim.Native.Nat.{ℕ, _≤_, _<_, _+_}
 use mathlib.Core.Path.{_≡_}
-use mathlib.Core.Bool.{Bool, true, false, cond}
+use mathlib.Core.Bool.{Bool, true, false, cond, _||_}
 use mathlib.Core.List.{List}
 use mathlib.Core.Option.{Option, none, some}
 use lib.Dec.{eqb}
@@ -70,6 +70,10 @@ wholeTree s trailer p = do
   (n, q) ← childrenAt s trailer p
   (es, e) ← nodesAt levels s n q
   cond (eqb e (length s)) (some (es, e)) none
+
+-- one of the bytes of a match
+unfoldable pub inMatch : ℕ → Bool
+inMatch b = eqb b 0x00 || eqb b 0x0A || eqb b 0x14
 
 -- r is the first match from p on, or the end
 pub record NextMatch (s : List ℕ) (p r : ℕ) : Type 0 where

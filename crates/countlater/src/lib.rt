@@ -8,7 +8,7 @@ ghost use Prim.Native.Nat.{_+_, _≤_};
 ghost use lib.ListN.{length};
 ghost use Rattle.rules.specs.Later.{endsGroup, groupAt, childrenAt, nodesAt, matchAt};
 ghost use Rattle.rows.specs.Counting.{part1, part, partTop};
-ghost use Rattle.countlater.specs.Count.{item, group, children, head, oneNode, section, wholeTree, NextMatch, ScanCounted, CountedBy, Counted};
+ghost use Rattle.countlater.specs.Count.{item, group, children, head, oneNode, section, wholeTree, inMatch, NextMatch, ScanCounted, CountedBy, Counted};
 
 // ---- properties and groups
 // A property: its value's size, where the next one starts, and its trailer.
@@ -320,19 +320,36 @@ fn match_at(s: &[u8], at: usize) -> bool
     u16_at(s, at) == 0x14 && u32_at(s, at + 2) == 0x0A
 }
 
-// The first match from `from` on, or the end.
+// One of the bytes of a match.
+fn in_match(b: u8) -> bool
+    ensures { λ r. ⌜ r ≡ inMatch b ⌝ }
+{
+    if b == 0x00 {
+        return true;
+    }
+    if b == 0x0A {
+        return true;
+    }
+    b == 0x14
+}
+
+// The first match from `from` on, or the end. Six places hold none where the sixth byte is no match's.
 pub fn find_match(s: &[u8], from: usize) -> usize
     requires { ⌜ from ≤ length (now s) ⌝ }
     ensures { λ r. ⌜ NextMatch (now (s .entry)) from r ⌝ }
 {
     let mut p = from;
-    while p < s.len() {
-        if match_at(s, p) {
-            return p;
+    while 5 < s.len() - p {
+        if in_match(s[p + 5]) {
+            if match_at(s, p) {
+                return p;
+            }
+            p = p + 1;
+        } else {
+            p = p + 6;
         }
-        p = p + 1;
     }
-    p
+    s.len()
 }
 
 // How many properties the group has that reaches from a match to the next one.
