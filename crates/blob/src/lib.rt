@@ -6,7 +6,7 @@ ghost use Prim.Native.Nat.{_+_};
 ghost use Rattle.rules.specs.Answer.{refusal};
 ghost use Rattle.rules.specs.Blob.{is2000, exit};
 ghost use Rattle.rules.specs.NamePart.{namePart, partBytes};
-ghost use Rattle.blob.specs.Exit.{exited, partOr};
+ghost use Rattle.blob.specs.Exit.{exited, partOr, placeOr, partPlace};
 
 fn refused(number: u32) -> Answer
     ensures { λ r. ⌜ r ≡ refusal number ⌝ }
@@ -53,6 +53,7 @@ pub fn read_blob(
 // The part of `s` from `start` on, of so many bytes; the empty part at the start of `other` where `s` doesn't have it.
 fn part_or<'a>(s: &'a [u8], start: usize, length: usize, other: &'a [u8]) -> &'a [u8]
     ensures { λ r. ⌜ now r ≡ partOr (now (s .entry)) start length ⌝ }
+    ensures { λ r. ⌜ r .ptr ≡ placeOr (now (s .entry)) (s .entry .ptr) start length (other .entry .ptr) ⌝ }
 {
     if s.len() < start {
         return &other[..0];
@@ -63,7 +64,7 @@ fn part_or<'a>(s: &'a [u8], start: usize, length: usize, other: &'a [u8]) -> &'a
     &s[start..start + length]
 }
 
-// The name of a control by the words of its row: a part of the stream, or of the label buffer for a numbered one.
+// The name of a control by the words of its row: a part of the stream, or of the label buffer for a numbered one. Its bytes, and where they stand.
 pub fn control_name<'a>(
     stream: &'a [u8],
     label: &'a [u8],
@@ -72,6 +73,7 @@ pub fn control_name<'a>(
     length: u32,
 ) -> &'a [u8]
     ensures { λ r. ⌜ now r ≡ partBytes (now (stream .entry)) (now (label .entry)) (namePart (now (stream .entry)) (now (label .entry)) mark start length) ⌝ }
+    ensures place { λ r. ⌜ r .ptr ≡ partPlace (stream .entry .ptr) (label .entry .ptr) (namePart (now (stream .entry)) (now (label .entry)) mark start length) ⌝ }
 {
     match mark {
         0 | 2 => part_or(stream, start as usize, length as usize, stream),

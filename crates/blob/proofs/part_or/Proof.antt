@@ -1,6 +1,6 @@
--- `part_or` gives the part, or nothing where the slice does not have it.
+-- `part_or` gives the part, or nothing where the slice does not have it; and it says where that stands.
 use native.Mathlib.Omega.{arith}
-use Rattle.blob.proofs.PartLaws.{outside, inside}
+use Rattle.blob.proofs.PartLaws.{outside, inside, outside-at, inside-at}
 use borrow.Author.Needs.{needs}
 use Rattle.blob.proofs.part_or.Statement.{statement}
 use Rattle.blob.proofs.part_or.Tie as tie
@@ -9,7 +9,7 @@ slice-aggregate-result : tie.Need-slice-aggregate-result
 slice-aggregate-result c = search needs
 
 returns : tie.Need-returns
-returns c = let a = c .before .before .args in outside (a .s .now) (a .start) (a .length) (omega arith)
+returns c = let a = c .before .before .args in (outside (a .s .now) (a .start) (a .length) (omega arith), outside-at (a .s .now) (a .s .ptr) (a .start) (a .length) (a .other .ptr) (omega arith))
 
 sub-if2 : tie.Need-sub-if2
 sub-if2 c = search needs
@@ -18,7 +18,7 @@ slice-aggregate-result-2 : tie.Need-slice-aggregate-result-2
 slice-aggregate-result-2 c = search needs
 
 returns-2 : tie.Need-returns-2
-returns-2 c = let a = c .before .before .before .args in outside (a .s .now) (a .start) (a .length) (omega arith)
+returns-2 c = let a = c .before .before .before .args in (outside (a .s .now) (a .start) (a .length) (omega arith), outside-at (a .s .now) (a .s .ptr) (a .start) (a .length) (a .other .ptr) (omega arith))
 
 add-result : tie.Need-add-result
 add-result c = search needs
@@ -33,7 +33,7 @@ part-result-end : tie.Need-part-result-end
 part-result-end c = search needs
 
 returns-3 : tie.Need-returns-3
-returns-3 c = let a = c .before .before .before .args in inside (a .s .now) (a .start) (a .length) (omega arith)
+returns-3 c = let a = c .before .before .before .args in (inside (a .s .now) (a .start) (a .length) (omega arith), inside-at (a .s .now) (a .s .ptr) (a .start) (a .length) (a .other .ptr) (omega arith))
 
 pub part-or-spec : {M : Type 1} → statement M
 part-or-spec =
