@@ -6,5 +6,7 @@ pub mod Has
 pub mod Sound
 pub mod Complete
 pub mod Demand3
-pub mod OneResult
+pub mod Counts
+pub mod Always
+pub mod Calls
 mod Example

@@ -3,9 +3,10 @@ use Rattle.rules.specs.Examples.{Examples}
 use Rattle.claims.specs.Demand1.{Demand1}
 use Rattle.claims.specs.Demand2.{Demand2}
 use Rattle.claims.specs.Demand3.{Demand3}
-use Rattle.claims.specs.OneResult.{OneResult}
+use Rattle.claims.specs.Counts.{Counts}
+use Rattle.claims.specs.Calls.{Calls}
 
-pub record Claims : Type 0 where
+pub record Claims : Type 2 where
   -- K1 to K12 of document 01
   pub examples : Examples
   -- an answer for everything, and a refusal changes nothing
@@ -14,5 +15,7 @@ pub record Claims : Type 0 where
   pub demand2 : Demand2
   -- two code tables over one stream
   pub demand3 : Demand3
-  -- what is said of a call leaves one result only
-  pub one-result : OneResult
+  -- counts are those of the reading
+  pub counts : Counts
+  -- all that of the public functions themselves, and that their contracts allow one result only
+  pub calls : Calls

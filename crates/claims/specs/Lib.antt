@@ -8,4 +8,7 @@ pub mod Shown  -- what is reported of it
 pub mod Contents  -- what a stream is read as, in the grammar's terms
 pub mod Demand2
 pub mod Demand3
-pub mod OneResult
+pub mod Counts
+pub mod Always  -- what can be said of a function itself
+pub mod Functions  -- the public functions
+pub mod Calls  -- demands 1 to 3 of the functions, and that their contracts allow one result

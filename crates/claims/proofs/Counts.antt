@@ -1,4 +1,4 @@
--- One result, and counts that are the reading's.
+-- Counts are the reading's.
 use Prim.Native.Nat.{ℕ, _*_, _/_, _≤_}
 use native.Mathlib.Omega.{arith}
 use mathlib.Core.Path.{_≡_, refl, sym, ap, _∙_}
@@ -19,11 +19,8 @@ use Rattle.rules.specs.Blob.{Outcome, refused, read, counted, readingOf, fit, o
 use Rattle.rules.proofs.RowsLaws.{Wide, written-is}
 use Rattle.rules.proofs.ReadingLaws.{controls-wide, properties-wide, controls-counted, properties-counted}
 use Rattle.claims.specs.Answers.{TypeInfoAnswer}
-use Rattle.claims.specs.OneResult.{Determined, Counted, InfoCounted, OneResult}
+use Rattle.claims.specs.Counts.{Counted, InfoCounted, Counts}
 use Rattle.claims.proofs.Answers.{info-told}
-
-determined : {A : Type 0} (said : A) → Determined said
-determined said x y p q = p ∙ sym q
 
 -- ---- a reading that is given has room
 module _ (c p : ℕ) (r : Reading) where
@@ -107,27 +104,5 @@ info-counts s rows e =
         → written (typeInfoRows s) rows ≡ concat (typeInfoRows s) ++ drop (length (typeInfoRows s) * typeInfoWidth) rows
     words m h = written-is typeInfoWidth (typeInfoRows s) (unfold typeInfoRows in info-wide (typeInfoOf s)) rows (omega arith)
 
-pub one-result : OneResult
-one-result = record {
-  read-blob = λ t s cs ps. determined _;
-  read-type-info = λ s rows. determined _;
-  guid-text = λ g out. determined _;
-  label-text = λ n out. determined _;
-  names = λ table id. determined _;
-  filled-names = λ table id. determined _;
-  names-by-mark = λ mark id. determined _;
-  control-name = λ s l m a n. determined _;
-  well-formed = λ t. determined _;
-  header-codes = λ t. determined _;
-  table-row = λ t k c id. determined _;
-  utf16 = λ b. determined _;
-  integer-value = λ b. determined _;
-  yes-no-value = λ b. determined _;
-  entry-value = λ t b. determined _;
-  stored-value = λ i b. determined _;
-  value-as = λ k i b. determined _;
-  single = λ b. determined _;
-  formlist = λ input. determined _;
-  counts = counts;
-  info-counts = info-counts;
-}
+pub counts-hold : Counts
+counts-hold = record { counts = counts; info-counts = info-counts }
