@@ -1,9 +1,9 @@
 -- What is promised of the public functions holds: each function's theorem (`met`) says its contract of its code.
 use Prim.Native.Nat.{ℕ}
 use mathlib.Core.Path.{_≡_, refl, sym, subst, _∙_}
-use mathlib.Core.List.{List}
+use mathlib.Core.List.{List, []}
 use lib.Ieee.{binary32, binary64, ofBits}
-use denote.Ref.{now}
+use denote.Ref.{RefT, now}
 use Rattle.rules.specs.Texts.{TextExit, guidExit, labelExit}
 use Rattle.rules.specs.TypeInfo.{TypeInfoExit, typeInfoExit}
 use Rattle.rules.specs.Value.{widened}
@@ -48,6 +48,19 @@ blob-met w = read-blob-code.met (w .𝓤) (w .H) (w .𝓜) (w .𝓖) (w .𝓡)
 of-blob : (said : List ℕ → List ℕ → List ℕ → List ℕ → Exit → Type 0) → ((t s c p : List ℕ) → said t s c p (exit t s c p)) → calls.OfReadBlob said
 of-blob said h = so f.read-blob (f.read-blob .says) _ (λ κs a r e q. subst (said _ _ _ _) (sym q) (h _ _ _ _)) blob-met
 
+-- slices of these words, at some place
+abbrev lent : List ℕ → RefT (List ℕ)
+lent words = record { ptr = (0, 0); name = 0; now = words }
+
+abbrev call-of : List ℕ → List ℕ → List ℕ → List ℕ → calls.Call
+call-of t s c p = record {
+  κs = ([], ([], ([], ([], tt))));
+  handed = (lent t, (lent s, (lent c, (lent p, tt))));
+  answer = exit t s c p .answer;
+  left = (tt, (tt, (exit t s c p .controls, (exit t s c p .properties, tt))));
+  allowed = refl;
+}
+
 read-blobs : calls.ReadBlob
 read-blobs = record {
   is-exit = so f.read-blob (f.read-blob .says) _ (λ κs a r e q. q) blob-met;
@@ -64,6 +77,7 @@ read-blobs = record {
       ∙ demand3 .later-same (calls.table a) (calls.table b) (calls.stream a) (calls.controls a) (calls.properties a) h n
       ∙ (λ i. exit (calls.table b) (s i) (c i) (p i))
       ∙ sym (b .allowed);
+  allows = λ t s c p. record { call = call-of t s c p; its-table = refl; its-stream = refl; its-controls = refl; its-properties = refl };
   one-result = λ c d t s x y. c .allowed ∙ (λ i. exit (t i) (s i) (x i) (y i)) ∙ sym (d .allowed);
 }
 

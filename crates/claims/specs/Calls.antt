@@ -89,6 +89,14 @@ Accepts table stream controls properties seen =
 abbrev pub JudgesIt : List ℕ → List ℕ → List ℕ → List ℕ → Exit → Type 0
 JudgesIt table stream controls properties seen = Given table stream → Judges table stream (seen .answer)
 
+-- a call of these words
+pub record CallOf (table′ stream′ controls′ properties′ : List ℕ) : Type 0 where
+  pub call : Call
+  pub its-table : table call ≡ table′
+  pub its-stream : stream call ≡ stream′
+  pub its-controls : controls call ≡ controls′
+  pub its-properties : properties call ≡ properties′
+
 pub record ReadBlob : Type 2 where
   -- its contract is the equation with the definition
   pub is-exit : OfReadBlob (λ table stream controls properties seen. seen ≡ exit table stream controls properties)
@@ -110,7 +118,8 @@ pub record ReadBlob : Type 2 where
       → stream older ≡ stream newer → controls older ≡ controls newer → properties older ≡ properties newer
       → ¬ (is2000 (table older) (stream older) ≡ true)
       → seen older ≡ seen newer
-  -- "any two results it allows are proved equal"
+  -- the contract allows a call of any words, and "any two results it allows are proved equal"
+  pub allows : (table stream controls properties : List ℕ) → CallOf table stream controls properties
   pub one-result : (c d : Call) → table c ≡ table d → stream c ≡ stream d → controls c ≡ controls d → properties c ≡ properties d → seen c ≡ seen d
 
 -- ---- read_type_info(stream, rows)
