@@ -1,6 +1,6 @@
 -- Demand 1. Every stream, code table and buffer length gets an answer. Bad input is refused by number, nothing is asked of the caller
 -- beforehand, and a refused call changes no byte of any buffer.
--- (That there is always an answer is said by the definitions being functions of every list.)
+-- (Here of the definitions, which are functions of every list; `Calls.antt` says it of every call of the functions.)
 use Prim.Native.Nat.{ℕ}
 use mathlib.Core.Path.{_≡_}
 use mathlib.Core.List.{List}
