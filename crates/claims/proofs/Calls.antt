@@ -15,6 +15,7 @@ use Rattle.claims.specs.Answers.{GuidAnswer, LabelAnswer}
 use Rattle.claims.specs.Demand1.{Blobs, TypeInfos, Texts}
 use Rattle.claims.specs.Demand2.{Judges}
 use Rattle.claims.specs.Demand3.{Successor, SameBut}
+use Rattle.claims.specs.Counts.{Counts, InfoCounts}
 use Rattle.claims.specs.Always.{Always}
 use Rattle.codetable.proofs.well_formed.Met as well-formed-code
 use Rattle.names.proofs.text_name.Met as text-name-code
@@ -39,6 +40,7 @@ use Rattle.claims.proofs.Always.{so, together}
 use Rattle.claims.proofs.Demand1.{demand1}
 use Rattle.claims.proofs.Demand2.{demand2}
 use Rattle.claims.proofs.Demand3.{demand3}
+use Rattle.claims.proofs.Counts.{counts-hold}
 
 -- ---- read_blob
 blob-met : Always f.read-blob (f.read-blob .says)
@@ -67,6 +69,7 @@ read-blobs = record {
   demand1 = of-blob Blobs (demand1 .blobs);
   demand2 = of-blob calls.Accepts (demand2 .accepted);
   demand2-judges = of-blob calls.JudgesIt (demand2 .judges);
+  counts = of-blob Counts (counts-hold .blobs);
   demand3 = λ a b h s c p o.
       subst (λ x. SameBut (calls.table a) (calls.table b) (calls.stream a) x (calls.seen b)) (sym (a .allowed))
       (subst (SameBut (calls.table a) (calls.table b) (calls.stream a) (exit (calls.table a) (calls.stream a) (calls.controls a) (calls.properties a)))
@@ -118,6 +121,7 @@ read-type-infos : calls.ReadTypeInfo
 read-type-infos = record {
   is-exit = of-info (λ s rows seen. seen ≡ typeInfoExit s rows) (λ s rows. refl);
   demand1 = of-info TypeInfos (demand1 .type-infos);
+  counts = of-info InfoCounts (counts-hold .type-infos);
   one-result = λ κs a r r′ x y p q. (p .0 ∙ sym (q .0), λ i. (tt, ((p .1 ∙ sym (q .1)) i, tt)));
 }
 

@@ -19,7 +19,7 @@ use Rattle.rules.specs.Blob.{Outcome, refused, read, counted, readingOf, fit, o
 use Rattle.rules.proofs.RowsLaws.{Wide, written-is}
 use Rattle.rules.proofs.ReadingLaws.{controls-wide, properties-wide, controls-counted, properties-counted}
 use Rattle.claims.specs.Answers.{TypeInfoAnswer}
-use Rattle.claims.specs.Counts.{Counted, InfoCounted, Counts}
+use Rattle.claims.specs.Counts.{Counted, InfoCounted, AllCounts}
 use Rattle.claims.proofs.Answers.{info-told}
 
 -- ---- a reading that is given has room
@@ -57,7 +57,7 @@ module _ (t s cs ps : List ℕ) (r : Reading) (e : outcome t s (room controlWidt
   unfolding exit
   exit-is = ap (λ o. exitBy o cs ps) e
 
-  counts : Counted t s cs ps r
+  counts : Counted cs ps r (exit t s cs ps)
   unfolding controlRows propertyRows
   counts =
       let h = outcome-room t s (room controlWidth cs) (room propertyWidth ps) r e in
@@ -90,7 +90,7 @@ info-room s rows _ (TypeInfoAnswer.three h k m l) e = absurd (omega arith)
 info-room s rows _ (TypeInfoAnswer.six n h) e = absurd (omega arith)
 info-room s rows _ (TypeInfoAnswer.zero n h) e = (refl, h)
 
-info-counts : (s rows : List ℕ) → typeInfoExit s rows .answer .number ≡ 0 → InfoCounted s rows
+info-counts : (s rows : List ℕ) → typeInfoExit s rows .answer .number ≡ 0 → InfoCounted s rows (typeInfoExit s rows)
 unfolding typeInfoExit
 info-counts s rows e =
     let h = info-room s rows (typeInfoAnswer s (room typeInfoWidth rows)) (info-told s rows) e in
@@ -104,5 +104,5 @@ info-counts s rows e =
         → written (typeInfoRows s) rows ≡ concat (typeInfoRows s) ++ drop (length (typeInfoRows s) * typeInfoWidth) rows
     words m h = written-is typeInfoWidth (typeInfoRows s) (unfold typeInfoRows in info-wide (typeInfoOf s)) rows (omega arith)
 
-pub counts-hold : Counts
-counts-hold = record { counts = counts; info-counts = info-counts }
+pub counts-hold : AllCounts
+counts-hold = record { blobs = counts; type-infos = info-counts }

@@ -28,6 +28,7 @@ use Rattle.claims.specs.Answers.{GuidAnswer, LabelAnswer}
 use Rattle.claims.specs.Demand1.{Blobs, TypeInfos, Texts}
 use Rattle.claims.specs.Demand2.{Given, Enough, Spelled, Judges}
 use Rattle.claims.specs.Demand3.{Successor, SameBut}
+use Rattle.claims.specs.Counts.{Counts, InfoCounts}
 use Rattle.claims.specs.Always.{Always, OneResult, Gives}
 use Rattle.claims.specs.Functions.{
   read-blob,
@@ -107,6 +108,8 @@ pub record ReadBlob : Type 2 where
   pub demand2 : OfReadBlob Accepts
   -- and for any room: 4 exactly when the bytes spell nothing, one of 0, 6 and 7 when they spell something, with its counts
   pub demand2-judges : OfReadBlob JudgesIt
+  -- "counts are those of the reading", and so are the rows
+  pub counts : OfReadBlob Counts
   -- "over the same Access 2000 stream and room both give the same answer number, controls, names and property count, and on answer 0 a property
   -- differs exactly where .."
   pub demand3 : (older newer : Call) → Successor (table older) (table newer)
@@ -129,6 +132,7 @@ OfReadTypeInfo said = Always read-type-info (λ κs a r e. said (now (a .0)) (no
 pub record ReadTypeInfo : Type 2 where
   pub is-exit : OfReadTypeInfo (λ stream rows seen. seen ≡ typeInfoExit stream rows)
   pub demand1 : OfReadTypeInfo TypeInfos
+  pub counts : OfReadTypeInfo InfoCounts
   pub one-result : OneResult read-type-info
 
 -- ---- guid_text(guid, out)

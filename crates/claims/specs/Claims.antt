@@ -3,7 +3,7 @@ use Rattle.rules.specs.Examples.{Examples}
 use Rattle.claims.specs.Demand1.{Demand1}
 use Rattle.claims.specs.Demand2.{Demand2}
 use Rattle.claims.specs.Demand3.{Demand3}
-use Rattle.claims.specs.Counts.{Counts}
+use Rattle.claims.specs.Counts.{AllCounts}
 use Rattle.claims.specs.Calls.{Calls}
 
 pub record Claims : Type 2 where
@@ -16,6 +16,6 @@ pub record Claims : Type 2 where
   -- two code tables over one stream
   pub demand3 : Demand3
   -- counts are those of the reading
-  pub counts : Counts
+  pub counts : AllCounts
   -- all that of the public functions themselves, and that their contracts allow one result only
   pub calls : Calls
