@@ -13,8 +13,7 @@ use Rattle.leaf.specs.Wide.{wordsOf, bitsOf}
 use Rattle.blob.specs.Exit.{partPlace}
 use Rattle.claims.specs.Answers.{GuidAnswer, LabelAnswer}
 use Rattle.claims.specs.Demand1.{Blobs, TypeInfos, Texts}
-use Rattle.claims.specs.Demand2.{Judges}
-use Rattle.claims.specs.Demand3.{Successor, SameBut}
+use Rattle.claims.specs.Demand3.{SameBut}
 use Rattle.claims.specs.Counts.{Counts, InfoCounts}
 use Rattle.claims.specs.Always.{Always}
 use Rattle.codetable.proofs.well_formed.Met as well-formed-code
@@ -84,6 +83,7 @@ read-blobs = record {
   one-result = λ c d t s x y. c .allowed ∙ (λ i. exit (t i) (s i) (x i) (y i)) ∙ sym (d .allowed);
 }
 
+-- ---- the functions of two clauses
 read-type-info-met : Always f.read-type-info (f.read-type-info .says)
 read-type-info-met = together f.read-type-info
     (λ κs a r e. r ≡ typeInfoExit (now (a .0)) (now (a .1 .0)) .answer)
