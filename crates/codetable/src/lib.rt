@@ -234,15 +234,25 @@ pub fn find_scope(table: &[u8], kind: u8, code: u16) -> Found
     }
 }
 
-// What n rows say of an id, by halves, where the ids ascend.
-fn seek_row(table: &[u8], start: usize, n: usize, wanted: usize) -> Row
+// Which of n rows to look at first: the one that was told, where it is one of them.
+fn first_look(near: usize, n: usize) -> usize
+    ensures { λ r. ⌜ (0 < n → r < n) ⌝ }
+{
+    if near < n {
+        return near;
+    }
+    n / 2
+}
+
+// What n rows say of an id, where the ids ascend: one row is looked at first, then by halves.
+fn seek_row(table: &[u8], start: usize, n: usize, wanted: usize, near: usize) -> Row
     requires { ⌜ start + 4 * n < 2 ^ 60 ⌝ }
     ensures { λ r. ⌜ (Sorted (t.tiesAt (now (table .entry)) start n) → r ≡ asRow (find (t.isTied wanted) (t.tiesAt (now (table .entry)) start n))) ⌝ }
 {
     let mut at = start;
     let mut rows = n;
+    let mut half = first_look(near, n);
     while 0 < rows {
-        let half = rows / 2;
         let mid = at + 4 * half;
         let id = byte(table, mid);
         if id == wanted {
@@ -254,15 +264,17 @@ fn seek_row(table: &[u8], start: usize, n: usize, wanted: usize) -> Row
         if id < wanted {
             at = mid + 4;
             rows = rows - half - 1;
+            half = rows / 2;
         } else {
             rows = half;
+            half = rows / 2;
         }
     }
     Row::Untied
 }
 
-// What the rows that were found say of an id, where their ids ascend.
-pub fn find_row(table: &[u8], body: Found, id: u8) -> Row
+// What the rows that were found say of an id, where their ids ascend. Any row may be told as near: it is looked at first.
+pub fn find_row(table: &[u8], body: Found, id: u8, near: usize) -> Row
     ensures { λ r. ⌜ (Sorted (bodyRows (now (table .entry)) body) → r ≡ asRow (find (t.isTied id) (bodyRows (now (table .entry)) body))) ⌝ }
 {
     match body {
@@ -271,8 +283,63 @@ pub fn find_row(table: &[u8], body: Found, id: u8) -> Row
             start as usize,
             count as usize,
             id as usize,
+            near,
         ),
         Found::Nowhere => Row::Untied,
+    }
+}
+
+// ---- hints: at which row of a body an id is looked for first. A hint may be wrong; nothing but time rests on it.
+fn slot(start: usize, id: usize) -> usize
+    requires { ⌜ (start < 2 ^ 60) × (id < 256) ⌝ }
+    ensures { λ r. ⌜ r < 4096 ⌝ }
+{
+    (start + 16 * id) % 4096
+}
+
+fn wide(x: u8) -> usize {
+    x as usize
+}
+
+// The row at which to look first for an id.
+pub fn hint(hints: &[u8; 4096], body: Found, id: u8) -> usize {
+    match body {
+        Found::Body { start, count: _ } => wide(hints[slot(start as usize, id as usize)]),
+        Found::Nowhere => 0,
+    }
+}
+
+// Notes the first 255 of n rows.
+fn note_rows(table: &[u8], start: usize, n: usize, hints: &mut [u8; 4096])
+    requires { ⌜ start + 4 * n < 2 ^ 60 ⌝ }
+{
+    let mut at = start;
+    let mut left = n;
+    let mut row: u8 = 0;
+    while 0 < left {
+        if 254 < row {
+            return;
+        }
+        let k = slot(start, byte(table, at));
+        hints[k] = row;
+        row += 1;
+        at += 4;
+        left -= 1;
+    }
+}
+
+// Notes the rows of every scope.
+pub fn note_scopes(table: &[u8], hints: &mut [u8; 4096]) {
+    let scopes = word(table, 2);
+    let mut at = 4 + 2 * byte(table, 1);
+    let mut body = at + 5 * scopes;
+    let mut left = scopes;
+    while 0 < left {
+        let count = word(table, at + 3);
+        note_rows(table, body, count, hints);
+        at += 5;
+        body += 4 * count;
+        left -= 1;
     }
 }
 
@@ -280,5 +347,5 @@ pub fn find_row(table: &[u8], body: Found, id: u8) -> Row
 pub fn row_of(table: &[u8], kind: u8, code: u16, id: u8) -> Row
     ensures { λ r. ⌜ (Formed (now (table .entry)) → r ≡ asRow (t.rowOf (now (table .entry)) kind code id)) ⌝ }
 {
-    find_row(table, find_scope(table, kind, code), id)
+    find_row(table, find_scope(table, kind, code), id, 0)
 }

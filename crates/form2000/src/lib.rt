@@ -3,7 +3,9 @@ use codetable::Found;
 use codetable::Row;
 use codetable::find_row;
 use codetable::find_scope;
+use codetable::hint;
 use codetable::is_header;
+use codetable::note_scopes;
 use count2000::Counted;
 use count2000::Opens;
 use count2000::Run;
@@ -84,12 +86,20 @@ fn join(mark: u32, code: u32) -> u32
 }
 
 // A property with this id and value, by the rows of its scope.
-fn property(table: &[u8], body: Found, s: &[u8], id: u8, start: usize, size: usize) -> Property
+fn property(
+    table: &[u8],
+    hints: &[u8; 4096],
+    body: Found,
+    s: &[u8],
+    id: u8,
+    start: usize,
+    size: usize,
+) -> Property
     requires { ⌜ acts.Inside (now table) body (now s) start size ⌝ }
     ensures { λ r. ⌜ r ≡ acts.shownIn (bodyRows (now (table .entry)) body) (now (s .entry)) (acts.prop id start size) ⌝ }
 {
     let bytes = part(s, start, size);
-    match find_row(table, body, id) {
+    match find_row(table, body, id, hint(hints, body, id)) {
         Row::Tied { target, kind } => Property {
             id: target as u32,
             value: value_as(kind, id, bytes),
@@ -108,6 +118,7 @@ fn property(table: &[u8], body: Found, s: &[u8], id: u8, start: usize, size: usi
 // Writes a row for each property of the run at `at`, from row `first` on.
 fn properties(
     table: &[u8],
+    hints: &[u8; 4096],
     body: Found,
     s: &[u8],
     at: usize,
@@ -127,7 +138,7 @@ fn properties(
         let Spot::At { start, size } = value(s, p) else {
             return Rows { at: p, row: n };
         };
-        put_property(rows, n, property(table, body, s, id, start, size));
+        put_property(rows, n, property(table, hints, body, s, id, start, size));
         p = start + size;
         n = n + 1;
     }
@@ -242,6 +253,7 @@ fn control_row(type_code: u32, name: Name, n: u32, first: u32, count: u32) -> Co
 // Writes the entry at `at` without its list: its property rows, and its control row.
 fn put_node(
     table: &[u8],
+    hints: &[u8; 4096],
     s: &[u8],
     at: usize,
     controls: &mut [u32],
@@ -255,7 +267,7 @@ fn put_node(
     let kind = u16_at(s, at);
     let run = at + 2;
     let body = find_scope(table, 2, kind);
-    let own = properties(table, body, s, run, rows, p);
+    let own = properties(table, hints, body, s, run, rows, p);
     let next = own.row;
     let named = name(s, run, name_id(kind));
     let code = type_code(table, is_report(s), kind);
@@ -272,6 +284,7 @@ fn put_node(
 // Writes the entry at `at` and all below it; `left` levels are left below it.
 fn put_entry(
     table: &[u8],
+    hints: &[u8; 4096],
     s: &[u8],
     at: usize,
     left: usize,
@@ -283,7 +296,7 @@ fn put_entry(
     requires { ⌜ acts.Ready (now table) (now s) (acts.entryNodes (entryAt (now s) (entriesAt left (now s)) at)) (state (now controls) c (now rows) p) ⌝ }
     ensures { λ r. ⌜ some (acts.stood (now (controls .exit)) (r .control) (now (rows .exit)) (r .property) (r .at)) ≡ acts.act (now (table .entry)) (now (s .entry)) (acts.entryNodes (entryAt (now (s .entry)) (entriesAt left (now (s .entry))) at)) (state (now (controls .entry)) c (now (rows .entry)) p) ⌝ }
 {
-    let node = put_node(table, s, at, controls, c, rows, p);
+    let node = put_node(table, hints, s, at, controls, c, rows, p);
     let behind = node.at;
     let i = node.control;
     let j = node.property;
@@ -296,6 +309,7 @@ fn put_entry(
         },
         Opens::Listed { count, next } => put_list(
             table,
+            hints,
             s,
             next,
             count,
@@ -311,6 +325,7 @@ fn put_entry(
 // Writes `n` entries from `at` on and all below them, with `left` levels left.
 fn put_list(
     table: &[u8],
+    hints: &[u8; 4096],
     s: &[u8],
     at: usize,
     n: usize,
@@ -328,7 +343,7 @@ fn put_list(
     let mut i = c;
     let mut j = p;
     while 0 < k {
-        let e = put_entry(table, s, pos, left - 1, controls, i, rows, j);
+        let e = put_entry(table, hints, s, pos, left - 1, controls, i, rows, j);
         pos = e.at;
         i = e.control;
         j = e.property;
@@ -365,6 +380,7 @@ fn skip(s: &[u8], at: usize) -> Pass
 // Writes what is reported of the top list: `n` entries from `at` on.
 fn put_top(
     table: &[u8],
+    hints: &[u8; 4096],
     s: &[u8],
     at: usize,
     n: usize,
@@ -387,7 +403,7 @@ fn put_top(
                 k = k - 1;
             }
             Pass::Not => {
-                let e = put_entry(table, s, pos, 255, controls, i, rows, j);
+                let e = put_entry(table, hints, s, pos, 255, controls, i, rows, j);
                 pos = e.at;
                 i = e.control;
                 j = e.property;
@@ -414,13 +430,15 @@ fn write(table: &[u8], s: &[u8], controls: &mut [u32], rows: &mut [u32])
     requires { ⌜ acts.StreamReady (now table) (now s) (now controls) (now rows) ⌝ }
     ensures { λ _. ⌜ acts.StreamDone (now (table .entry)) (now (s .entry)) (now (controls .entry)) (now (rows .entry)) (now (controls .exit)) (now (rows .exit)) ⌝ }
 {
+    let mut hints = [0; 4096];
+    note_scopes(table, &mut hints);
     let body = find_scope(table, object_kind(s), 0);
-    let own = properties(table, body, s, 10, rows, 0);
+    let own = properties(table, &hints, body, s, 10, rows, 0);
     let behind = own.at;
     let first = own.row;
     match head(s, behind) {
         Opens::Listed { count, next } => {
-            put_top(table, s, next, count, controls, 0, rows, first);
+            put_top(table, &hints, s, next, count, controls, 0, rows, first);
         }
         Opens::Plain { next: _ } => {}
         Opens::Bad => {}

@@ -7,32 +7,25 @@ use Rattle.codetable.proofs.find_row.Reads as reads
 use Rattle.codetable.proofs.find_row.Lts as lts
 use Rattle.codetable.proofs.seek_row.Reads as seek-row-reads
 
--- src/lib.rt:269:23
 enum-known-body : tie.Need-enum-known-body
 enum-known-body c = search needs
 
--- src/lib.rt:271:13
 cast-seek-row : tie.Need-cast-seek-row
 cast-seek-row c = search needs
 
--- src/lib.rt:272:13
 cast-seek-row-2 : tie.Need-cast-seek-row-2
 cast-seek-row-2 c = search needs
 
--- src/lib.rt:269:41
 seek-row-requires : tie.Need-seek-row-requires
 seek-row-requires c κs = search needs
 
--- src/lib.rt:275:27
 enum-told : tie.Need-enum-told
 enum-told c = search needs
 
--- src/lib.rt:265:1
 returns : tie.Need-returns
 unfolding bodyRows
 returns c = rw (c .before .before .body .given .1) (c .seek-row .ensures)
 
--- src/lib.rt:265:1
 returns-2 : tie.Need-returns-2
 unfolding bodyRows find asRow
 returns-2 c = λ s. rw (c .enum-told .given .1)

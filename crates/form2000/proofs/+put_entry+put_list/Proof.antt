@@ -21,25 +21,25 @@ use Rattle.form2000.proofs.put_node.Reads as put-node-reads
 use Rattle.form2000.proofs.+put_entry+put_list.{statement}
 use Rattle.form2000.proofs.+put_entry+put_list.Tie.{close}
 
-abbrev μ-put-entry : Measures 4 put-entry-kinds.ps ℕ
-μ-put-entry κs a = a .1 .1 .1 .0 + a .1 .1 .1 .0 + 1
+abbrev μ-put-entry : Measures 5 put-entry-kinds.ps ℕ
+μ-put-entry κs a = a .1 .1 .1 .1 .0 + a .1 .1 .1 .1 .0 + 1
 
-abbrev μ-put-list : Measures 4 put-list-kinds.ps ℕ
-μ-put-list κs a = a .1 .1 .1 .1 .0 + a .1 .1 .1 .1 .0
+abbrev μ-put-list : Measures 5 put-list-kinds.ps ℕ
+μ-put-list κs a = a .1 .1 .1 .1 .1 .0 + a .1 .1 .1 .1 .1 .0
 
-abbrev put-entry-at : ℕ → In 4 put-entry-kinds.ps
-put-entry-at t = and 4 put-entry-kinds.ps (is 4 put-entry-kinds.ps μ-put-entry t) put-entry.Pre
+abbrev put-entry-at : ℕ → In 5 put-entry-kinds.ps
+put-entry-at t = and 5 put-entry-kinds.ps (is 5 put-entry-kinds.ps μ-put-entry t) put-entry.Pre
 
-abbrev put-entry-below : ℕ → In 4 put-entry-kinds.ps
+abbrev put-entry-below : ℕ → In 5 put-entry-kinds.ps
 put-entry-below t =
-    and 4 put-entry-kinds.ps (falls 4 put-entry-kinds.ps _<_ μ-put-entry t) put-entry.Pre
+    and 5 put-entry-kinds.ps (falls 5 put-entry-kinds.ps _<_ μ-put-entry t) put-entry.Pre
 
-abbrev put-list-at : ℕ → In 4 put-list-kinds.ps
-put-list-at t = and 4 put-list-kinds.ps (is 4 put-list-kinds.ps μ-put-list t) put-list.Pre
+abbrev put-list-at : ℕ → In 5 put-list-kinds.ps
+put-list-at t = and 5 put-list-kinds.ps (is 5 put-list-kinds.ps μ-put-list t) put-list.Pre
 
-abbrev put-list-below : ℕ → In 4 put-list-kinds.ps
+abbrev put-list-below : ℕ → In 5 put-list-kinds.ps
 put-list-below t =
-    and 4 put-list-kinds.ps (falls 4 put-list-kinds.ps _<_ μ-put-list t) put-list.Pre
+    and 5 put-list-kinds.ps (falls 5 put-list-kinds.ps _<_ μ-put-list t) put-list.Pre
 
 -- what each member's callees ask and tell
 abbrev put-entry-calls : ℕ → put-entry-lts.Claims
@@ -72,10 +72,10 @@ put-entry-put-list-requires t c κs =
     (omega (arith, b17 .pre .0), entry-listed _ _ (entriesAt (b17 .args .left) (b17 .args .s .now)) (b17 .args .at) _ (b17 .pre .1) _ _ (c .before .before .before .before .before .before .before .before .before .before .put-node .ensures) _ (c .before .before .before .before .before .head .ensures) _ _ (c .before .before .before .count .given .1) .ready)
 
 put-entry-same-length : (t : ℕ) → put-entry-lts.Need-same-length (put-entry-calls t) (put-entry-at t) put-entry.Post
-put-entry-same-length t c = c .before .before .before .before .before .before .before .put-node .kept .1 .1 .1 .0
+put-entry-same-length t c = c .before .before .before .before .before .before .before .put-node .kept .1 .1 .1 .1 .0
 
 put-entry-same-length-2 : (t : ℕ) → put-entry-lts.Need-same-length-2 (put-entry-calls t) (put-entry-at t) put-entry.Post
-put-entry-same-length-2 t c = c .before .before .before .before .before .before .before .put-node .kept .1 .1 .1 .1 .1 .0
+put-entry-same-length-2 t c = c .before .before .before .before .before .before .before .put-node .kept .1 .1 .1 .1 .1 .1 .0
 
 put-entry-returns : (t : ℕ) → put-entry-lts.Need-returns (put-entry-calls t) (put-entry-at t) put-entry.Post
 put-entry-returns t c =
@@ -83,10 +83,10 @@ put-entry-returns t c =
     absurd (entry-bad _ _ (entriesAt (b14 .args .left) (b14 .args .s .now)) (b14 .args .at) _ (b14 .pre .1) _ _ (c .before .before .before .before .before .before .before .put-node .ensures) _ (c .before .before .head .ensures) (c .enum-told .given .1))
 
 put-entry-same-length-3 : (t : ℕ) → put-entry-lts.Need-same-length-3 (put-entry-calls t) (put-entry-at t) put-entry.Post
-put-entry-same-length-3 t c = c .before .before .before .before .before .before .before .before .put-node .kept .1 .1 .1 .0
+put-entry-same-length-3 t c = c .before .before .before .before .before .before .before .before .put-node .kept .1 .1 .1 .1 .0
 
 put-entry-same-length-4 : (t : ℕ) → put-entry-lts.Need-same-length-4 (put-entry-calls t) (put-entry-at t) put-entry.Post
-put-entry-same-length-4 t c = c .before .before .before .before .before .before .before .before .put-node .kept .1 .1 .1 .1 .1 .0
+put-entry-same-length-4 t c = c .before .before .before .before .before .before .before .before .put-node .kept .1 .1 .1 .1 .1 .1 .0
 
 put-entry-returns-2 : (t : ℕ) → put-entry-lts.Need-returns-2 (put-entry-calls t) (put-entry-at t) put-entry.Post
 put-entry-returns-2 t c =
@@ -94,10 +94,10 @@ put-entry-returns-2 t c =
     entry-plain _ _ (entriesAt (b15 .args .left) (b15 .args .s .now)) (b15 .args .at) _ (b15 .pre .1) _ _ (c .before .before .before .before .before .before .before .before .put-node .ensures) _ (c .before .before .before .head .ensures) _ (c .before .next .given .1)
 
 put-entry-same-length-5 : (t : ℕ) → put-entry-lts.Need-same-length-5 (put-entry-calls t) (put-entry-at t) put-entry.Post
-put-entry-same-length-5 t c = c .before .before .before .before .put-list .kept .1 .1 .1 .1 .1 .0 ∙ c .before .before .before .before .before .before .before .before .before .before .before .before .before .before .before .put-node .kept .1 .1 .1 .0
+put-entry-same-length-5 t c = c .before .before .before .before .put-list .kept .1 .1 .1 .1 .1 .1 .0 ∙ c .before .before .before .before .before .before .before .before .before .before .before .before .before .before .before .put-node .kept .1 .1 .1 .1 .0
 
 put-entry-same-length-6 : (t : ℕ) → put-entry-lts.Need-same-length-6 (put-entry-calls t) (put-entry-at t) put-entry.Post
-put-entry-same-length-6 t c = c .before .before .before .before .put-list .kept .1 .1 .1 .1 .1 .1 .1 .0 ∙ c .before .before .before .before .before .before .before .before .before .before .before .before .before .before .before .put-node .kept .1 .1 .1 .1 .1 .0
+put-entry-same-length-6 t c = c .before .before .before .before .put-list .kept .1 .1 .1 .1 .1 .1 .1 .1 .0 ∙ c .before .before .before .before .before .before .before .before .before .before .before .before .before .before .before .put-node .kept .1 .1 .1 .1 .1 .1 .0
 
 put-entry-returns-3 : (t : ℕ) → put-entry-lts.Need-returns-3 (put-entry-calls t) (put-entry-at t) put-entry.Post
 put-entry-returns-3 t c =
@@ -106,10 +106,10 @@ put-entry-returns-3 t c =
 
 -- ---- a list
 abbrev put-list-Inv-loop : put-list-lts.InvT-loop
-put-list-Inv-loop table s at n left controls₀ c rows₀ p pos₀ k₀ i₀ j₀ controls rows pos k i j = Remain table s (listNodes (entriesAt left s k pos)) (listNodes (entriesAt left s n at)) (state controls₀ c rows₀ p) (state controls i rows j) × (length controls ≡ length controls₀) × (length rows ≡ length rows₀)
+put-list-Inv-loop table hints s at n left controls₀ c rows₀ p pos₀ k₀ i₀ j₀ controls rows pos k i j = Remain table s (listNodes (entriesAt left s k pos)) (listNodes (entriesAt left s n at)) (state controls₀ c rows₀ p) (state controls i rows j) × (length controls ≡ length controls₀) × (length rows ≡ length rows₀)
 
 abbrev put-list-μ-loop : put-list-lts.MeasureT-loop
-put-list-μ-loop table s at n left controls₀ c rows₀ p pos₀ k₀ i₀ j₀ controls rows pos k i j = k
+put-list-μ-loop table hints s at n left controls₀ c rows₀ p pos₀ k₀ i₀ j₀ controls rows pos k i j = k
 
 put-list-loop-holds : (t : ℕ) → put-list-lts.Need-loop-holds (put-list-calls t) (put-list-at t) put-list.Post put-list-Inv-loop put-list-μ-loop
 put-list-loop-holds t c = (remain-start _ _ _ _ _ refl (c .before .before .before .before .pre .1), refl, refl)
@@ -133,7 +133,7 @@ put-list-loop-again : (t : ℕ) → put-list-lts.Need-loop-again (put-list-calls
 put-list-loop-again t c =
     let b4 = c .before .before .before .before in
     let b8 = c .before .before .before .before .before .before .before .before in
-    (list-more _ _ (c .before .before .before .before .before .before .before .before .before .before .before .before .before .args .left) (b8 .loop .k) (b8 .loop .pos) _ _ _ (b8 .loop .inv .0) (c .before .before .before .before .before .before .before .loop-test .taken) _ _ (b4 .put-entry .ensures), b4 .put-entry .kept .1 .1 .1 .1 .0 ∙ b8 .loop .inv .1, b4 .put-entry .kept .1 .1 .1 .1 .1 .1 .0 ∙ b8 .loop .inv .2)
+    (list-more _ _ (c .before .before .before .before .before .before .before .before .before .before .before .before .before .args .left) (b8 .loop .k) (b8 .loop .pos) _ _ _ (b8 .loop .inv .0) (c .before .before .before .before .before .before .before .loop-test .taken) _ _ (b4 .put-entry .ensures), b4 .put-entry .kept .1 .1 .1 .1 .1 .0 ∙ b8 .loop .inv .1, b4 .put-entry .kept .1 .1 .1 .1 .1 .1 .1 .0 ∙ b8 .loop .inv .2)
 
 put-list-same-length : (t : ℕ) → put-list-lts.Need-same-length (put-list-calls t) (put-list-at t) put-list.Post put-list-Inv-loop put-list-μ-loop
 put-list-same-length t c = c .before .loop .inv .1

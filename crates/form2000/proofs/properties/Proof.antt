@@ -11,10 +11,10 @@ use Rattle.form2000.proofs.properties.Statement.{statement}
 use Rattle.form2000.proofs.properties.Tie as tie
 
 abbrev Inv-loop : tie.InvT-loop
-Inv-loop table body s at rows₀ first p₀ n₀ rows p n = Left (shownIn (bodyRows table body) s) s at rows₀ first rows p n
+Inv-loop table hints body s at rows₀ first p₀ n₀ rows p n = Left (shownIn (bodyRows table body) s) s at rows₀ first rows p n
 
 abbrev μ-loop : tie.MeasureT-loop
-μ-loop table body s at rows₀ first p₀ n₀ rows p n = length s - p
+μ-loop table hints body s at rows₀ first p₀ n₀ rows p n = length s - p
 
 loop-holds : tie.Need-loop-holds Inv-loop μ-loop
 loop-holds c = left-start _ _ _ _ _ (c .before .before .before .pre .fits)
