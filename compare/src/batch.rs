@@ -2,8 +2,9 @@
 
 use crate::cases::rng::Rng;
 use crate::cases::{fixed, leaves, random, typeinfo, Case, Kind, KINDS};
-use crate::expect::Judge;
+use crate::expect::{Expected, Judge};
 use crate::plain::u32_at;
+use std::borrow::Cow;
 
 /// About `count` cases, none longer than `longest` bytes: all telling ones, a part of the exhaustive ones, random ones.
 pub fn select(seed: u64, count: usize, longest: usize) -> Vec<Case> {
@@ -40,6 +41,38 @@ fn sample(rng: &mut Rng, wanted: usize, cases: &mut Vec<Case>) {
     });
 }
 
+/// `count` cases, none longer than `longest` bytes: a third of them exhaustive ones, the others random. `out` may end it.
+pub fn drawn(seed: u64, count: usize, longest: usize, out: &mut dyn FnMut(Case) -> Result<(), String>) -> Result<(), String> {
+    let mut rng = Rng::new(seed);
+    let mut left = count;
+    let mut verdict = Ok(());
+    let mut take = |case: Case, most: usize, left: &mut usize| {
+        if verdict.is_ok() && *left > most && case.bytes.len() <= longest {
+            *left -= 1;
+            verdict = out(case);
+        }
+        verdict.is_ok()
+    };
+    let mut all = 0;
+    exhaustive(4, &mut |_| all += 1);
+    exhaustive(4, &mut |case| {
+        if rng.below(all) < count / 3 {
+            take(case, count - count / 3, &mut left);
+        }
+    });
+    while left > 0 && take(fresh(&mut rng), 0, &mut left) {}
+    verdict
+}
+
+/// One random case, at times of a small function.
+fn fresh(rng: &mut Rng) -> Case {
+    if rng.one_in(20) {
+        leaves::random(rng)
+    } else {
+        chance(rng)
+    }
+}
+
 /// Every exhaustive case.
 pub fn exhaustive(longest: usize, out: &mut dyn FnMut(Case)) {
     fixed::exhaustive(longest, out);
@@ -66,10 +99,10 @@ fn frame(kind: Kind, numbers: [u32; 2], bytes: &[u8]) -> Vec<u8> {
     out
 }
 
-/// The frames of the cases and the text that must be printed for them, or the first case on which jetdb differs.
-pub fn written(judge: &Judge, cases: &[Case]) -> Result<(Vec<u8>, String), String> {
+/// The frames of the cases and what must be printed for each, or the first case on which jetdb differs.
+pub fn written(judge: &Judge, cases: &[Case]) -> Result<(Vec<u8>, Vec<Expected>), String> {
     let mut frames = frame(Kind::Table, [0, 0], &judge.table);
-    let mut text = String::new();
+    let mut all = Vec::new();
     let mut sent: &[u8] = &judge.table;
     for case in cases {
         let table = case.table.as_deref().unwrap_or(&judge.table);
@@ -78,9 +111,9 @@ pub fn written(judge: &Judge, cases: &[Case]) -> Result<(Vec<u8>, String), Strin
             sent = table;
         }
         frames.extend(frame(case.kind, case.numbers, &case.bytes));
-        text += &judge.expected(case)?.text;
+        all.push(judge.expected(case).map_err(|why| format!("{why}\n{}", shown(case)))?);
     }
-    Ok((frames, text))
+    Ok((frames, all))
 }
 
 /// The cases of a file, each with its table.
@@ -110,7 +143,7 @@ pub fn judge(judge: &Judge, frames: &[u8], printed: &str) -> Result<usize, Strin
     let mut rest = printed;
     for (n, case) in cases.iter().enumerate() {
         let text = judge.expected(case)?.text;
-        rest = rest.strip_prefix(&text).ok_or_else(|| difference(n, case, &text, rest))?;
+        rest = strip_text(rest, &text).ok_or_else(|| format!("case {n}\n{}\n{}", shown(case), both(&text, rest)))?;
     }
     if rest.is_empty() {
         Ok(cases.len())
@@ -119,12 +152,44 @@ pub fn judge(judge: &Judge, frames: &[u8], printed: &str) -> Result<usize, Strin
     }
 }
 
-fn difference(n: usize, case: &Case, expected: &str, rest: &str) -> String {
-    let lines = expected.lines().count();
-    format!("case {n}\n{}\nmust print\n{expected}but printed\n{}", shown(case), first_lines(rest, lines))
+/// What stands behind `expected` in `printed`, where it begins with it; a NaN is as good as any other.
+pub fn strip_text<'a>(printed: &'a str, expected: &str) -> Option<&'a str> {
+    if let Some(rest) = printed.strip_prefix(expected) {
+        return Some(rest);
+    }
+    let mut rest = printed;
+    for line in expected.split_inclusive('\n') {
+        let end = rest.find('\n')? + 1;
+        if without_nan(&rest[..end]) != without_nan(line) {
+            return None;
+        }
+        rest = &rest[end..];
+    }
+    Some(rest)
 }
 
-fn first_lines(text: &str, n: usize) -> String {
+/// A line with the bits of a NaN taken out: the words of a P row, or the digits of a listing.
+fn without_nan(line: &str) -> Cow<'_, str> {
+    let words: Vec<&str> = line.split_ascii_whitespace().collect();
+    let number = |word: &str| word.parse::<u64>().unwrap_or(0);
+    let (bits, others) = match words[..] {
+        ["P", id, "4", low, high, start, length] => (number(high) << 32 | number(low), [id, start, length]),
+        ["P", row, id, name, "double", digits] => (u64::from_str_radix(digits, 16).unwrap_or(0), [row, id, name]),
+        _ => return line.into(),
+    };
+    if f64::from_bits(bits).is_nan() {
+        format!("NaN {others:?}").into()
+    } else {
+        line.into()
+    }
+}
+
+/// What must be printed, and as many lines of what was.
+pub fn both(expected: &str, printed: &str) -> String {
+    format!("must print\n{expected}but printed\n{}", first_lines(printed, expected.lines().count()))
+}
+
+pub fn first_lines(text: &str, n: usize) -> String {
     text.split_inclusive('\n').take(n).collect()
 }
 

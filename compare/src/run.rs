@@ -1,9 +1,9 @@
 //! Comparison at scale: figures by family, by layout and by answer; the first difference, made small.
 
-use crate::batch::shown;
 use crate::cases::{Case, Kind};
-use crate::expect::Judge;
+use crate::expect::{Expected, Judge};
 use crate::plain::Shape;
+use crate::small::smallest;
 use std::collections::BTreeMap;
 
 #[derive(Default)]
@@ -20,14 +20,42 @@ pub struct Figures {
 impl Figures {
     pub fn add(&mut self, judge: &Judge, case: &Case) {
         match judge.expected(case) {
-            Ok(expected) => {
-                *if expected.by_jetdb { &mut self.by_jetdb } else { &mut self.by_document } += 1;
-                *self.families.entry((case.kind, case.family)).or_default() += 1;
-                *self.outcomes.entry((case.kind, expected.shape, expected.number())).or_default() += 1;
+            Ok(expected) => self.note(case, &expected),
+            Err(why) if self.differences.len() < 5 => {
+                let differs = |case: &Case| judge.expected(case).err().map(|why| (case.clone(), why));
+                self.differences.push(smallest(case, why, &mut |cases| cases.iter().find_map(differs)));
             }
-            Err(why) if self.differences.len() < 5 => self.differences.push(smallest(judge, case, why)),
             Err(_) => self.more += 1,
         }
+    }
+
+    /// Counts a case that agreed.
+    pub fn note(&mut self, case: &Case, expected: &Expected) {
+        *if expected.by_jetdb { &mut self.by_jetdb } else { &mut self.by_document } += 1;
+        *self.families.entry((case.kind, case.family)).or_default() += 1;
+        *self.outcomes.entry((case.kind, expected.shape, expected.number())).or_default() += 1;
+    }
+
+    /// How many cases agreed, in a line each: by what was read, and by the answer.
+    pub fn summary(&self) -> String {
+        let mut read: BTreeMap<String, usize> = BTreeMap::new();
+        let mut answers: BTreeMap<u32, usize> = BTreeMap::new();
+        for (&(kind, shape, number), count) in &self.outcomes {
+            *read.entry(what_was_read(kind, shape, number)).or_default() += count;
+            if let Some(number) = number {
+                *answers.entry(number).or_default() += count;
+            }
+        }
+        let of = |(what, count): (&dyn std::fmt::Display, &usize)| format!("{what}: {count}");
+        let read: Vec<String> = read.iter().map(|(what, count)| of((what, count))).collect();
+        let answers: Vec<String> = answers.iter().map(|(number, count)| of((number, count))).collect();
+        format!(
+            "by jetdb {}, by document 01 alone {}\nread: {}\nanswers: {}\n",
+            self.by_jetdb,
+            self.by_document,
+            read.join(", "),
+            answers.join(", ")
+        )
     }
 
     pub fn print(&self) {
@@ -51,23 +79,12 @@ impl Figures {
     }
 }
 
-/// Takes parts out of a case as long as some difference stays; how many bytes are read for it has a bound.
-fn smallest(judge: &Judge, case: &Case, mut why: String) -> String {
-    let mut case = case.clone();
-    let mut budget: usize = 10_000_000;
-    let mut size = case.bytes.len();
-    while size > 0 {
-        let mut from = 0;
-        while from + size <= case.bytes.len() && budget > 0 {
-            let mut shorter = case.clone();
-            shorter.bytes.drain(from..from + size);
-            budget = budget.saturating_sub(100 + shorter.bytes.len());
-            match judge.expected(&shorter) {
-                Err(still) => (case, why) = (shorter, still),
-                Ok(_) => from += size,
-            }
-        }
-        size /= 2;
+/// The layout of a Blob, or another kind; a Blob without a reading is of the Access 2000 layout, or its code table is refused.
+fn what_was_read(kind: Kind, shape: Option<Shape>, number: Option<u32>) -> String {
+    match (kind, shape, number) {
+        (Kind::Blob, Some(shape), _) => format!("Blob {shape:?}"),
+        (Kind::Blob, None, Some(4)) => format!("Blob {:?}", Shape::Access2000),
+        (Kind::Blob, None, _) => "Blob with a refused table".to_string(),
+        _ => format!("{kind:?}"),
     }
-    format!("{why}\n{}", shown(&case))
 }

@@ -7,6 +7,7 @@ use crate::cases::{Case, Kind};
 use crate::expect::Judge;
 use crate::plain::codes::Codes;
 use crate::plain::{self, value, Name, Shape};
+use crate::program::Run;
 use crate::{listing, oracle};
 
 // ---- the code table
@@ -213,11 +214,17 @@ fn same_single(bits: u32) {
 
 // ---- batch files
 
+/// The frames of the cases, and all that must be printed for them.
+fn written(judge: &Judge, cases: &[Case]) -> (Vec<u8>, String) {
+    let (frames, expected) = batch::written(judge, cases).unwrap();
+    (frames, expected.into_iter().map(|e| e.text).collect())
+}
+
 #[test]
 fn batch_files_are_read_back() {
     let judge = Judge::new();
     let cases = batch::select(3, 6000, 4096);
-    let (frames, text) = batch::written(&judge, &cases).unwrap();
+    let (frames, text) = written(&judge, &cases);
     assert_eq!(batch::judge(&judge, &frames, &text), Ok(cases.len()));
     let back = batch::read(&frames).unwrap();
     assert!(cases.iter().zip(&back).all(|(a, b)| (a.kind, a.numbers, &a.bytes) == (b.kind, b.numbers, &b.bytes)));
@@ -241,11 +248,59 @@ fn batch_files_lend_what_the_readme_says() {
 fn a_wrong_print_is_found() {
     let judge = Judge::new();
     let cases = [Case::blob("", chain2000(2)), Case::type_info("", vec![0; 32])];
-    let (frames, text) = batch::written(&judge, &cases).unwrap();
+    let (frames, text) = written(&judge, &cases);
     let wrong = text.replacen("A 2", "A 3", 1);
     let why = batch::judge(&judge, &frames, &wrong).unwrap_err();
     assert!(why.starts_with("case 1\nTypeInfo"), "{why}");
     assert!(batch::judge(&judge, &frames, &(text + "A 0 0 0 0\n")).is_err());
+}
+
+// ---- cases through a program
+
+/// What must be printed for the frames, with every `from` turned into `to`.
+fn printed(judge: &Judge, frames: &[u8], from: &str, to: &str) -> Result<String, String> {
+    let text = |case: &Case| judge.expected(case).map(|e| e.text.replace(from, to));
+    batch::read(frames).ok_or("broken frames")?.iter().map(text).collect()
+}
+
+#[test]
+fn a_program_that_prints_what_it_must_agrees() {
+    let judge = Judge::new();
+    let prints = |frames: &[u8]| printed(&judge, frames, "", "");
+    let mut run = Run::new(&judge, &prints);
+    assert_eq!(run.compare(8, 7_000, 32_768), Ok(()));
+    assert!(run.figures.summary().contains("answers: 0: "));
+}
+
+#[test]
+fn a_difference_is_made_small() {
+    let judge = Judge::new();
+    let prints = |frames: &[u8]| printed(&judge, frames, "P 32768 ", "P 32769 ");
+    let why = Run::new(&judge, &prints).compare(8, 7_000, 32_768).unwrap_err();
+    // An object with the one flag 0x00 and an empty list.
+    assert!(why.contains("bytes 13 ") && why.contains("P 32769 "), "{why}");
+    let bytes = why.lines().find(|line| line.starts_with("bytes")).unwrap();
+    assert!(bytes.split(' ').count() <= 15, "{why}");
+}
+
+#[test]
+fn a_program_that_prints_less_or_more_is_found() {
+    let judge = Judge::new();
+    let nothing = |_: &[u8]| Ok(String::new());
+    assert!(Run::new(&judge, &nothing).compare(8, 100, 32_768).is_err());
+    let more = |frames: &[u8]| printed(&judge, frames, "", "").map(|text| text + "A 0 0 0 0\n");
+    assert!(Run::new(&judge, &more).compare(8, 100, 32_768).unwrap_err().starts_with("more was printed"));
+}
+
+#[test]
+fn nan_is_taken_as_nan() {
+    let nan = "P 8 4 1 2146959360 28 4\n";
+    assert_eq!(batch::strip_text("P 8 4 7 4294443008 28 4\nA", nan), Some("A"));
+    assert_eq!(batch::strip_text("P 8 4 7 4294443008 29 4\nA", nan), None);
+    assert_eq!(batch::strip_text("P 8 4 1 0 28 4\nA", nan), None);
+    let listed = "P 0 0008 - double 7FF8000020000000\n";
+    assert_eq!(batch::strip_text("P 0 0008 - double FFF8000020000001\n", listed), Some(""));
+    assert_eq!(batch::strip_text("P 0 0008 - double 7FF0000000000000\n", listed), None);
 }
 
 #[test]

@@ -57,3 +57,20 @@ fn name_part(mark: u32, start: u32, length: u32, stream: u8, label: u8) -> Case 
     bytes.extend((0..stream).map(|b| 0x50 + b));
     Case::other("parts", Kind::NamePart, [mark, label as u32], bytes)
 }
+
+/// One random case of a small function.
+pub fn random(rng: &mut Rng) -> Case {
+    let number = (rng.next() as u32) >> rng.below(32);
+    match rng.below(4) {
+        0 => {
+            let length = if rng.one_in(4) { rng.below(24) } else { 16 };
+            Case::other("guids", Kind::Guid, [30 + rng.below(16) as u32, 0], rng.bytes(length))
+        }
+        1 => Case::other("labels", Kind::Label, [6 + rng.below(16) as u32, number], Vec::new()),
+        2 => Case::other("names", Kind::Names, [number & 0xFFFF, 0], Vec::new()),
+        _ => {
+            let [start, length, stream, label] = [20, 20, 16, 16].map(|n| rng.below(n) as u32);
+            name_part(rng.below(4) as u32, start, length, stream as u8, label as u8)
+        }
+    }
+}
