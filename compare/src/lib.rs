@@ -4,15 +4,19 @@
 include!(concat!(env!("OUT_DIR"), "/jetdb.rs"));
 
 mod batch;
+pub mod c;
 mod cases;
 mod expect;
 mod judge;
+mod large;
 mod listing;
+mod long;
 mod oracle;
 mod plain;
 mod program;
 mod run;
 mod small;
+mod speed;
 mod stubs;
 #[cfg(test)]
 mod tests;

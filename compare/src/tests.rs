@@ -8,7 +8,7 @@ use crate::expect::Judge;
 use crate::plain::codes::Codes;
 use crate::plain::{self, value, Name, Shape};
 use crate::program::Run;
-use crate::{listing, oracle};
+use crate::{listing, long, oracle, speed};
 
 // ---- the code table
 
@@ -309,6 +309,35 @@ fn seeds_give_the_same_cases() {
     let cases = |seed| batch::select(seed, 5000, 4096).iter().map(|c| c.bytes.clone()).collect::<Vec<_>>();
     assert_eq!(cases(4), cases(4));
     assert_ne!(cases(4), cases(5));
+}
+
+// ---- long streams
+
+#[test]
+fn long_streams_are_what_their_names_say() {
+    for bytes in [200_000, 200_001] {
+        let shape = |s: Vec<u8>| {
+            assert_eq!(s.len(), bytes);
+            blob(s).map(|found| found.shape)
+        };
+        assert_eq!(shape(long::filled(bytes, long::form2000)), Some(Shape::Access2000));
+        assert_eq!(shape(long::filled(bytes, long::values2000)), Some(Shape::Access2000));
+        assert_eq!(shape(long::filled(bytes, long::tree)), Some(Shape::Tree));
+        assert_eq!(shape(long::scan(bytes, 40)), Some(Shape::Scan));
+        assert_eq!(crate::judge::type_info(&long::filled(bytes, long::type_info)).unwrap().map(|all| all.len() > 6000), Ok(true));
+    }
+}
+
+#[test]
+fn timed_streams_are_refused_where_they_say_so() {
+    let table = oracle::codes().bytes();
+    for stream in (0..).map_while(speed::stream).filter(|stream| stream.bytes.len() < 2 * speed::MIB) {
+        let number = match stream.kind {
+            Kind::TypeInfo => plain::typeinfo::read_type_info(&stream.bytes, usize::MAX).0.number,
+            _ => plain::read_blob(&table, &stream.bytes, usize::MAX, usize::MAX).answer.number,
+        };
+        assert_eq!(number != 0, stream.name.starts_with("refused"), "{}: {number}", stream.name);
+    }
 }
 
 // ---- the comparison

@@ -42,3 +42,11 @@ pub(crate) fn stored_name(props: &[BlobProperty]) -> Option<String> {
 pub(crate) fn name_tables() -> [&'static [(u16, &'static str)]; 4] {
     [TEXT_NAMES, NUMBER_NAMES, BYTES_NAMES, CONTROL_TYPE_NAMES]
 }
+
+/// What `parse_blob` gives: the object's properties, and each control's type and properties.
+pub type Parsed = Result<(Vec<BlobProperty>, Vec<BlobControl>), FileError>;
+
+/// `parse_blob`.
+pub(crate) fn blob_of(data: &[u8]) -> Parsed {
+    parse_blob(data)
+}

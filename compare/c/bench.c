@@ -1,0 +1,241 @@
+/* Times the library against jetdb's own functions, in one process and on the same streams. docs/SPEED.md says what is timed. */
+#include "compare.h"
+#include "oskuramos.h"
+#include <stdio.h>
+#include <stdlib.h>
+#include <string.h>
+#include <time.h>
+
+enum { RUNS = 21, MOST_CALLS = 1000 };
+
+/* What a run takes at least, where calls are short, and how long calls that need no rows are timed as one. */
+static const double RUN_SECONDS = 0.1, ONE_TIMING = 50e-6;
+
+static const uint8_t *table;
+static size_t table_length;
+
+/* A stream with the rows that it needs. */
+typedef struct {
+    compare_stream_t stream;
+    size_t controls, properties;
+    uint32_t *control_rows, *property_rows;
+    bool refused;
+    int at_once; /* calls timed as one, of a refused stream */
+} task_t;
+
+static double seconds(void) {
+    struct timespec now;
+    clock_gettime(CLOCK_MONOTONIC, &now);
+    return (double)now.tv_sec + 1e-9 * (double)now.tv_nsec;
+}
+
+static oskuramos_answer read_by_library(const task_t *t) {
+    const compare_stream_t *s = &t->stream;
+    if (s->kind == KIND_TYPE_INFO)
+        return oskuramos_read_type_info(s->bytes, s->length, t->control_rows, t->controls);
+    return oskuramos_read_blob(table, table_length, s->bytes, s->length, t->control_rows, t->controls, t->property_rows, t->properties);
+}
+
+/* ---- buffers */
+
+static uint32_t *zeroed(size_t words) {
+    uint32_t *rows = malloc(4 * words + 4);
+    if (rows == NULL) {
+        fputs("bench: no memory\n", stderr);
+        exit(1);
+    }
+    return memset(rows, 0, 4 * words + 4);
+}
+
+static void lend(task_t *t) {
+    t->control_rows = zeroed(t->controls);
+    t->property_rows = zeroed(t->properties);
+}
+
+static void take_back(task_t *t) {
+    free(t->control_rows);
+    free(t->property_rows);
+    t->control_rows = t->property_rows = NULL;
+}
+
+/* How many words the stream needs, by what the library answers where none are lent. */
+static void measure(task_t *t) {
+    t->controls = t->properties = 0;
+    t->control_rows = t->property_rows = NULL;
+    oskuramos_answer a = read_by_library(t);
+    bool counted = a.number == 0 || a.number == 6 || a.number == 7;
+    t->refused = !counted;
+    t->controls = counted ? (t->stream.kind == KIND_TYPE_INFO ? 4 : 6) * (size_t)a.first : 0;
+    t->properties = counted ? 6 * (size_t)a.second : 0;
+}
+
+/* ---- one call timed */
+
+/* Only the reading: the rows are lent and zeroed before, and what jetdb made is dropped behind. */
+static double library_reads(task_t *t) {
+    lend(t);
+    double start = seconds();
+    read_by_library(t);
+    double taken = seconds() - start;
+    take_back(t);
+    return taken;
+}
+
+static double jetdb_reads(task_t *t) {
+    compare_reading_t found;
+    double start = seconds();
+    compare_jetdb(&t->stream, &found);
+    double taken = seconds() - start;
+    compare_drop(&found);
+    return taken;
+}
+
+/* All of it: allocating and zeroing the rows, reading, giving the memory back. */
+static double library_in_all(task_t *t) {
+    double start = seconds();
+    lend(t);
+    read_by_library(t);
+    take_back(t);
+    return seconds() - start;
+}
+
+static double jetdb_in_all(task_t *t) {
+    compare_reading_t found;
+    double start = seconds();
+    compare_jetdb(&t->stream, &found);
+    compare_drop(&found);
+    return seconds() - start;
+}
+
+/* A refused stream needs no rows and gives none, so that many calls can be timed as one. */
+static double library_refuses(task_t *t) {
+    double start = seconds();
+    for (int i = 0; i < t->at_once; i++) read_by_library(t);
+    return (seconds() - start) / t->at_once;
+}
+
+static double jetdb_refuses(task_t *t) {
+    compare_reading_t found;
+    double start = seconds();
+    for (int i = 0; i < t->at_once; i++) compare_jetdb(&t->stream, &found);
+    return (seconds() - start) / t->at_once;
+}
+
+/* ---- runs */
+
+typedef double timer(task_t *);
+
+static int ascending(const void *a, const void *b) {
+    double x = *(const double *)a, y = *(const double *)b;
+    return (x > y) - (x < y);
+}
+
+/* The middle one of so many calls' times: what else the machine does falls into a few of them. */
+static double middle_of(timer *time, task_t *t, int calls) {
+    static double taken[MOST_CALLS];
+    for (int i = 0; i < calls; i++) taken[i] = time(t);
+    qsort(taken, (size_t)calls, sizeof(double), ascending);
+    return taken[calls / 2];
+}
+
+static int between(int least, double n, int most) { return n < least ? least : n > most ? most : (int)n; }
+
+/* So many calls that a run takes about as long as it should. */
+static int calls_for(timer *ours, timer *theirs, task_t *t) {
+    double once = ours(t) + theirs(t);
+    return between(1, RUN_SECONDS / once, MOST_CALLS);
+}
+
+/* jetdb's time over the library's in each run, ascending; the two take turns at going first. */
+static void ratios(timer *ours, timer *theirs, task_t *t, double out[RUNS]) {
+    int calls = calls_for(ours, theirs, t);
+    for (int run = 0; run < RUNS; run++) {
+        double a, b;
+        if (run % 2) {
+            a = middle_of(ours, t, calls);
+            b = middle_of(theirs, t, calls);
+        } else {
+            b = middle_of(theirs, t, calls);
+            a = middle_of(ours, t, calls);
+        }
+        out[run] = b / a;
+    }
+    qsort(out, RUNS, sizeof(double), ascending);
+}
+
+static void print_spread(const double r[RUNS]) {
+    printf(" %.3g (%.3g to %.3g) |", r[RUNS / 2], r[0], r[RUNS - 1]);
+}
+
+static void print_name(const task_t *t) { printf("| %.*s |", (int)t->stream.name_length, t->stream.name); }
+
+static void compare_on(task_t *t) {
+    double r[RUNS];
+    measure(t);
+    print_name(t);
+    if (t->refused) {
+        t->at_once = 1;
+        t->at_once = between(1, ONE_TIMING / (library_refuses(t) + jetdb_refuses(t)), 1000);
+        ratios(library_refuses, jetdb_refuses, t, r);
+        print_spread(r);
+        printf(" |");
+    } else {
+        ratios(library_reads, jetdb_reads, t, r);
+        print_spread(r);
+        ratios(library_in_all, jetdb_in_all, t, r);
+        print_spread(r);
+    }
+    putchar('\n');
+    fflush(stdout);
+}
+
+/* The shortest of the runs: what else the machine does only adds to a time. */
+static double shortest_time(timer *time, task_t *t) {
+    double least = 1e9;
+    int calls = calls_for(time, time, t);
+    for (int run = 0; run < RUNS; run++) {
+        double taken = middle_of(time, t, calls);
+        least = taken < least ? taken : least;
+    }
+    return least;
+}
+
+/* A row of times at 1, 2, 4, 8 and 16 MiB over the first of them. */
+static bool print_growth(size_t family, timer *time, const char *whose) {
+    double first = 0;
+    for (size_t mib = 1; mib <= 16; mib *= 2) {
+        task_t t;
+        if (!compare_grown(family, mib, &t.stream)) return false;
+        measure(&t);
+        double taken = shortest_time(time, &t);
+        if (mib == 1) {
+            first = taken;
+            print_name(&t);
+            printf(" %s |", whose);
+        }
+        printf(" %.1f |", taken / first);
+        compare_give_back(&t.stream);
+    }
+    putchar('\n');
+    fflush(stdout);
+    return true;
+}
+
+/* All tables, or the line of one stream by its number. */
+int main(int words, char **word) {
+    task_t t;
+    table = compare_table(&table_length);
+    if (words > 1) {
+        if (!compare_stream((size_t)atoi(word[1]), &t.stream)) return 1;
+        compare_on(&t);
+        return 0;
+    }
+    puts("| Stream | Reading | With memory |\n|---|---|---|");
+    for (size_t n = 0; compare_stream(n, &t.stream); n++) {
+        compare_on(&t);
+        compare_give_back(&t.stream);
+    }
+    puts("\n| Stream | Whose time | 1 MiB | 2 | 4 | 8 | 16 |\n|---|---|---|---|---|---|---|");
+    for (size_t family = 0; print_growth(family, library_reads, "library"); family++) print_growth(family, jetdb_reads, "jetdb");
+    return 0;
+}

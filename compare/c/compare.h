@@ -1,0 +1,37 @@
+/* What src/c.rs hands to C. */
+#ifndef COMPARE_H
+#define COMPARE_H
+
+#include "oskuramos.h"
+#include <stdbool.h>
+#include <stddef.h>
+#include <stdint.h>
+
+enum { KIND_BLOB = 1, KIND_TYPE_INFO = 2 };
+
+/* A stream with its name, which has no NUL at its end. */
+typedef struct {
+    const char *name;
+    size_t name_length;
+    uint32_t kind;
+    const uint8_t *bytes;
+    size_t length;
+} compare_stream_t;
+
+/* Room for what jetdb made of a stream. */
+typedef struct {
+    uint64_t words[16];
+} compare_reading_t;
+
+bool compare_stream(size_t n, compare_stream_t *out);
+bool compare_grown(size_t n, size_t mib, compare_stream_t *out);
+void compare_give_back(const compare_stream_t *stream);
+const uint8_t *compare_table(size_t *length);
+void compare_jetdb(const compare_stream_t *stream, compare_reading_t *out);
+void compare_drop(compare_reading_t *reading);
+
+/* Compares long streams by the library's two readers; false where one differs. */
+bool compare_large(oskuramos_answer (*read_blob)(const uint8_t *, size_t, const uint8_t *, size_t, uint32_t *, size_t, uint32_t *, size_t),
+                   oskuramos_answer (*read_type_info)(const uint8_t *, size_t, uint32_t *, size_t));
+
+#endif
