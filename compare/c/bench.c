@@ -189,53 +189,71 @@ static void compare_on(task_t *t) {
     fflush(stdout);
 }
 
-/* The shortest of the runs: what else the machine does only adds to a time. */
-static double shortest_time(timer *time, task_t *t) {
-    double least = 1e9;
-    int calls = calls_for(time, time, t);
-    for (int run = 0; run < RUNS; run++) {
-        double taken = middle_of(time, t, calls);
-        least = taken < least ? taken : least;
+/* ---- growth */
+
+enum { SIZES = 5, MOST_MIB = 16 };
+
+/* The time of one call of each size in one run, over that of 1 MiB; each size is read as often as makes 16 MiB. */
+static void growth_in_one_run(task_t t[SIZES], double out[SIZES]) {
+    for (int size = 0; size < SIZES; size++) {
+        int calls = MOST_MIB >> size;
+        double sum = 0;
+        for (int i = 0; i < calls; i++) sum += library_reads(&t[size]);
+        out[size] = sum / calls;
     }
-    return least;
+    for (int size = SIZES - 1; size >= 0; size--) out[size] /= out[0];
 }
 
-/* A row of times at 1, 2, 4, 8 and 16 MiB over the first of them. */
-static bool print_growth(size_t family, timer *time, const char *whose) {
-    double first = 0;
-    for (size_t mib = 1; mib <= 16; mib *= 2) {
-        task_t t;
-        if (!compare_grown(family, mib, &t.stream)) return false;
-        measure(&t);
-        double taken = shortest_time(time, &t);
-        if (mib == 1) {
-            first = taken;
-            print_name(&t);
-            printf(" %s |", whose);
-        }
-        printf(" %.1f |", taken / first);
-        compare_give_back(&t.stream);
+/* A family's line: the middle one of the runs for each size. */
+static bool print_growth(size_t family) {
+    task_t t[SIZES];
+    double grown[RUNS][SIZES];
+    for (int size = 0; size < SIZES; size++) {
+        if (!compare_grown(family, (size_t)1 << size, &t[size].stream)) return false;
+        measure(&t[size]);
+    }
+    for (int run = 0; run < RUNS; run++) growth_in_one_run(t, grown[run]);
+    print_name(&t[0]);
+    for (int size = 0; size < SIZES; size++) {
+        double r[RUNS];
+        for (int run = 0; run < RUNS; run++) r[run] = grown[run][size];
+        qsort(r, RUNS, sizeof(double), ascending);
+        printf(" %.1f |", r[RUNS / 2]);
+        compare_give_back(&t[size].stream);
     }
     putchar('\n');
     fflush(stdout);
     return true;
 }
 
-/* All tables, or the line of one stream by its number. */
-int main(int words, char **word) {
+static int print_ratios(void) {
     task_t t;
-    table = compare_table(&table_length);
-    if (words > 1) {
-        if (!compare_stream((size_t)atoi(word[1]), &t.stream)) return 1;
-        compare_on(&t);
-        return 0;
-    }
     puts("| Stream | Reading | With memory |\n|---|---|---|");
     for (size_t n = 0; compare_stream(n, &t.stream); n++) {
         compare_on(&t);
         compare_give_back(&t.stream);
     }
-    puts("\n| Stream | Whose time | 1 MiB | 2 | 4 | 8 | 16 |\n|---|---|---|---|---|---|---|");
-    for (size_t family = 0; print_growth(family, library_reads, "library"); family++) print_growth(family, jetdb_reads, "jetdb");
+    return 0;
+}
+
+static int print_growths(void) {
+    puts("| Stream | 1 MiB | 2 | 4 | 8 | 16 |\n|---|---|---|---|---|---|");
+    for (size_t family = 0; print_growth(family); family++) {}
+    return 0;
+}
+
+/* Both tables, one of them (`ratios`, `growth`), or the line of one stream by its number. */
+int main(int words, char **word) {
+    task_t t;
+    table = compare_table(&table_length);
+    if (words < 2) {
+        print_ratios();
+        putchar('\n');
+        return print_growths();
+    }
+    if (!strcmp(word[1], "ratios")) return print_ratios();
+    if (!strcmp(word[1], "growth")) return print_growths();
+    if (!compare_stream((size_t)atoi(word[1]), &t.stream)) return 1;
+    compare_on(&t);
     return 0;
 }
