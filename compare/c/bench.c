@@ -1,6 +1,7 @@
 /* Times the library against jetdb's own functions, in one process and on the same streams. docs/SPEED.md says what is timed. */
 #include "compare.h"
 #include "oskuramos.h"
+#include <malloc.h>
 #include <stdio.h>
 #include <stdlib.h>
 #include <string.h>
@@ -236,7 +237,10 @@ static int print_ratios(void) {
     return 0;
 }
 
+/* Rows are lent out of memory that the process keeps: pages fresh from the system would cost more than the reading. */
 static int print_growths(void) {
+    mallopt(M_MMAP_MAX, 0);
+    mallopt(M_TRIM_THRESHOLD, -1);
     puts("| Stream | 1 MiB | 2 | 4 | 8 | 16 |\n|---|---|---|---|---|---|");
     for (size_t family = 0; print_growth(family); family++) {}
     return 0;
