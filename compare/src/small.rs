@@ -9,7 +9,7 @@ const EVERY_CUT: usize = 256;
 const EVERY_COUNT: usize = 48;
 /// How many bytes are judged at a time, and in all.
 const AT_A_TIME: usize = 1 << 20;
-const IN_ALL: usize = 400 << 20;
+const IN_ALL: usize = 6 << 20;
 
 /// The first of some cases that differs, and how.
 pub type Differs<'a> = &'a mut dyn FnMut(&[Case]) -> Option<(Case, String)>;
