@@ -3,24 +3,6 @@ use Rattle.rules.specs.Lists.{find}
 use Rattle.codetable.specs.Look.{bodyRows, asRow}
 use Rattle.codetable.proofs.find_row.Statement.{statement}
 use Rattle.codetable.proofs.find_row.Tie as tie
-use Rattle.codetable.proofs.find_row.Reads as reads
-use Rattle.codetable.proofs.find_row.Lts as lts
-use Rattle.codetable.proofs.seek_row.Reads as seek-row-reads
-
-enum-known-body : tie.Need-enum-known-body
-enum-known-body c = search needs
-
-cast-seek-row : tie.Need-cast-seek-row
-cast-seek-row c = search needs
-
-cast-seek-row-2 : tie.Need-cast-seek-row-2
-cast-seek-row-2 c = search needs
-
-seek-row-requires : tie.Need-seek-row-requires
-seek-row-requires c κs = search needs
-
-enum-told : tie.Need-enum-told
-enum-told c = search needs
 
 returns : tie.Need-returns
 unfolding bodyRows
@@ -34,10 +16,6 @@ pub find-row-spec : {M : Type 1} → statement M
 find-row-spec =
     tie.close
     (tie.spec
-    enum-known-body
-    cast-seek-row
-    cast-seek-row-2
-    seek-row-requires
-    enum-told
+    (λ c. search needs) (λ c. search needs) (λ c. search needs) (λ c κs. search needs) (λ c. search needs)
     returns
     returns-2)

@@ -8,10 +8,6 @@ use Rattle.rules.specs.CodeTable.{codesAt, header}
 use Rattle.codetable.proofs.Steps.{CodeRead, has-here, has-later, has-done}
 use Rattle.codetable.proofs.is_header.Statement.{statement}
 use Rattle.codetable.proofs.is_header.Tie as tie
-use Rattle.codetable.proofs.is_header.Reads as reads
-use Rattle.codetable.proofs.is_header.Lts as lts
-use Rattle.codetable.proofs.byte.Reads as byte-reads
-use Rattle.codetable.proofs.word.Reads as word-reads
 
 abbrev Inv-loop : tie.InvT-loop
 Inv-loop table code wanted at₀ codes₀ at codes =
@@ -24,43 +20,19 @@ abbrev μ-loop : tie.MeasureT-loop
 read : (c : tie.After-word Inv-loop μ-loop) → CodeRead (now (c .before .before .before .before .before .args .table)) (c .before .before .loop .at) (c .before .before .loop .codes) (c .word .result)
 read c = record { more = omega arith; code-is = c .word .ensures .is }
 
--- src/lib.rt:163:9
-byte-requires : tie.Need-byte-requires Inv-loop μ-loop
-byte-requires c κs = search needs
-
--- src/lib.rt:164:5
 loop-holds : tie.Need-loop-holds Inv-loop μ-loop
 loop-holds c = (rw (c .byte .ensures .is), omega arith)
 
--- src/lib.rt:165:13
-word-requires : tie.Need-word-requires Inv-loop μ-loop
-word-requires c κs = search needs
-
--- src/lib.rt:167:13
 returns : tie.Need-returns Inv-loop μ-loop
 returns c =
     let l = c .before .before .before in
     sym (l .loop .inv .0 ∙ has-here (read (c .before)) _ (c .if1 .taken))
 
--- src/lib.rt:169:9
-add-at : tie.Need-add-at Inv-loop μ-loop
-add-at c = omega arith
-
--- src/lib.rt:170:9
-sub-codes : tie.Need-sub-codes Inv-loop μ-loop
-sub-codes c = omega arith
-
--- src/lib.rt:164:5
-loop-less : tie.Need-loop-less Inv-loop μ-loop
-loop-less c = omega arith
-
--- src/lib.rt:164:5
 loop-again : tie.Need-loop-again Inv-loop μ-loop
 loop-again c =
     let l = c .before .before .before in
     (l .loop .inv .0 ∙ has-later (read (c .before)) _ (c .if1 .left), omega arith)
 
--- src/lib.rt:158:1
 returns-2 : tie.Need-returns-2 Inv-loop μ-loop
 returns-2 c = sym (c .before .loop .inv .0 ∙ has-done _ _ (c .before .loop .codes) _ (omega arith))
 
@@ -70,12 +42,10 @@ is-header-spec =
     (tie.spec
     Inv-loop
     μ-loop
-    byte-requires
+    (λ c κs. search needs)
     loop-holds
-    word-requires
+    (λ c κs. search needs)
     returns
-    add-at
-    sub-codes
-    loop-less
+    (λ c. omega arith) (λ c. omega arith) (λ c. omega arith)
     loop-again
     returns-2)

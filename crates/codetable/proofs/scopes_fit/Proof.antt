@@ -12,11 +12,6 @@ use Rattle.codetable.specs.Look.{scopesFrom}
 use Rattle.codetable.proofs.Steps.{ScopeRead, scopes-at-zero, scopes-kind, scopes-code, code-ok, scopes-low, scopes-rows, scopes-step, scopes-done}
 use Rattle.codetable.proofs.scopes_fit.Statement.{statement}
 use Rattle.codetable.proofs.scopes_fit.Tie as tie
-use Rattle.codetable.proofs.scopes_fit.Reads as reads
-use Rattle.codetable.proofs.scopes_fit.Lts as lts
-use Rattle.codetable.proofs.byte.Reads as byte-reads
-use Rattle.codetable.proofs.ties_ok.Reads as ties-ok-reads
-use Rattle.codetable.proofs.word.Reads as word-reads
 
 abbrev Inv-loop : tie.InvT-loop
 Inv-loop table start bodies n at₀ body₀ left₀ least₀ at body left least =
@@ -51,97 +46,34 @@ code-known j =
     (λ w. let e : j .before .before .before .before .byte .result ≡ 2 = omega (arith, w .left) in inl e)
     (j .if2 .came))
 
--- src/lib.rt:104:5
 loop-holds : tie.Need-loop-holds Inv-loop μ-loop
 loop-holds c = (sym (scopes-at-zero _ _ _ _), omega arith, omega arith, omega arith)
 
--- src/lib.rt:105:13
-byte-requires : tie.Need-byte-requires Inv-loop μ-loop
-byte-requires c κs = search needs
-
--- src/lib.rt:106:32
-add-word : tie.Need-add-word Inv-loop μ-loop
-add-word c = omega arith
-
--- src/lib.rt:106:13
-word-requires : tie.Need-word-requires Inv-loop μ-loop
-word-requires c κs = search needs
-
--- src/lib.rt:107:33
-add-word-2 : tie.Need-add-word-2 Inv-loop μ-loop
-add-word-2 c = omega arith
-
--- src/lib.rt:107:13
-word-requires-2 : tie.Need-word-requires-2 Inv-loop μ-loop
-word-requires-2 c κs = search needs
-
--- src/lib.rt:109:13
 returns : tie.Need-returns Inv-loop μ-loop
 returns c =
     let l = c .before .before .before .before .before .loop in
     sym (l .inv .0 ∙ scopes-kind (read (c .before)) (l .body) (l .least) (omega arith))
 
--- src/lib.rt:113:17
 returns-2 : tie.Need-returns-2 Inv-loop μ-loop
 returns-2 c =
     let l = c .before .before .before .before .before .before .before .loop in
     sym (l .inv .0 ∙ scopes-code (read (c .before .before .before)) (l .body) (l .least) (omega arith) (λ e. omega arith) (λ e. omega arith))
 
--- src/lib.rt:116:19
-mul-key : tie.Need-mul-key Inv-loop μ-loop
-mul-key c = omega arith
-
--- src/lib.rt:116:19
-add-key : tie.Need-add-key Inv-loop μ-loop
-add-key c = omega arith
-
--- src/lib.rt:118:13
 returns-3 : tie.Need-returns-3 Inv-loop μ-loop
 returns-3 c =
     let l = c .before .before .before .before .before .before .before .loop in
     sym (l .inv .0 ∙ scopes-low (read (c .before .before .before)) (l .body) (l .least) (omega arith))
 
--- src/lib.rt:120:13
-ties-ok-requires : tie.Need-ties-ok-requires Inv-loop μ-loop
-ties-ok-requires c κs = search needs
-
--- src/lib.rt:121:13
 returns-4 : tie.Need-returns-4 Inv-loop μ-loop
 returns-4 c =
     let l = c .before .before .before .before .before .before .before .before .before .loop in
     sym (l .inv .0 ∙ scopes-rows (read (c .before .before .before .before .before)) (l .body) (l .least) (omega arith) (code-known (c .before .before .before)) (sym (c .before .ties-ok .ensures) ∙ not-true _ (c .if5 .taken)))
 
--- src/lib.rt:123:17
-add-least : tie.Need-add-least Inv-loop μ-loop
-add-least c = omega arith
-
--- src/lib.rt:124:9
-add-at : tie.Need-add-at Inv-loop μ-loop
-add-at c = omega arith
-
--- src/lib.rt:125:17
-mul-body : tie.Need-mul-body Inv-loop μ-loop
-mul-body c = omega arith
-
--- src/lib.rt:125:9
-add-body : tie.Need-add-body Inv-loop μ-loop
-add-body c = omega arith
-
--- src/lib.rt:126:9
-sub-left : tie.Need-sub-left Inv-loop μ-loop
-sub-left c = omega arith
-
--- src/lib.rt:104:5
-loop-less : tie.Need-loop-less Inv-loop μ-loop
-loop-less c = omega arith
-
--- src/lib.rt:104:5
 loop-again : tie.Need-loop-again Inv-loop μ-loop
 loop-again c =
     let l = c .before .before .before .before .before .before .before .before .before .loop in
     (l .inv .0 ∙ scopes-step (read (c .before .before .before .before .before)) (l .body) (l .least) (omega arith) (omega arith) (code-known (c .before .before .before)) (sym (c .before .ties-ok .ensures) ∙ not-false _ (c .if5 .left)), omega arith, omega arith, omega arith)
 
--- src/lib.rt:96:1
 returns-5 : tie.Need-returns-5 Inv-loop μ-loop
 returns-5 c = sym (c .before .loop .inv .0 ∙ scopes-done _ _ _ (c .before .loop .left) _ (omega arith))
 
@@ -152,23 +84,13 @@ scopes-fit-spec =
     Inv-loop
     μ-loop
     loop-holds
-    byte-requires
-    add-word
-    word-requires
-    add-word-2
-    word-requires-2
+    (λ c κs. search needs) (λ c. omega arith) (λ c κs. search needs) (λ c. omega arith) (λ c κs. search needs)
     returns
     returns-2
-    mul-key
-    add-key
+    (λ c. omega arith) (λ c. omega arith)
     returns-3
-    ties-ok-requires
+    (λ c κs. search needs)
     returns-4
-    add-least
-    add-at
-    mul-body
-    add-body
-    sub-left
-    loop-less
+    (λ c. omega arith) (λ c. omega arith) (λ c. omega arith) (λ c. omega arith) (λ c. omega arith) (λ c. omega arith)
     loop-again
     returns-5)

@@ -7,10 +7,6 @@ use Rattle.codetable.specs.Look.{keyAt, asPlace}
 use Rattle.codetable.proofs.Halves.{Narrowed, begin, not-there, Turn, hit, go-up, go-down}
 use Rattle.codetable.proofs.seek_scope.Statement.{statement}
 use Rattle.codetable.proofs.seek_scope.Tie as tie
-use Rattle.codetable.proofs.seek_scope.Reads as reads
-use Rattle.codetable.proofs.seek_scope.Lts as lts
-use Rattle.codetable.proofs.byte.Reads as byte-reads
-use Rattle.codetable.proofs.word.Reads as word-reads
 
 abbrev Inv-loop : tie.InvT-loop
 Inv-loop table contents n wanted first₀ scopes₀ first scopes =
@@ -32,78 +28,21 @@ turn : (c : tie.After-word Inv-loop μ-loop)
     (c .before .byte .result * 65536 + c .word .result)
 turn c = record { so-far = head c .loop .inv .0; fits = omega arith; middle = omega arith; reads = omega arith }
 
--- src/lib.rt:182:5
 loop-holds : tie.Need-loop-holds Inv-loop μ-loop
 loop-holds c = (begin (λ i. i) _ 1 0 _ _, omega arith)
 
--- src/lib.rt:184:19
-add-mid : tie.Need-add-mid Inv-loop μ-loop
-add-mid c = omega arith
-
--- src/lib.rt:185:29
-mul-at : tie.Need-mul-at Inv-loop μ-loop
-mul-at c = omega arith
-
--- src/lib.rt:185:18
-add-at : tie.Need-add-at Inv-loop μ-loop
-add-at c = omega arith
-
--- src/lib.rt:186:19
-byte-requires : tie.Need-byte-requires Inv-loop μ-loop
-byte-requires c κs = search needs
-
--- src/lib.rt:186:19
-mul-key : tie.Need-mul-key Inv-loop μ-loop
-mul-key c = omega arith
-
--- src/lib.rt:186:57
-add-word : tie.Need-add-word Inv-loop μ-loop
-add-word c = omega arith
-
--- src/lib.rt:186:45
-word-requires : tie.Need-word-requires Inv-loop μ-loop
-word-requires c κs = search needs
-
--- src/lib.rt:186:19
-add-key : tie.Need-add-key Inv-loop μ-loop
-add-key c = omega arith
-
--- src/lib.rt:188:13
 returns : tie.Need-returns Inv-loop μ-loop
 unfolding asPlace
 returns c =
     let t = turn (c .before) in
     record { is = λ a. ap asPlace (sym (hit t (c .if1 .taken) a)); inside = λ i e. let q : c .before .before .before .before .loop .first + c .before .before .before .before .loop .scopes / 2 ≡ i = cc in omega arith }
 
--- src/lib.rt:191:21
-add-first : tie.Need-add-first Inv-loop μ-loop
-add-first c = omega arith
-
--- src/lib.rt:192:20
-sub-scopes : tie.Need-sub-scopes Inv-loop μ-loop
-sub-scopes c = omega arith
-
--- src/lib.rt:192:20
-sub-scopes-2 : tie.Need-sub-scopes-2 Inv-loop μ-loop
-sub-scopes-2 c = omega arith
-
--- src/lib.rt:182:5
-loop-less : tie.Need-loop-less Inv-loop μ-loop
-loop-less c = omega arith
-
--- src/lib.rt:182:5
 loop-again : tie.Need-loop-again Inv-loop μ-loop
 loop-again c = (go-up (turn (c .before .before)) (omega arith), omega arith)
 
--- src/lib.rt:182:5
-loop-less-2 : tie.Need-loop-less-2 Inv-loop μ-loop
-loop-less-2 c = omega arith
-
--- src/lib.rt:182:5
 loop-again-2 : tie.Need-loop-again-2 Inv-loop μ-loop
 loop-again-2 c = (go-down (turn (c .before .before)) (omega arith), omega arith)
 
--- src/lib.rt:176:1
 returns-2 : tie.Need-returns-2 Inv-loop μ-loop
 unfolding asPlace
 returns-2 c = record { is = λ a. ap asPlace (sym (not-there (c .before .loop .inv .0) (omega arith) a)); inside = λ i e. absurd (let z : _≡_ {A = ℕ} 0 1 = cc in omega arith) }
@@ -115,20 +54,11 @@ seek-scope-spec =
     Inv-loop
     μ-loop
     loop-holds
-    add-mid
-    mul-at
-    add-at
-    byte-requires
-    mul-key
-    add-word
-    word-requires
-    add-key
+    (λ c. omega arith) (λ c. omega arith) (λ c. omega arith) (λ c κs. search needs) (λ c. omega arith) (λ c. omega arith)
+    (λ c κs. search needs) (λ c. omega arith)
     returns
-    add-first
-    sub-scopes
-    sub-scopes-2
-    loop-less
+    (λ c. omega arith) (λ c. omega arith) (λ c. omega arith) (λ c. omega arith)
     loop-again
-    loop-less-2
+    (λ c. omega arith)
     loop-again-2
     returns-2)

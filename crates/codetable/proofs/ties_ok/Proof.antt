@@ -8,10 +8,6 @@ use Rattle.codetable.specs.Look.{tiesFrom}
 use Rattle.codetable.proofs.Steps.{TieRead, ties-at-zero, ties-low, ties-id, ties-target, ties-kind, ties-step, ties-done}
 use Rattle.codetable.proofs.ties_ok.Statement.{statement}
 use Rattle.codetable.proofs.ties_ok.Tie as tie
-use Rattle.codetable.proofs.ties_ok.Reads as reads
-use Rattle.codetable.proofs.ties_ok.Lts as lts
-use Rattle.codetable.proofs.byte.Reads as byte-reads
-use Rattle.codetable.proofs.word.Reads as word-reads
 
 abbrev Inv-loop : tie.InvT-loop
 Inv-loop table start n at₀ left₀ least₀ at left least =
@@ -34,77 +30,34 @@ read c = record {
   kind-is = c .byte2 .ensures .is;
 }
 
--- src/lib.rt:72:5
 loop-holds : tie.Need-loop-holds Inv-loop μ-loop
 loop-holds c = (sym (ties-at-zero _), omega arith, omega arith)
 
--- src/lib.rt:73:13
-byte-requires : tie.Need-byte-requires Inv-loop μ-loop
-byte-requires c κs = search needs
-
--- src/lib.rt:74:34
-add-word : tie.Need-add-word Inv-loop μ-loop
-add-word c = omega arith
-
--- src/lib.rt:74:13
-word-requires : tie.Need-word-requires Inv-loop μ-loop
-word-requires c κs = search needs
-
--- src/lib.rt:75:32
-add-byte : tie.Need-add-byte Inv-loop μ-loop
-add-byte c = omega arith
-
--- src/lib.rt:75:13
-byte-requires-2 : tie.Need-byte-requires-2 Inv-loop μ-loop
-byte-requires-2 c κs = search needs
-
--- src/lib.rt:77:13
 returns : tie.Need-returns Inv-loop μ-loop
 returns c =
     let l = c .before .before .before .before .before .loop in
     sym (l .inv .0 ∙ ties-low (read (c .before)) (l .least) (omega arith))
 
--- src/lib.rt:80:13
 returns-2 : tie.Need-returns-2 Inv-loop μ-loop
 returns-2 c =
     let l = c .before .before .before .before .before .before .loop in
     sym (l .inv .0 ∙ ties-id (read (c .before .before)) (l .least) (omega arith))
 
--- src/lib.rt:83:13
 returns-3 : tie.Need-returns-3 Inv-loop μ-loop
 returns-3 c =
     let l = c .before .before .before .before .before .before .before .loop in
     sym (l .inv .0 ∙ ties-target (read (c .before .before .before)) (l .least) (omega arith) (omega arith))
 
--- src/lib.rt:86:13
 returns-4 : tie.Need-returns-4 Inv-loop μ-loop
 returns-4 c =
     let l = c .before .before .before .before .before .before .before .before .loop in
     sym (l .inv .0 ∙ ties-kind (read (c .before .before .before .before)) (l .least) (omega arith) (omega arith) (omega arith))
 
--- src/lib.rt:88:17
-add-least : tie.Need-add-least Inv-loop μ-loop
-add-least c = omega arith
-
--- src/lib.rt:89:9
-add-at : tie.Need-add-at Inv-loop μ-loop
-add-at c = omega arith
-
--- src/lib.rt:90:9
-sub-left : tie.Need-sub-left Inv-loop μ-loop
-sub-left c = omega arith
-
--- src/lib.rt:72:5
-loop-less : tie.Need-loop-less Inv-loop μ-loop
-loop-less c = omega arith
-
--- src/lib.rt:72:5
 loop-again : tie.Need-loop-again Inv-loop μ-loop
 loop-again c =
     let l = c .before .before .before .before .before .before .before .before .loop in
     (l .inv .0 ∙ ties-step (read (c .before .before .before .before)) (l .least) (omega arith) (omega arith) (omega arith) (omega arith), omega arith, omega arith)
 
--- src/lib.rt:65:1
 returns-5 : tie.Need-returns-5 Inv-loop μ-loop
 returns-5 c = sym (c .before .loop .inv .0 ∙ ties-done _ _ (c .before .loop .left) _ (omega arith))
 
@@ -115,18 +68,11 @@ ties-ok-spec =
     Inv-loop
     μ-loop
     loop-holds
-    byte-requires
-    add-word
-    word-requires
-    add-byte
-    byte-requires-2
+    (λ c κs. search needs) (λ c. omega arith) (λ c κs. search needs) (λ c. omega arith) (λ c κs. search needs)
     returns
     returns-2
     returns-3
     returns-4
-    add-least
-    add-at
-    sub-left
-    loop-less
+    (λ c. omega arith) (λ c. omega arith) (λ c. omega arith) (λ c. omega arith)
     loop-again
     returns-5)

@@ -3,11 +3,6 @@ use Rattle.names.proofs.InOrder.{bytes}
 use borrow.Author.Needs.{needs}
 use Rattle.names.proofs.bytes_name.Statement.{statement}
 use Rattle.names.proofs.bytes_name.Tie as tie
-use Rattle.names.proofs.bytes_name.Reads as reads
-use Rattle.names.proofs.bytes_name.Lts as lts
-use Rattle.names.proofs.found_in.Reads as found-in-reads
-use Rattle.names.proofs.tables.bytes_ids.Reads as bytes-ids-reads
-use Rattle.names.proofs.tables.bytes_rows.Reads as bytes-rows-reads
 
 returns : tie.Need-returns
 returns c =

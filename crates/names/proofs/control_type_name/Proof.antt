@@ -3,11 +3,6 @@ use Rattle.names.proofs.InOrder.{control-types}
 use borrow.Author.Needs.{needs}
 use Rattle.names.proofs.control_type_name.Statement.{statement}
 use Rattle.names.proofs.control_type_name.Tie as tie
-use Rattle.names.proofs.control_type_name.Reads as reads
-use Rattle.names.proofs.control_type_name.Lts as lts
-use Rattle.names.proofs.found_in.Reads as found-in-reads
-use Rattle.names.proofs.tables.control_type_ids.Reads as control-type-ids-reads
-use Rattle.names.proofs.tables.control_type_rows.Reads as control-type-rows-reads
 
 returns : tie.Need-returns
 returns c =

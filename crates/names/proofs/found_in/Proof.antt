@@ -4,10 +4,6 @@ use Rattle.names.proofs.Rows.{of-row}
 use borrow.Author.Needs.{needs}
 use Rattle.names.proofs.found_in.Statement.{statement}
 use Rattle.names.proofs.found_in.Tie as tie
-use Rattle.names.proofs.found_in.Reads as reads
-use Rattle.names.proofs.found_in.Lts as lts
-use Rattle.names.proofs.of_row.Reads as of-row-reads
-use Rattle.names.proofs.row_in.Reads as row-in-reads
 
 returns : tie.Need-returns
 returns c t l = c .of-row .ensures ∙ ap ofRow (c .before .row-in .ensures t l) ∙ of-row l (c .before .before .before .args .id)

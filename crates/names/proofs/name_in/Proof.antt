@@ -5,11 +5,6 @@ use Rattle.names.proofs.Rows.{row-at, no-row, before-zero}
 use borrow.Author.Needs.{needs}
 use Rattle.names.proofs.name_in.Statement.{statement}
 use Rattle.names.proofs.name_in.Tie as tie
-use Rattle.names.proofs.name_in.Reads as reads
-use Rattle.names.proofs.name_in.Lts as lts
-use Rattle.names.proofs.name_of.Reads as name-of-reads
-use Rattle.names.proofs.none_of.Reads as none-of-reads
-use Rattle.names.proofs.place_in.Reads as place-in-reads
 
 returns : tie.Need-returns
 returns c t l =

@@ -7,9 +7,6 @@ use Rattle.names.proofs.Zeros.{within, take-before}
 use borrow.Author.Needs.{needs}
 use Rattle.names.proofs.name_of.Statement.{statement}
 use Rattle.names.proofs.name_of.Tie as tie
-use Rattle.names.proofs.name_of.Reads as reads
-use Rattle.names.proofs.name_of.Lts as lts
-use Rattle.names.proofs.len_of.Reads as len-of-reads
 
 slice-aggregate-result : tie.Need-slice-aggregate-result
 slice-aggregate-result c =

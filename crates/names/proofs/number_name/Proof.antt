@@ -3,11 +3,6 @@ use Rattle.names.proofs.InOrder.{numbers}
 use borrow.Author.Needs.{needs}
 use Rattle.names.proofs.number_name.Statement.{statement}
 use Rattle.names.proofs.number_name.Tie as tie
-use Rattle.names.proofs.number_name.Reads as reads
-use Rattle.names.proofs.number_name.Lts as lts
-use Rattle.names.proofs.found_in.Reads as found-in-reads
-use Rattle.names.proofs.tables.number_ids.Reads as number-ids-reads
-use Rattle.names.proofs.tables.number_rows.Reads as number-rows-reads
 
 returns : tie.Need-returns
 returns c =

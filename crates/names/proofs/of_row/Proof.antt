@@ -4,9 +4,6 @@ use lib.Dec.{ltb}
 use borrow.Author.Needs.{needs}
 use Rattle.names.proofs.of_row.Statement.{statement}
 use Rattle.names.proofs.of_row.Tie as tie
-use Rattle.names.proofs.of_row.Reads as reads
-use Rattle.names.proofs.of_row.Lts as lts
-use Rattle.names.proofs.len_of.Reads as len-of-reads
 
 returns : tie.Need-returns
 returns c =

@@ -6,8 +6,6 @@ use native.Mathlib.Omega.{arith}
 use Rattle.names.proofs.Bracket.{Bracket, start, up, down, placed, nowhere}
 use Rattle.names.proofs.place_in.Statement.{statement}
 use Rattle.names.proofs.place_in.Tie as tie
-use Rattle.names.proofs.place_in.Reads as reads
-use Rattle.names.proofs.place_in.Lts as lts
 
 abbrev Inv-loop : tie.InvT-loop
 Inv-loop ids id lo₀ hi₀ lo hi = (lo ≤ hi) × (hi ≤ length ids) × (T (ascends 0 ids) → Bracket ids id lo hi)

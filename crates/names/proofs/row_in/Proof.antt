@@ -5,9 +5,6 @@ use Rattle.names.proofs.Rows.{row-at, no-row}
 use borrow.Author.Needs.{needs}
 use Rattle.names.proofs.row_in.Statement.{statement}
 use Rattle.names.proofs.row_in.Tie as tie
-use Rattle.names.proofs.row_in.Reads as reads
-use Rattle.names.proofs.row_in.Lts as lts
-use Rattle.names.proofs.place_in.Reads as place-in-reads
 
 returns : tie.Need-returns
 returns c t l = let p = c .before .before in row-at l (p .before .before .args .id) (p .place-in .result) (p .place-in .ensures) (omega arith)

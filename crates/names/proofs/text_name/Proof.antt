@@ -3,11 +3,6 @@ use Rattle.names.proofs.InOrder.{texts}
 use borrow.Author.Needs.{needs}
 use Rattle.names.proofs.text_name.Statement.{statement}
 use Rattle.names.proofs.text_name.Tie as tie
-use Rattle.names.proofs.text_name.Reads as reads
-use Rattle.names.proofs.text_name.Lts as lts
-use Rattle.names.proofs.found_in.Reads as found-in-reads
-use Rattle.names.proofs.tables.text_ids.Reads as text-ids-reads
-use Rattle.names.proofs.tables.text_rows.Reads as text-rows-reads
 
 returns : tie.Need-returns
 returns c =

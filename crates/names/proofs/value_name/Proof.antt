@@ -5,12 +5,6 @@ use Rattle.names.proofs.Marks.{numbers, texts, bytes, none}
 use borrow.Author.Needs.{needs}
 use Rattle.names.proofs.value_name.Statement.{statement}
 use Rattle.names.proofs.value_name.Tie as tie
-use Rattle.names.proofs.value_name.Reads as reads
-use Rattle.names.proofs.value_name.Lts as lts
-use Rattle.names.proofs.bytes_name.Reads as bytes-name-reads
-use Rattle.names.proofs.nothing.Reads as nothing-reads
-use Rattle.names.proofs.number_name.Reads as number-name-reads
-use Rattle.names.proofs.text_name.Reads as text-name-reads
 
 returns : tie.Need-returns
 returns c = c .text-name .ensures ∙ ap named (texts (c .before .before .args .mark) (c .before .before .args .id) (c .before .match .keys1))

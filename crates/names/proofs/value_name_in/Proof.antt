@@ -5,10 +5,6 @@ use Rattle.names.proofs.Rows.{some-row}
 use Rattle.names.proofs.Marks.{numbers, texts, bytes, none}
 use Rattle.names.proofs.value_name_in.Statement.{statement}
 use Rattle.names.proofs.value_name_in.Tie as tie
-use Rattle.names.proofs.value_name_in.Reads as reads
-use Rattle.names.proofs.value_name_in.Lts as lts
-use Rattle.names.proofs.name_in.Reads as name-in-reads
-use Rattle.names.proofs.none_of.Reads as none-of-reads
 
 name-in-requires : tie.Need-name-in-requires
 name-in-requires c κs = let s = c .before .before .before .before .pre in omega (arith, some-row (s .texts), some-row (s .numbers), some-row (s .bytes))

@@ -2,8 +2,6 @@ use mathlib.Core.Path.{refl}
 use Rattle.rules.specs.NameTables.{bytesNames}
 use Rattle.names.proofs.tables.bytes_ids.Statement.{statement}
 use Rattle.names.proofs.tables.bytes_ids.Tie as tie
-use Rattle.names.proofs.tables.bytes_ids.Reads as reads
-use Rattle.names.proofs.tables.bytes_ids.Lts as lts
 
 returns : tie.Need-returns
 unfolding bytesNames

@@ -2,8 +2,6 @@ use mathlib.Core.Path.{refl}
 use Rattle.rules.specs.NameTables.{bytesNames}
 use Rattle.names.proofs.tables.bytes_rows.Statement.{statement}
 use Rattle.names.proofs.tables.bytes_rows.Tie as tie
-use Rattle.names.proofs.tables.bytes_rows.Reads as reads
-use Rattle.names.proofs.tables.bytes_rows.Lts as lts
 
 returns : tie.Need-returns
 unfolding bytesNames

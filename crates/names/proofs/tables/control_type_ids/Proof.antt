@@ -2,8 +2,6 @@ use mathlib.Core.Path.{refl}
 use Rattle.rules.specs.NameTables.{controlTypeNames}
 use Rattle.names.proofs.tables.control_type_ids.Statement.{statement}
 use Rattle.names.proofs.tables.control_type_ids.Tie as tie
-use Rattle.names.proofs.tables.control_type_ids.Reads as reads
-use Rattle.names.proofs.tables.control_type_ids.Lts as lts
 
 returns : tie.Need-returns
 unfolding controlTypeNames

@@ -2,8 +2,6 @@ use mathlib.Core.Path.{refl}
 use Rattle.rules.specs.NameTables.{controlTypeNames}
 use Rattle.names.proofs.tables.control_type_rows.Statement.{statement}
 use Rattle.names.proofs.tables.control_type_rows.Tie as tie
-use Rattle.names.proofs.tables.control_type_rows.Reads as reads
-use Rattle.names.proofs.tables.control_type_rows.Lts as lts
 
 returns : tie.Need-returns
 unfolding controlTypeNames

@@ -2,8 +2,6 @@ use mathlib.Core.Path.{refl}
 use Rattle.rules.specs.NameTables.{numberNames}
 use Rattle.names.proofs.tables.number_rows.Statement.{statement}
 use Rattle.names.proofs.tables.number_rows.Tie as tie
-use Rattle.names.proofs.tables.number_rows.Reads as reads
-use Rattle.names.proofs.tables.number_rows.Lts as lts
 
 returns : tie.Need-returns
 unfolding numberNames

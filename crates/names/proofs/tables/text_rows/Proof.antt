@@ -2,8 +2,6 @@ use mathlib.Core.Path.{refl}
 use Rattle.rules.specs.NameTables.{textNames}
 use Rattle.names.proofs.tables.text_rows.Statement.{statement}
 use Rattle.names.proofs.tables.text_rows.Tie as tie
-use Rattle.names.proofs.tables.text_rows.Reads as reads
-use Rattle.names.proofs.tables.text_rows.Lts as lts
 
 returns : tie.Need-returns
 unfolding textNames
