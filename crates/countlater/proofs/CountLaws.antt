@@ -9,7 +9,7 @@ use lib.Dec.{eqb}
 use lib.ListN.{length}
 use borrow.Author.Tests.{eq-eqb, ne-eqb, eqb-true}
 use Rattle.rules.specs.Lists.{_>>=_}
-use Rattle.rules.specs.Tree.{Entries, reported, preorder, nodesOf, levels}
+use Rattle.rules.specs.Tree.{Entries, reported, nodesOf, levels}
 use Rattle.rules.specs.Later.{Prop, childrenAt, nodesAt, objectGroup, treeOf, nodesBy}
 use Rattle.rules.proofs.ListLaws.{Every, every-if, every-then, every-at}
 use Rattle.rows.specs.Counting.{size, props, propsIn, partTop}
@@ -66,9 +66,9 @@ Within s p x = p + size (reported (x .0)) + props (reported (x .0)) ≤ length s
 pub whole-grown : (s : List ℕ) (t p : ℕ) → Every (Within s p) (wholeTree s t p)
 unfolding wholeTree
 whole-grown s t p =
-    every-then (Behind s p) (Within s p) (childrenAt s t p) _ (children-behind s t p) λ y b.
+    every-then (Behind p) (Within s p) (childrenAt s t p) _ (children-behind s t p) λ y b.
     every-then (EntriesGrow (y .1)) (Within s p) (nodesAt levels s (y .0) (y .1)) _ (nodes-grow levels s (y .0) (y .1)) λ x g.
-    every-if (Within s p) (eqb (x .1) (length s)) _ _ (λ e. omega (arith, eqb-true (x .1) (length s) e, fewer (x .0), b .0, g)) λ _. tt
+    every-if (Within s p) (eqb (x .1) (length s)) _ _ (λ e. omega (arith, eqb-true (x .1) (length s) e, fewer (x .0), b, g)) λ _. tt
 
 -- ---- the stream's tree
 pub tree-open : (s : List ℕ) → objectGroup s .trailer ≡ none → treeOf s ≡ none

@@ -7,10 +7,9 @@ use mathlib.Core.List.{List, [], _∷_, _++_}
 use mathlib.Core.Option.{Option, none, some}
 use lib.Dec.{leb, eqb}
 use lib.ListN.{length}
-use borrow.Author.Tests.{leb-true}
 use Rattle.rules.specs.Lists.{_>>=_}
 use Rattle.rules.specs.Bytes.{u16}
-use Rattle.rules.specs.Tree.{Entry, Entries, end, more, levelsAt, Node, node, isSection, isReported, preorder1, preorder}
+use Rattle.rules.specs.Tree.{Entry, Entries, end, more, levelsAt, node, isSection, isReported, preorder1, preorder}
 use Rattle.rules.specs.Later as later
 use Rattle.rules.specs.Later.{Prop, groupAt, childrenAt, withChildren, nodeAt, nodesAt}
 use Rattle.rules.proofs.ListLaws.{Every, every-if, every-then, every-when, every-at}
@@ -66,16 +65,16 @@ pub children-bad : (o : Option (ℕ × ℕ)) (r : Children) → r ≡ children o
 children-bad none r e k = cc
 children-bad (some x) r e k = cc
 
--- ---- children start behind the group, within the stream
-abbrev pub Behind : List ℕ → ℕ → ℕ × ℕ → Type 0
-Behind s p x = (p ≤ x .1) × (p ≤ length s → x .1 ≤ length s)
+-- ---- children start behind the group
+abbrev pub Behind : ℕ → ℕ × ℕ → Type 0
+Behind p x = p ≤ x .1
 
-pub children-behind : (s : List ℕ) (t p : ℕ) → Every (Behind s p) (childrenAt s t p)
+pub children-behind : (s : List ℕ) (t p : ℕ) → Every (Behind p) (childrenAt s t p)
 unfolding childrenAt
 children-behind s t p =
-    every-if (Behind s p) (eqb t 253) _ _ (λ _. (omega arith, λ h. h)) λ _.
-    every-if (Behind s p) (eqb t 254) _ _ (λ _. (omega arith, λ h. h)) λ _.
-    every-if (Behind s p) (leb (p + 2) (length s)) _ _ (λ l. (omega arith, λ _. leb-true _ _ l)) λ _. tt
+    every-if (Behind p) (eqb t 253) _ _ (λ _. omega arith) λ _.
+    every-if (Behind p) (eqb t 254) _ _ (λ _. omega arith) λ _.
+    every-if (Behind p) (leb (p + 2) (length s)) _ _ (λ _. omega arith) λ _. tt
 
 -- ---- a node's head
 pub head-past : (s : List ℕ) (p : ℕ) → length s < p → childrenOf s p ≡ none
@@ -109,9 +108,9 @@ children-past s p =
     every-when (λ y. p + length (groupIn s p .props) < y .1) (groupIn s p .trailer) _ λ t _.
     go (childrenAt s t (groupIn s p .stop)) (children-behind s t (groupIn s p .stop))
   where
-    go : (o : Option (ℕ × ℕ)) → Every (Behind s (groupIn s p .stop)) o → Every (λ y. p + length (groupIn s p .props) < y .1) o
+    go : (o : Option (ℕ × ℕ)) → Every (Behind (groupIn s p .stop)) o → Every (λ y. p + length (groupIn s p .props) < y .1) o
     go none b = tt
-    go (some y) b = omega (arith, b .0, group-grows s (length s) (p + 6) .past)
+    go (some y) b = omega (arith, b, group-grows s (length s) (p + 6) .past)
 
 -- what the head's answer says: c properties, and n children from q on
 pub record Headed (s : List ℕ) (p c n q : ℕ) : Type 0 where

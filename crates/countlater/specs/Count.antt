@@ -7,7 +7,7 @@ use mathlib.Core.Option.{Option, none, some}
 use lib.Dec.{eqb}
 use lib.ListN.{length}
 use Rattle.rules.specs.Lists.{_>>=_}
-use Rattle.rules.specs.Tree.{Entry, Entries, Node, isReported, levels}
+use Rattle.rules.specs.Tree.{Entry, Entries, isReported, levels}
 use Rattle.rules.specs.Later as later
 use Rattle.rules.specs.Later.{Prop, isInside, lengthAt, endAt, trailerAt, groupAt, childrenAt, nodeAt, nodesAt, matchAt, matchesFrom, scanFrom, objectGroup, treeOf, nodesBy}
 use Rattle.rows.specs.Counting.{propsIn}

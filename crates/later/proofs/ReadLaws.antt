@@ -17,7 +17,6 @@ use Rattle.rules.specs.Reading.{properties, controlRowsFrom, controlRows, prope
 use Rattle.rules.specs.ReadLater.{propertyOf, controlOf, readLater}
 use Rattle.rules.specs.Blob.{counted}
 use Rattle.rules.specs.declared.Answer.{Answer}
-use Rattle.rows.specs.Counting.{propsIn}
 use Rattle.rows.specs.Writing.{State, state, theirs, writeControls, writeProperties}
 use Rattle.rows.specs.Acts.{topNodes, Held, Fit, Stood}
 use Rattle.rows.proofs.WritingLaws.{properties-length, reading-written}

@@ -10,7 +10,7 @@ use lib.ListN.{length, length-map}
 use borrow.Author.Tests.{ltb-true, ltb-false}
 use Rattle.rules.specs.Bytes.{u16}
 use Rattle.rules.specs.Answer.{longest}
-use Rattle.rules.specs.Rows.{controlWidth, propertyWidth}
+use Rattle.rules.specs.Rows.{controlWidth}
 use Rattle.rules.specs.Reading.{nameWords, controlRow}
 use Rattle.rules.specs.Tree.{Node, node}
 use Rattle.rules.specs.Later.{Prop, groupAt, childrenAt, nodesAt, matchAt, scanFrom}
@@ -20,7 +20,7 @@ use Rattle.rows.specs.Writing.{State, state, theirs, writeControls}
 use Rattle.rows.specs.Acts.{entryNodes, listNodes, _then_}
 use Rattle.rows.specs.declared.ControlRow.{ControlRow}
 use Rattle.rows.proofs.WritingLaws.{theirs-one, write-one}
-use Rattle.rows.proofs.ActLaws.{at-place, held-none, held-some}
+use Rattle.rows.proofs.ActLaws.{at-place, held-none}
 use Rattle.rows.proofs.RemainLaws.{Remain, remain-start, remain-as, ready-first, remain-step, remain-done}
 use Rattle.countlater.specs.Count.{item, children, groupIn, childrenOf, oneNode, NextMatch}
 use Rattle.countlater.specs.declared.Item.{Item}

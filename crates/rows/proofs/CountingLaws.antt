@@ -1,14 +1,13 @@
 -- What is counted of a tree is what its nodes in output order have, and what a reading made of them by `map` has.
-use Prim.Native.Nat.{ℕ, _+_}
+use Prim.Native.Nat.{_+_}
 use native.Mathlib.Omega.{arith}
-use mathlib.Core.Path.{_≡_, refl, sym, ap, _∙_}
+use mathlib.Core.Path.{_≡_, refl, _∙_}
 use mathlib.Core.List.{List, [], _∷_, _++_, map}
 use lib.ListN.{length, length-append}
-use Rattle.rules.specs.Tree.{Entry, plain, parent, Entries, end, more, Node, node, preorder1, preorder}
+use Rattle.rules.specs.Tree.{Entry, plain, parent, Entries, end, more, Node, preorder1, preorder}
 use Rattle.rules.specs.Reading.{Control}
 use Rattle.rows.specs.Counting.{size1, size, props1, props, propsIn}
 use Rattle.rows.specs.Writing.{theirs}
-use Rattle.rows.proofs.WritingLaws.{theirs-append, theirs-one}
 
 mutual
   unfolding preorder1 preorder

@@ -3,10 +3,10 @@ use Prim.Native.Nat.{ℕ, _+_, _-_, _≤_, _<_}
 use native.Mathlib.Omega.{arith}
 use native.Mathlib.Nat.{zero-add, add-zero, add-assoc}
 use mathlib.Core.Path.{_≡_, refl, sym, ap, _∙_}
-use mathlib.Core.Bool.{Bool, true, false, cond}
+use mathlib.Core.Bool.{Bool, true, false}
 use mathlib.Core.Option.{Option, none, some}
 use Rattle.rules.specs.Lists.{_>>=_}
-use Rattle.rules.specs.Tree.{Entry, Entries, end, more, levelsAt, isReported, reported}
+use Rattle.rules.specs.Tree.{Entry, Entries, more, levelsAt, isReported, reported}
 use Rattle.rules.proofs.ListLaws.{Every}
 use Rattle.rows.specs.Counting.{size1, size, props1, props, part1, part, partTop, partKept}
 use Rattle.rows.specs.declared.Part.{Part}

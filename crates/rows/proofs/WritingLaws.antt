@@ -1,5 +1,5 @@
 -- Controls written in several goes, and one control: its properties one by one, then its row.
-use Prim.Native.Nat.{ℕ, _+_, _*_, _≤_}
+use Prim.Native.Nat.{ℕ, _+_}
 use native.Mathlib.Omega.{arith}
 use mathlib.Core.Path.{_≡_, refl, sym, ap, ap₂, _∙_}
 use mathlib.Core.List.{List, [], _∷_, _++_, map, append-nil}
@@ -11,7 +11,7 @@ use Rattle.rules.specs.declared.Property.{Property}
 use Rattle.rules.proofs.ListLaws.{map-append, concat-append}
 use Rattle.rules.proofs.ReadingLaws.{controls-wide, properties-wide, control-rows-many, rows-append, total}
 use Rattle.rows.specs.Put.{put}
-use Rattle.rows.specs.Writing.{State, state, theirs, writeControls, writeProperties, Room}
+use Rattle.rows.specs.Writing.{State, state, theirs, writeControls, writeProperties}
 use Rattle.rows.proofs.PutLaws.{put-length, put-none, put-append, written-put}
 
 -- ---- how many

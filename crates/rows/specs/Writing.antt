@@ -1,6 +1,6 @@
 -- What writing the rows of some controls does to the two lent slices, whatever the layout: it determines every word of both.
 use Prim.Native.Nat.{ℕ, _+_, _*_, _≤_}
-use mathlib.Core.List.{List, [], _∷_, map}
+use mathlib.Core.List.{List, map}
 use lib.ListN.{length}
 use Rattle.rules.specs.Lists.{concat}
 use Rattle.rules.specs.Rows.{controlWidth, propertyWidth}
