@@ -14,5 +14,7 @@ count-spec =
     (λ c κs. omega (arith, within-ended _ (c .before .before .before .before .before .before .before .before .pre) _ (c .before .before .before .before .before .before .parse-group .ensures) _ _ _ (c .before .before .before .before .count2 .given .1)))
     (λ c. search needs)
     (λ c. counted-open _ (c .before .before .before .before .before .before .pre) _ (c .before .before .before .before .parse-group .ensures) _ _ (c .before .before .count .given .1) _ (c .count-scanned .ensures))
-    (λ c. counted-scan _ (c .before .before .before .before .before .before .before .before .before .pre) _ (c .before .before .before .before .before .before .before .parse-group .ensures) _ _ _ (c .before .before .before .before .before .count2 .given .1) _ (c .before .before .before .controls-of-tree .ensures) (c .before .enum-told .given .1) _ (c .count-scanned2 .ensures))
-    (λ c. counted-tree _ (c .before .before .before .before .before .before .before .before .before .pre) _ (c .before .before .before .before .before .before .before .parse-group .ensures) _ _ _ (c .before .before .before .before .before .count2 .given .1) _ (c .before .before .before .controls-of-tree .ensures) _ _ _ (c .before .controls .given .1)))
+    (λ c. let at-controls-of-tree = c .before .before .before in let at-count2 = at-controls-of-tree .before .before in let at-parse-group = at-count2 .before .before in let start = at-parse-group .before .before in
+    counted-scan _ (start .pre) _ (at-parse-group .parse-group .ensures) _ _ _ (at-count2 .count2 .given .1) _ (at-controls-of-tree .controls-of-tree .ensures) (c .before .enum-told .given .1) _ (c .count-scanned2 .ensures))
+    (λ c. let at-controls-of-tree = c .before .before .before in let at-count2 = at-controls-of-tree .before .before in let at-parse-group = at-count2 .before .before in let start = at-parse-group .before .before in
+    counted-tree _ (start .pre) _ (at-parse-group .parse-group .ensures) _ _ _ (at-count2 .count2 .given .1) _ (at-controls-of-tree .controls-of-tree .ensures) _ _ _ (c .before .controls .given .1)))

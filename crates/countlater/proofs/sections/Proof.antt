@@ -35,6 +35,7 @@ sections-spec =
     (λ c. search needs) (λ c. search needs)
     (λ c. (
       omega (arith, node-fits _ _ _ _ _ _ _ (c .before .before .before .parse-node .ensures) (c .before .controls .given .1)),
-      choosing-more _ _ _ _ _ _ _ _ (c .before .before .before .before .before .before .before .before .loop .inv .1) (eqb-false 256 0 refl) (c .before .before .before .before .before .before .before .loop-test .taken) _ (c .before .before .before .parse-node .ensures ∙ sym (kept-part _ _ _ _ (c .before .before .before .before .before .before .section-at .ensures) (c .before .before .before .before .enum-told .given .1))) _ _ _ (c .before .controls .given .1),
+      let at-parse-node = c .before .before .before in let at-enum-told = at-parse-node .before in let at-section-at = at-enum-told .before .before in let in-turn = at-section-at .before in let turn = in-turn .before in
+          choosing-more _ _ _ _ _ _ _ _ (turn .loop .inv .1) (eqb-false 256 0 refl) (in-turn .loop-test .taken) _ (at-parse-node .parse-node .ensures ∙ sym (kept-part _ _ _ _ (at-section-at .section-at .ensures) (at-enum-told .enum-told .given .1))) _ _ _ (c .before .controls .given .1),
     ))
     (λ c. choosing-all _ _ _ _ _ _ _ _ (c .before .loop .inv .1) (c .loop-test .left)))

@@ -70,14 +70,17 @@ unfolding nodesAt
     (λ c. omega (arith, node-adds _ _ _ _ _ _ _ (c .before .before .before .before .before .before .before .before .before .before .before .before .before .before .before .before .before .before .pre .1) _ (c .before .before .before .before .before .before .before .before .before .before .before .before .before .before .u16-at .ensures) _ _ _ (c .before .before .before .before .before .before .before .before .before .before .before .write-control .ensures)))
     (λ c κs. (
       omega (arith, c .before .before .before .before .before .before .before .before .before .before .before .before .before .before .before .before .before .before .pre .0),
-      node-remain _ _ _ _ _ _ _ (c .before .before .before .before .before .before .before .before .before .before .before .before .before .before .before .before .before .before .pre .1) _ (c .before .before .before .before .before .before .before .before .before .before .before .before .before .before .u16-at .ensures) _ _ _ (c .before .before .before .before .before .before .before .before .before .before .before .write-control .ensures) _ (c .before .before .before .before .before .before .children-at .ensures) _ _ (c .before .before .before .before .count .given .1) .ready,
+      let at-count = c .before .before .before .before in let at-children-at = at-count .before .before in let at-write-control = at-children-at .before .before .before .before .before in let at-u16-at = at-write-control .before .before .before in let start = at-u16-at .before .before .before .before in
+          node-remain _ _ _ _ _ _ _ (start .pre .1) _ (at-u16-at .u16-at .ensures) _ _ _ (at-write-control .write-control .ensures) _ (at-children-at .children-at .ensures) _ _ (at-count .count .given .1) .ready,
     ))
     (λ c. c .before .before .before .before .before .before .before .write-control .kept .1 .1 .1 .1 .0)
     (λ c. c .before .before .before .before .before .before .before .write-control .kept .1 .1 .1 .1 .1 .1 .0)
-    (λ c. absurd (node-never _ _ _ _ _ _ _ (c .before .before .before .before .before .before .before .before .before .before .before .before .before .before .pre .1) _ (c .before .before .before .before .before .before .before .before .before .before .u16-at .ensures) _ _ _ (c .before .before .before .before .before .before .before .write-control .ensures) _ (c .before .before .children-at .ensures) (c .enum-told .given .1)))
+    (λ c. let at-children-at = c .before .before in let at-write-control = at-children-at .before .before .before .before .before in let at-u16-at = at-write-control .before .before .before in let start = at-u16-at .before .before .before .before in
+    absurd (node-never _ _ _ _ _ _ _ (start .pre .1) _ (at-u16-at .u16-at .ensures) _ _ _ (at-write-control .write-control .ensures) _ (at-children-at .children-at .ensures) (c .enum-told .given .1)))
     (λ c. c .before .before .before .before .write-nodes .kept .1 .1 .1 .1 .0 ∙ c .before .before .before .before .before .before .before .before .before .before .before .before .before .before .before .before .write-control .kept .1 .1 .1 .1 .0)
     (λ c. c .before .before .before .before .write-nodes .kept .1 .1 .1 .1 .1 .1 .0 ∙ c .before .before .before .before .before .before .before .before .before .before .before .before .before .before .before .before .write-control .kept .1 .1 .1 .1 .1 .1 .0)
-    (λ c. c .before .before .before .before .write-nodes .ensures ∙ node-remain _ _ _ _ _ _ _ (c .before .before .before .before .before .before .before .before .before .before .before .before .before .before .before .before .before .before .before .before .before .before .before .pre .1) _ (c .before .before .before .before .before .before .before .before .before .before .before .before .before .before .before .before .before .before .before .u16-at .ensures) _ _ _ (c .before .before .before .before .before .before .before .before .before .before .before .before .before .before .before .before .write-control .ensures) _ (c .before .before .before .before .before .before .before .before .before .before .before .children-at .ensures) _ _ (c .before .before .before .before .before .before .before .before .before .count .given .1) .is))
+    (λ c. let at-write-nodes = c .before .before .before .before in let at-count = at-write-nodes .before .before .before .before .before in let at-children-at = at-count .before .before in let at-write-control = at-children-at .before .before .before .before .before in let at-u16-at = at-write-control .before .before .before in let start = at-u16-at .before .before .before .before in
+    at-write-nodes .write-nodes .ensures ∙ node-remain _ _ _ _ _ _ _ (start .pre .1) _ (at-u16-at .u16-at .ensures) _ _ _ (at-write-control .write-control .ensures) _ (at-children-at .children-at .ensures) _ _ (at-count .count .given .1) .is))
     λ t. write-nodes-lts.spec (write-nodes-calls t) (write-nodes-at t) write-nodes.Post Inv-loop μ-loop
     (λ c. (remain-start _ _ _ _ _ refl (c .before .before .before .pre .1), refl, refl))
     (λ c. omega (arith, list-some _ _ _ _ _ _ _ _ _ (c .before .loop .inv .0) (c .loop-test .taken)))

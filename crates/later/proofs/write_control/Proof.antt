@@ -15,4 +15,5 @@ write-control-spec =
     (λ c κs. search needs)
     (λ c κs. omega (arith, row-ready _ _ _ _ _ _ _ _ (c .before .before .before .before .before .before .before .before .before .before .pre)))
     (λ c. search needs) (λ c. search needs)
-    (λ c. control-done _ _ _ _ _ _ _ _ (c .before .before .before .before .before .before .before .before .before .before .before .before .before .pre) _ _ (c .before .before .before .before .before .before .before .before .write-group .ensures) _ (c .before .before .before .before .control-row .ensures) _ (c .before .before .put-control .ensures)))
+    (λ c. let at-put-control = c .before .before in let at-control-row = at-put-control .before .before in let at-write-group = at-control-row .before .before .before .before in let start = at-write-group .before .before .before .before .before in
+    control-done _ _ _ _ _ _ _ _ (start .pre) _ _ (at-write-group .write-group .ensures) _ (at-control-row .control-row .ensures) _ (at-put-control .put-control .ensures)))

@@ -26,14 +26,17 @@ write-scanned-spec =
     (λ c κs. omega (arith, match-room _ _ (c .before .loop .inv .0 .here (c .loop-test .taken))))
     (λ c κs. search needs) (λ c. search needs)
     (λ c. omega (arith, c .before .before .before .find-match2 .ensures .behind, c .before .before .before .before .loop-test .taken))
-    (λ c. (sweeping-same _ _ _ _ _ _ _ _ (c .before .before .before .before .before .loop .inv .0) (c .before .before .before .before .loop-test .taken) _ (c .before .before .before .find-match2 .ensures) _ (c .before .before .parse-entry .ensures) (c .enum-told .given .1), c .before .before .before .before .before .loop .inv .1, c .before .before .before .before .before .loop .inv .2))
+    (λ c. let at-parse-entry = c .before .before in let at-find-match2 = at-parse-entry .before in let in-turn = at-find-match2 .before in let turn = in-turn .before in
+    (sweeping-same _ _ _ _ _ _ _ _ (turn .loop .inv .0) (in-turn .loop-test .taken) _ (at-find-match2 .find-match2 .ensures) _ (at-parse-entry .parse-entry .ensures) (c .enum-told .given .1), turn .loop .inv .1, turn .loop .inv .2))
     (λ c. search needs)
-    (λ c κs. sweeping-ready _ _ _ _ _ _ _ _ (c .before .before .before .before .before .before .before .loop .inv .0) (c .before .before .before .before .before .before .loop-test .taken) _ (c .before .before .before .before .before .find-match2 .ensures) _ (c .before .before .before .before .parse-entry .ensures) _ _ _ (c .before .before .enum-told2 .given .1))
+    (λ c κs. let at-enum-told2 = c .before .before in let at-parse-entry = at-enum-told2 .before .before in let at-find-match2 = at-parse-entry .before in let in-turn = at-find-match2 .before in let turn = in-turn .before in
+    sweeping-ready _ _ _ _ _ _ _ _ (turn .loop .inv .0) (in-turn .loop-test .taken) _ (at-find-match2 .find-match2 .ensures) _ (at-parse-entry .parse-entry .ensures) _ _ _ (at-enum-told2 .enum-told2 .given .1))
     (λ c. omega (arith, sweeping-adds _ _ _ _ _ _ _ _ (c .before .before .before .before .before .before .before .before .before .before .before .before .loop .inv .0) (c .before .before .before .before .before .before .before .before .before .before .before .loop-test .taken) _ (c .before .before .before .before .before .before .before .before .before .before .find-match2 .ensures) _ (c .before .before .before .before .before .before .before .before .before .parse-entry .ensures) _ _ _ (c .before .before .before .before .before .before .before .enum-told2 .given .1) _ _ _ (c .before .before .before .before .write-control .ensures)))
     (λ c. omega (arith, sweeping-adds _ _ _ _ _ _ _ _ (c .before .before .before .before .before .before .before .before .before .before .before .before .before .loop .inv .0) (c .before .before .before .before .before .before .before .before .before .before .before .before .loop-test .taken) _ (c .before .before .before .before .before .before .before .before .before .before .before .find-match2 .ensures) _ (c .before .before .before .before .before .before .before .before .before .before .parse-entry .ensures) _ _ _ (c .before .before .before .before .before .before .before .before .enum-told2 .given .1) _ _ _ (c .before .before .before .before .before .write-control .ensures)))
     (λ c. omega (arith, c .before .before .before .before .before .before .before .before .before .before .before .find-match2 .ensures .behind, c .before .before .before .before .before .before .before .before .before .before .before .before .loop-test .taken))
     (λ c. (
-      sweeping-more _ _ _ _ _ _ _ _ (c .before .before .before .before .before .before .before .before .before .before .before .before .before .loop .inv .0) (c .before .before .before .before .before .before .before .before .before .before .before .before .loop-test .taken) _ (c .before .before .before .before .before .before .before .before .before .before .before .find-match2 .ensures) _ (c .before .before .before .before .before .before .before .before .before .before .parse-entry .ensures) _ _ _ (c .before .before .before .before .before .before .before .before .enum-told2 .given .1) _ _ _ (c .before .before .before .before .before .write-control .ensures),
+      let at-write-control = c .before .before .before .before .before in let at-enum-told2 = at-write-control .before .before .before in let at-parse-entry = at-enum-told2 .before .before in let at-find-match2 = at-parse-entry .before in let in-turn = at-find-match2 .before in let turn = in-turn .before in
+          sweeping-more _ _ _ _ _ _ _ _ (turn .loop .inv .0) (in-turn .loop-test .taken) _ (at-find-match2 .find-match2 .ensures) _ (at-parse-entry .parse-entry .ensures) _ _ _ (at-enum-told2 .enum-told2 .given .1) _ _ _ (at-write-control .write-control .ensures),
       c .before .before .before .before .before .write-control .kept .1 .1 .1 .1 .0 ∙ c .before .before .before .before .before .before .before .before .before .before .before .before .before .loop .inv .1,
       c .before .before .before .before .before .write-control .kept .1 .1 .1 .1 .1 .1 .0 ∙ c .before .before .before .before .before .before .before .before .before .before .before .before .before .loop .inv .2,
     ))

@@ -36,7 +36,8 @@ write-sections-spec =
     (λ c. omega (arith, c .before .before .before .before .before .before .before .before .before .before .loop-test .taken))
     (λ c. omega (arith, c .before .before .before .before .before .before .before .before .before .before .loop-test .taken))
     (λ c. (
-      top-more _ _ _ _ _ _ _ _ _ (c .before .before .before .before .before .before .before .before .before .before .before .loop .inv .0) (eqb-false 256 0 refl) (c .before .before .before .before .before .before .before .before .before .before .loop-test .taken) (kept-nodes _ _ _ _ (c .before .before .before .before .before .before .before .before .before .section-at .ensures) (c .before .before .before .before .before .before .before .enum-told .given .1)) _ _ (c .before .before .before .before .write-node .ensures),
+      let at-write-node = c .before .before .before .before in let at-enum-told = at-write-node .before .before .before in let at-section-at = at-enum-told .before .before in let in-turn = at-section-at .before in let turn = in-turn .before in
+          top-more _ _ _ _ _ _ _ _ _ (turn .loop .inv .0) (eqb-false 256 0 refl) (in-turn .loop-test .taken) (kept-nodes _ _ _ _ (at-section-at .section-at .ensures) (at-enum-told .enum-told .given .1)) _ _ (at-write-node .write-node .ensures),
       c .before .before .before .before .write-node .kept .1 .1 .1 .0 ∙ c .before .before .before .before .before .before .before .before .before .before .before .loop .inv .1,
       c .before .before .before .before .write-node .kept .1 .1 .1 .1 .1 .0 ∙ c .before .before .before .before .before .before .before .before .before .before .before .loop .inv .2,
     ))

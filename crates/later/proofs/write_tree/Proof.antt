@@ -11,4 +11,5 @@ write-tree-spec =
     (λ c κs. tree-ready _ _ _ _ (c .before .before .before .before .before .before .before .before .before .pre) _ (c .before .before .before .before .before .children-at .ensures) _ _ (c .before .before .before .count .given .1))
     (λ c. absurd (tree-never _ _ _ _ (c .before .before .before .before .before .before .pre) _ (c .before .before .children-at .ensures) (c .enum-told .given .1)))
     (λ c. search needs) (λ c. search needs)
-    (λ c. tree-done _ _ _ _ (c .before .before .before .before .before .before .before .before .before .before .before .before .before .before .pre) _ (c .before .before .before .before .before .before .before .before .before .before .children-at .ensures) _ _ (c .before .before .before .before .before .before .before .before .count .given .1) _ (c .before .before .before .before .write-sections .ensures)))
+    (λ c. let at-write-sections = c .before .before .before .before in let at-count = at-write-sections .before .before .before .before in let at-children-at = at-count .before .before in let start = at-children-at .before .before .before .before in
+    tree-done _ _ _ _ (start .pre) _ (at-children-at .children-at .ensures) _ _ (at-count .count .given .1) _ (at-write-sections .write-sections .ensures)))
