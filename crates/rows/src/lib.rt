@@ -1,4 +1,4 @@
-// Rows of words put into a lent slice. Every other word keeps its value.
+// Rows of words put into a lent slice, every other word keeping its value; and what both Blob readers share.
 use rules::Name;
 use rules::Property;
 use text::label_length;
