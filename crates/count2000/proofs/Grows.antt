@@ -12,7 +12,7 @@ use Rattle.rules.specs.Tree.{Entries, plain, parent}
 use Rattle.rules.specs.Access2000.{Prop, goesOn, propertyAt, runOf, runAt, headAt, closeAt, entryAt, entriesAt}
 use Rattle.rules.proofs.ListLaws.{Every, every-if, every-then, every-when}
 use Rattle.rules.proofs.Access2000Laws.{Within, property-within}
-use Rattle.count2000.proofs.SharedTree.{EntryGrows, EntriesGrow, Below, levels-grow}
+use Rattle.rows.proofs.LevelLaws.{EntryGrows, EntriesGrow, Below, levels-grow}
 
 pub byte-within : (s : List ℕ) (p : ℕ) → Every (λ _. p < length s) (byteAt s p)
 unfolding byteAt

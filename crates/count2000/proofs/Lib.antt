@@ -1,5 +1,4 @@
 -- What the proofs of several functions use.
-pub mod SharedTree
 pub mod Inverse
 pub mod Extents
 pub mod Runs

@@ -20,7 +20,7 @@ use Rattle.count2000.specs.declared.Opens.{Opens}
 use Rattle.count2000.specs.declared.One.{One}
 use Rattle.count2000.specs.declared.Part.{Part}
 use Rattle.count2000.proofs.Inverse.{word-of, word-short, run-of, run-bad, opens-plain, opens-listed, opens-bad, one-of, one-bad, part-of, part-bad}
-use Rattle.count2000.proofs.SharedTree.{after, levels-none, levels-deep, levels-next, EntryGrows, EntriesGrow}
+use Rattle.rows.proofs.LevelLaws.{after, levels-none, levels-deep, levels-next, EntryGrows, EntriesGrow}
 use Rattle.count2000.proofs.Grows.{half-within, run-grows, head-grows, entry-grows, entries-grow}
 
 -- c entries and n properties more than the answer says

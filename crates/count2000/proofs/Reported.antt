@@ -20,7 +20,7 @@ use Rattle.count2000.specs.declared.One.{One}
 use Rattle.count2000.specs.declared.Counted.{Counted}
 use Rattle.count2000.specs.declared.Part.{Part}
 use Rattle.count2000.proofs.Inverse.{run-of, run-bad, opens-plain, opens-listed, opens-bad, one-of, one-bad}
-use Rattle.count2000.proofs.SharedTree.{EntriesGrow, fewer}
+use Rattle.rows.proofs.LevelLaws.{EntriesGrow, fewer}
 use Rattle.count2000.proofs.Grows.{entries-grow}
 use Rattle.count2000.proofs.Lists.{addPart, add-none, add-both, entries-none, entries-next}
 

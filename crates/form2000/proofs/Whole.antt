@@ -30,7 +30,7 @@ use Rattle.count2000.specs.Told as told
 use Rattle.count2000.specs.declared.Opens.{Opens}
 use Rattle.count2000.specs.declared.Counted.{Counted}
 use Rattle.count2000.proofs.Inverse.{opens-plain, opens-listed, opens-bad}
-use Rattle.count2000.proofs.SharedTree.{EntriesGrow, fewer}
+use Rattle.rows.proofs.LevelLaws.{EntriesGrow, fewer}
 use Rattle.count2000.proofs.Grows.{run-grows, head-grows, entries-grow}
 use Rattle.form2000.specs.SharedActs.{Held, Stood}
 use Rattle.form2000.specs.Acts.{answer, shownIn, ran, runAct, RunReady, topNodes, stood, act, Ready, Roomy, StreamReady, StreamDone, exited, outcome}
