@@ -1,5 +1,4 @@
 -- What the proofs of several functions use.
-pub mod SharedActLaws
 pub mod RunSteps
 pub mod Shows
 pub mod Nodes

@@ -22,11 +22,11 @@ use Rattle.rules.specs.declared.Property.{Property}
 use Rattle.rules.proofs.ListLaws.{Every, every-if, every-then}
 use Rattle.rows.specs.Put.{put}
 use Rattle.rows.specs.Writing.{State, state, theirs, writeProperties}
+use Rattle.rows.specs.Acts.{Held, Fit, stood}
 use Rattle.rows.proofs.WritingLaws.{theirs-one, write-one}
 use Rattle.codetable.specs.Look.{Finds, Formed, bodyRows}
 use Rattle.codetable.specs.declared.Found.{Found}
-use Rattle.form2000.specs.SharedActs.{Held, Fit}
-use Rattle.form2000.specs.Acts.{shownIn, ran, runAct, RunReady, RunGood, nameIn, nodeAt, stood, act, Ready}
+use Rattle.form2000.specs.Acts.{shownIn, ran, runAct, RunReady, RunGood, nameIn, nodeAt, act, Ready}
 
 -- ---- two bytes
 byte-is : (s : List ℕ) (p : ℕ) → Every (λ b. (b ≡ byte s p) × (p < length s)) (byteAt s p)

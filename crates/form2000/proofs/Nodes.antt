@@ -9,10 +9,10 @@ use Rattle.rules.specs.Lists.{_>>=_}
 use Rattle.rules.specs.Bytes.{halfAt}
 use Rattle.rules.specs.Tree.{Entry, Entries, more, Node, node, isReported, reported, preorder1, preorder, nodesOf, levels}
 use Rattle.rules.specs.Access2000.{Prop, runAt, headAt, closeAt, entryAt, entriesAt}
+use Rattle.rows.specs.Acts.{entryNodes, listNodes, topNodes, keptNodes, _then_}
 use Rattle.rows.proofs.LevelLaws.{after}
 use Rattle.count2000.proofs.Lists.{entries-none, entries-next}
-use Rattle.form2000.specs.SharedActs.{_then_}
-use Rattle.form2000.specs.Acts.{entryNodes, listNodes, topNodes, keptNodes, nodeAt, belowBy, belowAt}
+use Rattle.form2000.specs.Acts.{nodeAt, belowBy, belowAt}
 
 -- ---- an entry
 module _ (below : ℕ → ℕ → Option (Entries Prop × ℕ)) (type : ℕ) (ps : List Prop) where

@@ -8,14 +8,14 @@ use Rattle.rules.specs.Tree.{Entries, levels}
 use Rattle.rules.specs.Access2000.{Prop, headAt, entryAt, entriesAt}
 use Rattle.rules.specs.Read2000.{controlOf}
 use Rattle.rows.specs.Writing.{State}
+use Rattle.rows.specs.Acts.{Nodes, entryNodes, listNodes, topNodes, keptNodes, _then_}
+use Rattle.rows.proofs.ActLaws.{at-place, act-then, act-none, fit-then, fit-rest}
 use Rattle.count2000.specs.Told as told
 use Rattle.count2000.specs.declared.Opens.{Opens}
 use Rattle.count2000.proofs.Inverse.{opens-plain, opens-listed, opens-bad}
 use Rattle.count2000.proofs.Lists.{entries-deep}
-use Rattle.form2000.specs.SharedActs.{Nodes, _then_}
-use Rattle.form2000.specs.Acts.{entryNodes, listNodes, topNodes, keptNodes, nodeAt, belowBy, belowAt, act, Ready, Skips}
+use Rattle.form2000.specs.Acts.{nodeAt, belowBy, belowAt, act, Ready, Skips}
 use Rattle.form2000.specs.declared.Pass.{Pass}
-use Rattle.form2000.proofs.SharedActLaws.{at-place, act-then, act-none, fit-then, fit-rest}
 use Rattle.form2000.proofs.Nodes.{entry-nodes, list-none, list-next, top-none, top-next}
 
 pub record Remain (t s : List ℕ) (o whole : Nodes Prop) (old now : State) : Type 0 where

@@ -22,7 +22,7 @@ use Rattle.rows.proofs.PutLaws.{put-length}
 use Rattle.rows.proofs.WritingLaws.{properties-none, properties-more}
 use Rattle.count2000.specs.Told as told
 use Rattle.count2000.specs.declared.Spot.{Spot}
-use Rattle.form2000.specs.SharedActs.{Held}
+use Rattle.rows.specs.Acts.{Held}
 use Rattle.form2000.specs.Acts.{prop, ran, runAct, RunFits, nameAt, nameIn}
 
 property-id : (s : List ℕ) (p : ℕ) → Every (λ q. q .id ≡ byte s p) (propertyAt s p)

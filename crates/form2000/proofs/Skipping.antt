@@ -15,7 +15,8 @@ use Rattle.count2000.specs.declared.Word.{Word}
 use Rattle.count2000.specs.declared.Run.{Run}
 use Rattle.count2000.specs.declared.Opens.{Opens}
 use Rattle.count2000.proofs.Inverse.{word-of, word-short, run-of, run-bad, opens-plain, opens-listed, opens-bad}
-use Rattle.form2000.specs.Acts.{entryNodes, keptNodes, Skips}
+use Rattle.rows.specs.Acts.{entryNodes, keptNodes}
+use Rattle.form2000.specs.Acts.{Skips}
 use Rattle.form2000.specs.declared.Pass.{Pass}
 
 abbrev Below : Type 0

@@ -22,6 +22,8 @@ use Rattle.rules.proofs.ListLaws.{none-some, Every, every-if, every-when, every
 use Rattle.rules.proofs.Read2000Laws.{controls-many, own-many}
 use Rattle.rows.specs.Counting.{size, props}
 use Rattle.rows.specs.Writing.{state, theirs, writeControls, writeProperties}
+use Rattle.rows.specs.Acts.{topNodes, Held, Stood, stood}
+use Rattle.rows.proofs.LevelLaws.{EntriesGrow, fewer}
 use Rattle.rows.proofs.CountingLaws as counting
 use Rattle.rows.proofs.WritingLaws.{properties-length, reading-written}
 use Rattle.codetable.specs.Look.{Finds, bodyRows}
@@ -30,10 +32,8 @@ use Rattle.count2000.specs.Told as told
 use Rattle.count2000.specs.declared.Opens.{Opens}
 use Rattle.count2000.specs.declared.Counted.{Counted}
 use Rattle.count2000.proofs.Inverse.{opens-plain, opens-listed, opens-bad}
-use Rattle.rows.proofs.LevelLaws.{EntriesGrow, fewer}
 use Rattle.count2000.proofs.Grows.{run-grows, head-grows, entries-grow}
-use Rattle.form2000.specs.SharedActs.{Held, Stood}
-use Rattle.form2000.specs.Acts.{answer, shownIn, ran, runAct, RunReady, topNodes, stood, act, Ready, Roomy, StreamReady, StreamDone, exited, outcome}
+use Rattle.form2000.specs.Acts.{answer, shownIn, ran, runAct, RunReady, act, Ready, Roomy, StreamReady, StreamDone, exited, outcome}
 use Rattle.form2000.proofs.NodeLaws.{RunOf, run-written, shown-same}
 
 -- ---- the parts of a stream

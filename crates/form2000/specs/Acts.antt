@@ -11,7 +11,7 @@ use Rattle.rules.specs.Bytes.{part, halfAt}
 use Rattle.rules.specs.Utf16.{isUtf16}
 use Rattle.rules.specs.Answer.{longest}
 use Rattle.rules.specs.CodeTable.{Tie, isTied, wellFormed}
-use Rattle.rules.specs.Tree.{Entry, Entries, node, preorder1, isReported}
+use Rattle.rules.specs.Tree.{Entries, node}
 use Rattle.rules.specs.Access2000.{Prop, runAt, headAt, entryAt, streamOf}
 use Rattle.rules.specs.Reading.{Reading, properties, controlRows, propertyRows}
 use Rattle.rules.specs.Rows.{controlWidth, propertyWidth, room, written}
@@ -21,11 +21,10 @@ use Rattle.rules.specs.declared.Answer.{Answer}
 use Rattle.rules.specs.declared.Name.{Name}
 use Rattle.rules.specs.declared.Name.the-variants.{Text, Numbered}
 use Rattle.rules.specs.declared.Property.{Property}
-use Rattle.rows.specs.Writing.{State, state, writeProperties}
+use Rattle.rows.specs.Writing.{State, writeProperties}
+use Rattle.rows.specs.Acts.{Nodes, entryNodes, listNodes, keptNodes, Held, Fit, Stood, actBy}
 use Rattle.codetable.specs.Look.{Sorted, bodyRows}
 use Rattle.codetable.specs.declared.Found.{Found}
-use Rattle.form2000.specs.SharedActs.{Nodes, Held, Fit, Stood, actBy}
-use Rattle.form2000.specs.SharedActs as shared
 use Rattle.form2000.specs.declared.Pass.{Pass}
 
 abbrev pub answer : ℕ → ℕ → ℕ → ℕ → Answer
@@ -79,15 +78,6 @@ pub record RunGood (s : List ℕ) (at : ℕ) : Type 0 where
   pub good : Held (λ _. Unit {0}) (runAt s at)
 
 -- ---- entries and lists
-abbrev pub entryNodes : Option (Entry Prop × ℕ) → Nodes Prop
-entryNodes o = shared.entryNodes o
-
-abbrev pub listNodes : Option (Entries Prop × ℕ) → Nodes Prop
-listNodes o = shared.listNodes o
-
-abbrev pub topNodes : Option (Entries Prop × ℕ) → Nodes Prop
-topNodes o = shared.topNodes o
-
 -- an entry without its list; and its list, or none, from the place behind its run on
 unfoldable pub nodeAt : List ℕ → ℕ → Nodes Prop
 nodeAt s p = do
@@ -101,9 +91,6 @@ belowBy below h = elim (h .0) [ none ↦ some ([], h .1) | some n ↦ listNodes 
 unfoldable pub belowAt : List ℕ → (ℕ → ℕ → Option (Entries Prop × ℕ)) → ℕ → Nodes Prop
 belowAt s below q = headAt s q >>= belowBy below
 
-abbrev pub stood : List ℕ → ℕ → List ℕ → ℕ → ℕ → Stood
-stood cs ci ps pi next = record { state = state cs ci ps pi; next = next }
-
 abbrev pub act : List ℕ → List ℕ → Nodes Prop → State → Option Stood
 act t s o st = actBy (controlOf t s) o st
 
@@ -113,11 +100,6 @@ pub record Ready (t s : List ℕ) (o : Nodes Prop) (st : State) : Type 0 where
   pub fits : Held (λ x. Fit (map (controlOf t s) (x .0)) st) o
 
 -- ---- the top list
--- an entry of the top list with all below it, where it is reported
-abbrev pub keptNodes : Option (Entry Prop × ℕ) → Nodes Prop
-keptNodes none = none
-keptNodes (some x) = some (cond (isReported (x .0)) (preorder1 (x .0)) [], x .1)
-
 pub record Skips (s : List ℕ) (at : ℕ) (r : Pass) : Type 0 where
   pub past : (below : ℕ → ℕ → Option (Entries Prop × ℕ)) (next : ℕ) → r ≡ Pass.Over next → keptNodes (entryAt s below at) ≡ some ([], next)
   pub kept : (below : ℕ → ℕ → Option (Entries Prop × ℕ)) → r ≡ Pass.Not → keptNodes (entryAt s below at) ≡ entryNodes (entryAt s below at)

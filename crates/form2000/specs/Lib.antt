@@ -1,2 +1,1 @@
-pub mod SharedActs
 pub mod Acts

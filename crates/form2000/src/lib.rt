@@ -48,6 +48,7 @@ ghost use Rattle.rules.specs.Rows.{controlWidth, propertyWidth, room};
 ghost use Rattle.rules.specs.Blob as blob;
 ghost use Rattle.rows.specs.Put.{controlWords};
 ghost use Rattle.rows.specs.Writing.{state};
+ghost use Rattle.rows.specs.Acts.{entryNodes, listNodes, topNodes, stood};
 ghost use Rattle.form2000.specs.Acts as acts;
 
 // What was written: the place behind it in the stream, and the next rows.
@@ -262,7 +263,7 @@ fn put_node(
     p: usize,
 ) -> Next
     requires { ⌜ acts.Ready (now table) (now s) (acts.nodeAt (now s) at) (state (now controls) c (now rows) p) ⌝ }
-    ensures { λ r. ⌜ some (acts.stood (now (controls .exit)) (r .control) (now (rows .exit)) (r .property) (r .at)) ≡ acts.act (now (table .entry)) (now (s .entry)) (acts.nodeAt (now (s .entry)) at) (state (now (controls .entry)) c (now (rows .entry)) p) ⌝ }
+    ensures { λ r. ⌜ some (stood (now (controls .exit)) (r .control) (now (rows .exit)) (r .property) (r .at)) ≡ acts.act (now (table .entry)) (now (s .entry)) (acts.nodeAt (now (s .entry)) at) (state (now (controls .entry)) c (now (rows .entry)) p) ⌝ }
 {
     let kind = u16_at(s, at);
     let run = at + 2;
@@ -293,8 +294,8 @@ fn put_entry(
     rows: &mut [u32],
     p: usize,
 ) -> Next
-    requires { ⌜ acts.Ready (now table) (now s) (acts.entryNodes (entryAt (now s) (entriesAt left (now s)) at)) (state (now controls) c (now rows) p) ⌝ }
-    ensures { λ r. ⌜ some (acts.stood (now (controls .exit)) (r .control) (now (rows .exit)) (r .property) (r .at)) ≡ acts.act (now (table .entry)) (now (s .entry)) (acts.entryNodes (entryAt (now (s .entry)) (entriesAt left (now (s .entry))) at)) (state (now (controls .entry)) c (now (rows .entry)) p) ⌝ }
+    requires { ⌜ acts.Ready (now table) (now s) (entryNodes (entryAt (now s) (entriesAt left (now s)) at)) (state (now controls) c (now rows) p) ⌝ }
+    ensures { λ r. ⌜ some (stood (now (controls .exit)) (r .control) (now (rows .exit)) (r .property) (r .at)) ≡ acts.act (now (table .entry)) (now (s .entry)) (entryNodes (entryAt (now (s .entry)) (entriesAt left (now (s .entry))) at)) (state (now (controls .entry)) c (now (rows .entry)) p) ⌝ }
 {
     let node = put_node(table, hints, s, at, controls, c, rows, p);
     let behind = node.at;
@@ -335,8 +336,8 @@ fn put_list(
     rows: &mut [u32],
     p: usize,
 ) -> Next
-    requires { ⌜ acts.Ready (now table) (now s) (acts.listNodes (entriesAt left (now s) n at)) (state (now controls) c (now rows) p) ⌝ }
-    ensures { λ r. ⌜ some (acts.stood (now (controls .exit)) (r .control) (now (rows .exit)) (r .property) (r .at)) ≡ acts.act (now (table .entry)) (now (s .entry)) (acts.listNodes (entriesAt left (now (s .entry)) n at)) (state (now (controls .entry)) c (now (rows .entry)) p) ⌝ }
+    requires { ⌜ acts.Ready (now table) (now s) (listNodes (entriesAt left (now s) n at)) (state (now controls) c (now rows) p) ⌝ }
+    ensures { λ r. ⌜ some (stood (now (controls .exit)) (r .control) (now (rows .exit)) (r .property) (r .at)) ≡ acts.act (now (table .entry)) (now (s .entry)) (listNodes (entriesAt left (now (s .entry)) n at)) (state (now (controls .entry)) c (now (rows .entry)) p) ⌝ }
 {
     let mut pos = at;
     let mut k = n;
@@ -389,8 +390,8 @@ fn put_top(
     rows: &mut [u32],
     p: usize,
 ) -> Next
-    requires { ⌜ acts.Ready (now table) (now s) (acts.topNodes (entriesAt levels (now s) n at)) (state (now controls) c (now rows) p) ⌝ }
-    ensures { λ r. ⌜ some (acts.stood (now (controls .exit)) (r .control) (now (rows .exit)) (r .property) (r .at)) ≡ acts.act (now (table .entry)) (now (s .entry)) (acts.topNodes (entriesAt levels (now (s .entry)) n at)) (state (now (controls .entry)) c (now (rows .entry)) p) ⌝ }
+    requires { ⌜ acts.Ready (now table) (now s) (topNodes (entriesAt levels (now s) n at)) (state (now controls) c (now rows) p) ⌝ }
+    ensures { λ r. ⌜ some (stood (now (controls .exit)) (r .control) (now (rows .exit)) (r .property) (r .at)) ≡ acts.act (now (table .entry)) (now (s .entry)) (topNodes (entriesAt levels (now (s .entry)) n at)) (state (now (controls .entry)) c (now (rows .entry)) p) ⌝ }
 {
     let mut pos = at;
     let mut k = n;

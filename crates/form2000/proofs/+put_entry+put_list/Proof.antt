@@ -5,7 +5,7 @@ use Prim.Native.Nat.{_+_, _-_}
 use lib.ListN.{length}
 use Rattle.rules.specs.Access2000.{entriesAt}
 use Rattle.rows.specs.Writing.{state}
-use Rattle.form2000.specs.Acts.{listNodes}
+use Rattle.rows.specs.Acts.{listNodes}
 use Rattle.form2000.proofs.Remains.{Remain, remain-start, node-ready, entry-bad, entry-plain, entry-listed, list-all, list-some, list-entry, list-more}
 use Prim.Native.Nat.{ℕ, _<_}
 use borrow.Fn.Kinds.{In}

@@ -5,7 +5,7 @@ use lib.ListN.{length}
 use Rattle.rules.specs.Tree.{levels}
 use Rattle.rules.specs.Access2000.{entriesAt}
 use Rattle.rows.specs.Writing.{state}
-use Rattle.form2000.specs.Acts.{topNodes}
+use Rattle.rows.specs.Acts.{topNodes}
 use Rattle.form2000.proofs.Remains.{Remain, remain-start, top-all, top-over, top-entry, top-more}
 use Rattle.form2000.proofs.put_top.Statement.{statement}
 use Rattle.form2000.proofs.put_top.Tie as tie
