@@ -2,7 +2,6 @@
 pub mod RunSteps
 pub mod Shows
 pub mod Nodes
-pub mod Remains
 pub mod Skipping
 pub mod NodeLaws
 pub mod Whole

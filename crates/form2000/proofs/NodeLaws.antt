@@ -26,7 +26,7 @@ use Rattle.rows.specs.Acts.{Held, Fit, stood}
 use Rattle.rows.proofs.WritingLaws.{theirs-one, write-one}
 use Rattle.codetable.specs.Look.{Finds, Formed, bodyRows}
 use Rattle.codetable.specs.declared.Found.{Found}
-use Rattle.form2000.specs.Acts.{shownIn, ran, runAct, RunReady, RunGood, nameIn, nodeAt, act, Ready}
+use Rattle.form2000.specs.Acts.{shownIn, ran, runAct, RunReady, RunGood, nameIn, nodeAt, act, NodesReady}
 
 -- ---- two bytes
 byte-is : (s : List ℕ) (p : ℕ) → Every (λ b. (b ≡ byte s p) × (p < length s)) (byteAt s p)
@@ -68,7 +68,7 @@ pub record NodeParts (t s : List ℕ) (p : ℕ) (st : State) : Type 0 where
   pub is : nodeAt s p ≡ some (node (u16 s p) props ∷ [], end)
   pub fit : Fit (controlOf t s (node (u16 s p) props) ∷ []) st
 
-pub node-parts : (t s : List ℕ) (p : ℕ) (st : State) → Ready t s (nodeAt s p) st → NodeParts t s p st
+pub node-parts : (t s : List ℕ) (p : ℕ) (st : State) → NodesReady t s (nodeAt s p) st → NodeParts t s p st
 unfolding nodeAt
 node-parts t s p st h = go (halfAt s p) (runAt s (p + 2)) (half-is s p) refl refl (h .fits)
   where
@@ -86,7 +86,7 @@ node-parts t s p st h = go (halfAt s p) (runAt s (p + 2)) (half-is s p) refl ref
       fit = rw (e .0) at f;
     }
 
-module _ (t s : List ℕ) (at : ℕ) (cs : List ℕ) (ci : ℕ) (ps : List ℕ) (pi : ℕ) (h : Ready t s (nodeAt s at) (state cs ci ps pi)) where
+module _ (t s : List ℕ) (at : ℕ) (cs : List ℕ) (ci : ℕ) (ps : List ℕ) (pi : ℕ) (h : NodesReady t s (nodeAt s at) (state cs ci ps pi)) where
   parts : NodeParts t s at (state cs ci ps pi)
   parts = node-parts t s at (state cs ci ps pi) h
 
@@ -104,13 +104,13 @@ module _ (t s : List ℕ) (at : ℕ) (cs : List ℕ) (ci : ℕ) (ps : List ℕ) 
   node-small = omega (arith, parts .fit .few)
 
   pub node-good : RunGood s (at + 2)
-  node-good = record { small = h .small; good = rw (parts .run) tt }
+  node-good = record { small = h .known .small; good = rw (parts .run) tt }
 
   module _ (kind : ℕ) (ke : kind ≡ u16 s at) (body : Found) (be : Finds t 2 kind body) where
     pub node-run-ready : RunReady t body s (at + 2) ps pi
     node-run-ready = record {
-      small = h .small;
-      sorted = be .sorted (h .formed);
+      small = h .known .small;
+      sorted = be .sorted (h .known .formed);
       fits = rw (parts .run) (omega (arith, parts .fit .room .properties, theirs-many));
     }
 
@@ -128,7 +128,7 @@ module _ (t s : List ℕ) (at : ℕ) (cs : List ℕ) (ci : ℕ) (ps : List ℕ) 
       unfolding controlOf controlRow nameOf
       node-done id nm report code words cs′ ie ne be′ ce we′ xe =
           let c = controlOf t s (node (u16 s at) (parts .props)) in
-          let f : shownIn (bodyRows t body) s ≡ propertyIn t s (record { kind = 2; code = u16 s at }) = shown-same t s 2 kind body (h .formed) be ∙ ap (λ k. propertyIn t s (record { kind = 2; code = k })) ke in
+          let f : shownIn (bodyRows t body) s ≡ propertyIn t s (record { kind = 2; code = u16 s at }) = shown-same t s 2 kind body (h .known .formed) be ∙ ap (λ k. propertyIn t s (record { kind = 2; code = k })) ke in
           let n : nm ≡ c .name = ne ∙ ap (λ k. nameIn s k (runAt s (at + 2))) ie ∙ (λ i. nameIn s (nameId (ke i)) (parts .run i)) in
           let d : code ≡ c .type = ce ∙ (λ i. typeCode (header t) (be′ i) (ke i)) in
           let l : length (c .properties) ≡ length (parts .props) = simp length-map in

@@ -1,20 +1,22 @@
--- An entry as a node with its list behind it, and a list as its entries one after the other.
-use Prim.Native.Nat.{ℕ, _+_, _-_, _<_}
-use native.Mathlib.Omega.{arith}
-use mathlib.Core.Path.{_≡_, refl, ap, _∙_}
-use mathlib.Core.Bool.{Bool, true, false, cond}
+-- An entry as a node with its list behind it: its node is written, then its list.
+use Prim.Native.Nat.{ℕ, _+_}
+use mathlib.Core.Path.{_≡_, refl}
 use mathlib.Core.List.{List, [], _∷_, _++_}
 use mathlib.Core.Option.{Option, none, some}
 use Rattle.rules.specs.Lists.{_>>=_}
 use Rattle.rules.specs.Bytes.{halfAt}
-use Rattle.rules.specs.Tree.{Entry, Entries, more, Node, node, isReported, reported, preorder1, preorder, nodesOf, levels}
-use Rattle.rules.specs.Access2000.{Prop, runAt, headAt, closeAt, entryAt, entriesAt}
-use Rattle.rows.specs.Acts.{entryNodes, listNodes, topNodes, keptNodes, _then_}
-use Rattle.rows.proofs.LevelLaws.{after}
-use Rattle.count2000.proofs.Lists.{entries-none, entries-next}
-use Rattle.form2000.specs.Acts.{nodeAt, belowBy, belowAt}
+use Rattle.rules.specs.Tree.{Entry, Entries, Node, node, preorder1}
+use Rattle.rules.specs.Access2000.{Prop, runAt, headAt, closeAt, entryAt}
+use Rattle.rules.specs.Read2000.{controlOf}
+use Rattle.rows.specs.Writing.{State}
+use Rattle.rows.specs.Acts.{entryNodes, listNodes, _then_}
+use Rattle.rows.proofs.ActLaws.{at-place}
+use Rattle.rows.proofs.RemainLaws.{Remain, remain-start, ready-first, remain-step, remain-done}
+use Rattle.count2000.specs.Told as told
+use Rattle.count2000.specs.declared.Opens.{Opens}
+use Rattle.count2000.proofs.Inverse.{opens-plain, opens-listed, opens-bad}
+use Rattle.form2000.specs.Acts.{nodeAt, belowBy, belowAt, act, Given, NodesReady}
 
--- ---- an entry
 module _ (below : ℕ → ℕ → Option (Entries Prop × ℕ)) (type : ℕ) (ps : List Prop) where
   list-behind : (o : Option (Entries Prop × ℕ))
       → entryNodes (o >>= λ l. some (Entry.parent type ps (l .0), l .1)) ≡ (listNodes o >>= λ y. some ((node type ps ∷ []) ++ y .0, y .1))
@@ -45,43 +47,22 @@ entry-nodes s below p = go (halfAt s p) (runAt s (p + 2))
     go (some type) none = refl
     go (some type) (some x) = close-nodes below type (x .0) (headAt s (x .1))
 
--- ---- a list
-pub list-none : (d : ℕ) (s : List ℕ) (p : ℕ) → listNodes (entriesAt d s 0 p) ≡ some ([], p)
-unfolding preorder
-list-none d s p = ap listNodes (entries-none d s p)
+module _ (t s : List ℕ) (below : ℕ → ℕ → Option (Entries Prop × ℕ)) (p : ℕ) (st : State) (h : NodesReady t s (entryNodes (entryAt s below p)) st) where
+  pub node-ready : NodesReady t s (nodeAt s p) st
+  node-ready = ready-first _ (controlOf t s) (nodeAt s p) (belowAt s below) st (rw (entry-nodes s below p) at h)
 
-list-both : (a : Option (Entry Prop × ℕ)) (rest : ℕ → Option (Entries Prop × ℕ)) → listNodes (a >>= after rest) ≡ (entryNodes a then λ e. listNodes (rest e))
-unfolding preorder
-list-both none rest = refl
-list-both (some x) rest = go (rest (x .1))
-  where
-    go : (o : Option (Entries Prop × ℕ)) → listNodes (o >>= λ y. some (more (x .0) (y .0), y .1)) ≡ (listNodes o >>= λ y. some (preorder1 (x .0) ++ y .0, y .1))
-    go none = refl
-    go (some y) = refl
+  module _ (now : State) (q : ℕ) (wrote : some (at-place now q) ≡ act t s (nodeAt s p) st) (o : Opens) (oe : o ≡ told.head (headAt s q)) where
+    behind-node : Remain (Given t s) (controlOf t s) (belowAt s below q) (entryNodes (entryAt s below p)) st now
+    behind-node = remain-step _ (controlOf t s) (nodeAt s p) (belowAt s below) _ st st now q (remain-start _ (controlOf t s) _ _ st (entry-nodes s below p) h) wrote
 
-pub list-next : (d : ℕ) (s : List ℕ) (k p : ℕ) → (d ≡ 0 → ⊥) → 0 < k
-    → listNodes (entriesAt d s k p) ≡ (entryNodes (entryAt s (entriesAt (d - 1) s) p) then λ e. listNodes (entriesAt d s (k - 1) e))
-list-next d s k p f h = ap listNodes (entries-next d s k p f h) ∙ list-both (entryAt s (entriesAt (d - 1) s) p) (entriesAt d s (k - 1))
+    pub entry-bad : o ≡ Opens.Bad → ⊥
+    unfolding belowAt belowBy
+    entry-bad k = rw (opens-bad (headAt s q) o oe k) at (behind-node .ready .fits)
 
--- ---- the top list
-pub top-none : (d : ℕ) (s : List ℕ) (p : ℕ) → topNodes (entriesAt d s 0 p) ≡ some ([], p)
-unfolding preorder nodesOf reported
-top-none d s p = ap topNodes (entries-none d s p)
+    pub entry-plain : (e : ℕ) → o ≡ Opens.Plain e → some (at-place now e) ≡ act t s (entryNodes (entryAt s below p)) st
+    unfolding belowAt belowBy
+    entry-plain e k = remain-done _ (controlOf t s) _ st now e (rw (opens-plain (headAt s q) o e oe k) at behind-node)
 
-kept-first : (b : Bool) (x : Entry Prop) (es : Entries Prop) → preorder (cond b (more x es) es) ≡ cond b (preorder1 x) [] ++ preorder es
-unfolding preorder
-kept-first true x es = refl
-kept-first false x es = refl
-
-top-both : (a : Option (Entry Prop × ℕ)) (rest : ℕ → Option (Entries Prop × ℕ)) → topNodes (a >>= after rest) ≡ (keptNodes a then λ e. topNodes (rest e))
-unfolding nodesOf reported
-top-both none rest = refl
-top-both (some x) rest = go (rest (x .1))
-  where
-    go : (o : Option (Entries Prop × ℕ)) → topNodes (o >>= λ y. some (more (x .0) (y .0), y .1)) ≡ (topNodes o >>= λ y. some (cond (isReported (x .0)) (preorder1 (x .0)) [] ++ y .0, y .1))
-    go none = refl
-    go (some y) = ap (λ ns. some (ns, y .1)) (kept-first (isReported (x .0)) (x .0) (reported (y .0)))
-
-pub top-next : (s : List ℕ) (k p : ℕ) → 0 < k
-    → topNodes (entriesAt levels s k p) ≡ (keptNodes (entryAt s (entriesAt 255 s) p) then λ e. topNodes (entriesAt levels s (k - 1) e))
-top-next s k p h = ap topNodes (entries-next levels s k p (λ z. omega (arith, z)) h) ∙ top-both (entryAt s (entriesAt 255 s) p) (entriesAt levels s (k - 1))
+    pub entry-listed : (n e : ℕ) → o ≡ Opens.Listed n e → Remain (Given t s) (controlOf t s) (listNodes (below n e)) (entryNodes (entryAt s below p)) st now
+    unfolding belowAt belowBy
+    entry-listed n e k = rw (opens-listed (headAt s q) o n e oe k) at behind-node

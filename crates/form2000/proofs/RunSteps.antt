@@ -18,11 +18,11 @@ use Rattle.rules.specs.declared.Property.{Property}
 use Rattle.rules.proofs.ListLaws.{Every, every-if, every-when}
 use Rattle.rules.proofs.Access2000Laws.{after, past-end, run-step}
 use Rattle.rows.specs.Put.{put}
+use Rattle.rows.specs.Acts.{Held}
 use Rattle.rows.proofs.PutLaws.{put-length}
 use Rattle.rows.proofs.WritingLaws.{properties-none, properties-more}
 use Rattle.count2000.specs.Told as told
 use Rattle.count2000.specs.declared.Spot.{Spot}
-use Rattle.rows.specs.Acts.{Held}
 use Rattle.form2000.specs.Acts.{prop, ran, runAct, RunFits, nameAt, nameIn}
 
 property-id : (s : List ℕ) (p : ℕ) → Every (λ q. q .id ≡ byte s p) (propertyAt s p)

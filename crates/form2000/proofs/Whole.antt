@@ -33,7 +33,7 @@ use Rattle.count2000.specs.declared.Opens.{Opens}
 use Rattle.count2000.specs.declared.Counted.{Counted}
 use Rattle.count2000.proofs.Inverse.{opens-plain, opens-listed, opens-bad}
 use Rattle.count2000.proofs.Grows.{run-grows, head-grows, entries-grow}
-use Rattle.form2000.specs.Acts.{answer, shownIn, ran, runAct, RunReady, act, Ready, Roomy, StreamReady, StreamDone, exited, outcome}
+use Rattle.form2000.specs.Acts.{answer, shownIn, ran, runAct, RunReady, act, NodesReady, Roomy, StreamReady, StreamDone, exited, outcome}
 use Rattle.form2000.proofs.NodeLaws.{RunOf, run-written, shown-same}
 
 -- ---- the parts of a stream
@@ -153,15 +153,14 @@ module _ (t s controls rows : List ℕ) (h : StreamReady t s controls rows) wher
               let c : next ≡ parts .first = ap (λ v. v .1) w in
               (λ i. entriesAt levels s (b i) (c i)) ∙ parts .list
 
-          pub top-ready : Ready t s (topNodes (entriesAt levels s n next)) (state controls 0 rows′ row)
+          pub top-ready : NodesReady t s (topNodes (entriesAt levels s n next)) (state controls 0 rows′ row)
           unfolding read2000
           top-ready =
               let l : length rows′ ≡ length rows = ap length own-rows ∙ properties-length (read2000 t s (is .tree) .own) rows 0 in
               let m = theirs-are t s (is .tree) in
               let c = controls-are t s (is .tree) in
               record {
-                formed = h .formed;
-                small = h .small;
+                known = record { formed = h .formed; small = h .small };
                 fits = rw list-is (record {
                   room = record { controls = omega (arith, is .fits .0); properties = omega (arith, is .fits .1, l, own-run .row-is, properties-are t s (is .tree), m) };
                   few = omega (arith, few t s (is .tree) (is .reads), h .small, own-run .row-is, m, c);

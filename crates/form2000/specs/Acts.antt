@@ -22,7 +22,7 @@ use Rattle.rules.specs.declared.Name.{Name}
 use Rattle.rules.specs.declared.Name.the-variants.{Text, Numbered}
 use Rattle.rules.specs.declared.Property.{Property}
 use Rattle.rows.specs.Writing.{State, writeProperties}
-use Rattle.rows.specs.Acts.{Nodes, entryNodes, listNodes, keptNodes, Held, Fit, Stood, actBy}
+use Rattle.rows.specs.Acts.{Nodes, entryNodes, listNodes, keptNodes, Held, Stood, actBy, Ready}
 use Rattle.codetable.specs.Look.{Sorted, bodyRows}
 use Rattle.codetable.specs.declared.Found.{Found}
 use Rattle.form2000.specs.declared.Pass.{Pass}
@@ -94,10 +94,13 @@ belowAt s below q = headAt s q >>= belowBy below
 abbrev pub act : List ℕ → List ℕ → Nodes Prop → State → Option Stood
 act t s o st = actBy (controlOf t s) o st
 
-pub record Ready (t s : List ℕ) (o : Nodes Prop) (st : State) : Type 0 where
+-- what is known of the table and the stream beforehand
+pub record Given (t s : List ℕ) : Type 0 where
   pub formed : wellFormed t ≡ true
   pub small : length s ≤ longest
-  pub fits : Held (λ x. Fit (map (controlOf t s) (x .0)) st) o
+
+abbrev pub NodesReady : List ℕ → List ℕ → Nodes Prop → State → Type 0
+NodesReady t s o st = Ready (Given t s) (controlOf t s) o st
 
 -- ---- the top list
 pub record Skips (s : List ℕ) (at : ℕ) (r : Pass) : Type 0 where

@@ -262,7 +262,7 @@ fn put_node(
     rows: &mut [u32],
     p: usize,
 ) -> Next
-    requires { ⌜ acts.Ready (now table) (now s) (acts.nodeAt (now s) at) (state (now controls) c (now rows) p) ⌝ }
+    requires { ⌜ acts.NodesReady (now table) (now s) (acts.nodeAt (now s) at) (state (now controls) c (now rows) p) ⌝ }
     ensures { λ r. ⌜ some (stood (now (controls .exit)) (r .control) (now (rows .exit)) (r .property) (r .at)) ≡ acts.act (now (table .entry)) (now (s .entry)) (acts.nodeAt (now (s .entry)) at) (state (now (controls .entry)) c (now (rows .entry)) p) ⌝ }
 {
     let kind = u16_at(s, at);
@@ -294,7 +294,7 @@ fn put_entry(
     rows: &mut [u32],
     p: usize,
 ) -> Next
-    requires { ⌜ acts.Ready (now table) (now s) (entryNodes (entryAt (now s) (entriesAt left (now s)) at)) (state (now controls) c (now rows) p) ⌝ }
+    requires { ⌜ acts.NodesReady (now table) (now s) (entryNodes (entryAt (now s) (entriesAt left (now s)) at)) (state (now controls) c (now rows) p) ⌝ }
     ensures { λ r. ⌜ some (stood (now (controls .exit)) (r .control) (now (rows .exit)) (r .property) (r .at)) ≡ acts.act (now (table .entry)) (now (s .entry)) (entryNodes (entryAt (now (s .entry)) (entriesAt left (now (s .entry))) at)) (state (now (controls .entry)) c (now (rows .entry)) p) ⌝ }
 {
     let node = put_node(table, hints, s, at, controls, c, rows, p);
@@ -336,7 +336,7 @@ fn put_list(
     rows: &mut [u32],
     p: usize,
 ) -> Next
-    requires { ⌜ acts.Ready (now table) (now s) (listNodes (entriesAt left (now s) n at)) (state (now controls) c (now rows) p) ⌝ }
+    requires { ⌜ acts.NodesReady (now table) (now s) (listNodes (entriesAt left (now s) n at)) (state (now controls) c (now rows) p) ⌝ }
     ensures { λ r. ⌜ some (stood (now (controls .exit)) (r .control) (now (rows .exit)) (r .property) (r .at)) ≡ acts.act (now (table .entry)) (now (s .entry)) (listNodes (entriesAt left (now (s .entry)) n at)) (state (now (controls .entry)) c (now (rows .entry)) p) ⌝ }
 {
     let mut pos = at;
@@ -390,7 +390,7 @@ fn put_top(
     rows: &mut [u32],
     p: usize,
 ) -> Next
-    requires { ⌜ acts.Ready (now table) (now s) (topNodes (entriesAt levels (now s) n at)) (state (now controls) c (now rows) p) ⌝ }
+    requires { ⌜ acts.NodesReady (now table) (now s) (topNodes (entriesAt levels (now s) n at)) (state (now controls) c (now rows) p) ⌝ }
     ensures { λ r. ⌜ some (stood (now (controls .exit)) (r .control) (now (rows .exit)) (r .property) (r .at)) ≡ acts.act (now (table .entry)) (now (s .entry)) (topNodes (entriesAt levels (now (s .entry)) n at)) (state (now (controls .entry)) c (now (rows .entry)) p) ⌝ }
 {
     let mut pos = at;

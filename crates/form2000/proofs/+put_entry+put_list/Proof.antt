@@ -4,9 +4,12 @@ use mathlib.Core.Path.{_≡_, refl, _∙_}
 use Prim.Native.Nat.{_+_, _-_}
 use lib.ListN.{length}
 use Rattle.rules.specs.Access2000.{entriesAt}
+use Rattle.rules.specs.Read2000.{controlOf}
 use Rattle.rows.specs.Writing.{state}
 use Rattle.rows.specs.Acts.{listNodes}
-use Rattle.form2000.proofs.Remains.{Remain, remain-start, node-ready, entry-bad, entry-plain, entry-listed, list-all, list-some, list-entry, list-more}
+use Rattle.rows.proofs.RemainLaws.{Remain, remain-start, list-all, list-some, list-entry, list-more}
+use Rattle.form2000.specs.Acts.{Given}
+use Rattle.form2000.proofs.Nodes.{node-ready, entry-bad, entry-plain, entry-listed}
 use Prim.Native.Nat.{ℕ, _<_}
 use borrow.Fn.Kinds.{In}
 use borrow.Fn.PlainCycle.{Measures, is, falls, and}
@@ -106,7 +109,7 @@ put-entry-returns-3 t c =
 
 -- ---- a list
 abbrev put-list-Inv-loop : put-list-lts.InvT-loop
-put-list-Inv-loop table hints s at n left controls₀ c rows₀ p pos₀ k₀ i₀ j₀ controls rows pos k i j = Remain table s (listNodes (entriesAt left s k pos)) (listNodes (entriesAt left s n at)) (state controls₀ c rows₀ p) (state controls i rows j) × (length controls ≡ length controls₀) × (length rows ≡ length rows₀)
+put-list-Inv-loop table hints s at n left controls₀ c rows₀ p pos₀ k₀ i₀ j₀ controls rows pos k i j = Remain (Given table s) (controlOf table s) (listNodes (entriesAt left s k pos)) (listNodes (entriesAt left s n at)) (state controls₀ c rows₀ p) (state controls i rows j) × (length controls ≡ length controls₀) × (length rows ≡ length rows₀)
 
 abbrev put-list-μ-loop : put-list-lts.MeasureT-loop
 put-list-μ-loop table hints s at n left controls₀ c rows₀ p pos₀ k₀ i₀ j₀ controls rows pos k i j = k
@@ -115,13 +118,15 @@ put-list-loop-holds : (t : ℕ) → put-list-lts.Need-loop-holds (put-list-calls
 put-list-loop-holds t c = (remain-start _ _ _ _ _ refl (c .before .before .before .before .pre .1), refl, refl)
 
 put-list-sub-put-entry : (t : ℕ) → put-list-lts.Need-sub-put-entry (put-list-calls t) (put-list-at t) put-list.Post put-list-Inv-loop put-list-μ-loop
-put-list-sub-put-entry t c = omega (arith, list-some _ _ (c .before .before .before .before .before .before .args .left) (c .before .loop .k) (c .before .loop .pos) _ _ _ (c .before .loop .inv .0) (c .loop-test .taken))
+unfolding entriesAt
+put-list-sub-put-entry t c = omega (arith, list-some _ _ _ _ _ _ _ _ _ (c .before .loop .inv .0) (c .loop-test .taken))
 
 put-list-put-entry-requires : (t : ℕ) → put-list-lts.Need-put-entry-requires (put-list-calls t) (put-list-at t) put-list.Post put-list-Inv-loop put-list-μ-loop
+unfolding entriesAt
 put-list-put-entry-requires t c κs =
     let b3 = c .before .before .before in
     let b8 = c .before .before .before .before .before .before .before .before in
-    (omega (arith, list-some _ _ (b8 .args .left) (b3 .loop .k) (b3 .loop .pos) _ _ _ (b3 .loop .inv .0) (c .before .before .loop-test .taken), b8 .pre .0), list-entry _ _ (b8 .args .left) (b3 .loop .k) (b3 .loop .pos) _ _ _ (b3 .loop .inv .0) (c .before .before .loop-test .taken))
+    (omega (arith, list-some _ _ _ _ _ _ _ _ _ (b3 .loop .inv .0) (c .before .before .loop-test .taken), b8 .pre .0), list-entry _ _ _ _ _ _ _ _ _ (b3 .loop .inv .0) (c .before .before .loop-test .taken))
 
 put-list-sub-k : (t : ℕ) → put-list-lts.Need-sub-k (put-list-calls t) (put-list-at t) put-list.Post put-list-Inv-loop put-list-μ-loop
 put-list-sub-k t c = omega (arith, c .before .before .before .before .before .before .before .loop-test .taken)
@@ -130,10 +135,11 @@ put-list-loop-less : (t : ℕ) → put-list-lts.Need-loop-less (put-list-calls t
 put-list-loop-less t c = omega (arith, c .before .before .before .before .before .before .before .loop-test .taken)
 
 put-list-loop-again : (t : ℕ) → put-list-lts.Need-loop-again (put-list-calls t) (put-list-at t) put-list.Post put-list-Inv-loop put-list-μ-loop
+unfolding entriesAt
 put-list-loop-again t c =
     let b4 = c .before .before .before .before in
     let b8 = c .before .before .before .before .before .before .before .before in
-    (list-more _ _ (c .before .before .before .before .before .before .before .before .before .before .before .before .before .args .left) (b8 .loop .k) (b8 .loop .pos) _ _ _ (b8 .loop .inv .0) (c .before .before .before .before .before .before .before .loop-test .taken) _ _ (b4 .put-entry .ensures), b4 .put-entry .kept .1 .1 .1 .1 .1 .0 ∙ b8 .loop .inv .1, b4 .put-entry .kept .1 .1 .1 .1 .1 .1 .1 .0 ∙ b8 .loop .inv .2)
+    (list-more _ _ _ _ _ _ _ _ _ (b8 .loop .inv .0) (c .before .before .before .before .before .before .before .loop-test .taken) _ _ (b4 .put-entry .ensures), b4 .put-entry .kept .1 .1 .1 .1 .1 .0 ∙ b8 .loop .inv .1, b4 .put-entry .kept .1 .1 .1 .1 .1 .1 .1 .0 ∙ b8 .loop .inv .2)
 
 put-list-same-length : (t : ℕ) → put-list-lts.Need-same-length (put-list-calls t) (put-list-at t) put-list.Post put-list-Inv-loop put-list-μ-loop
 put-list-same-length t c = c .before .loop .inv .1
@@ -142,7 +148,8 @@ put-list-same-length-2 : (t : ℕ) → put-list-lts.Need-same-length-2 (put-list
 put-list-same-length-2 t c = c .before .loop .inv .2
 
 put-list-returns : (t : ℕ) → put-list-lts.Need-returns (put-list-calls t) (put-list-at t) put-list.Post put-list-Inv-loop put-list-μ-loop
-put-list-returns t c = list-all _ _ (c .before .before .before .before .before .before .args .left) (c .before .loop .k) (c .before .loop .pos) _ _ _ (c .before .loop .inv .0) (c .loop-test .left)
+unfolding entriesAt
+put-list-returns t c = list-all _ _ _ _ _ _ _ _ _ (c .before .loop .inv .0) (c .loop-test .left)
 
 pub +put-entry+put-list-spec : {M : Type 1} → statement M
 +put-entry+put-list-spec = close μ-put-entry μ-put-list (λ t. put-entry-lts.spec (put-entry-calls t)
