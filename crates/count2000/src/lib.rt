@@ -1,9 +1,10 @@
 // Counts what an Access 2000 stream has. A cursor is a place in the stream, by value.
+use rows::is_section;
 ghost use mathlib.Core.Path.{_≡_};
 ghost use Prim.Native.Nat.{_<_};
 ghost use lib.ListN.{length};
 ghost use Rattle.rules.specs.Bytes.{halfAt};
-ghost use Rattle.rules.specs.Tree.{isSection, levels};
+ghost use Rattle.rules.specs.Tree.{levels};
 ghost use Rattle.rules.specs.Access2000.{lengthAt, extentAt, propertyAt, runAt, headAt, entryAt, entriesAt, streamOf};
 ghost use Rattle.count2000.specs.Told as told;
 
@@ -216,13 +217,6 @@ pub fn head(s: &[u8], at: usize) -> Opens
     } else {
         Opens::Bad
     }
-}
-
-// A type of sections. At the top, an entry without a list is reported where it has one.
-pub fn is_section(kind: usize) -> bool
-    ensures { λ r. ⌜ r ≡ isSection kind ⌝ }
-{
-    0x98 <= kind && kind <= 0x9E
 }
 
 // The entry at `at`; `left` levels are left below it.

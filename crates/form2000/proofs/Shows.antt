@@ -1,19 +1,16 @@
 -- A property, a name and a type code as they are shown.
-use Prim.Native.Nat.{ℕ, _+_}
+use Prim.Native.Nat.{ℕ}
 use native.Mathlib.Omega.{arith}
 use mathlib.Core.Path.{_≡_, sym, ap, _∙_}
 use mathlib.Core.Bool.{Bool, true, false, cond}
-use mathlib.Core.List.{List, [], _∷_, _++_}
+use mathlib.Core.List.{List}
 use mathlib.Core.Option.{Option, none, some}
 use lib.Bits.{bitOr}
-use lib.ListN.{length}
 use Rattle.rules.specs.Lists.{find, has}
 use Rattle.rules.specs.Bytes.{part}
 use Rattle.rules.specs.Utf16.{isUtf16}
 use Rattle.rules.specs.Value.{storedValue, valueAs}
 use Rattle.rules.specs.CodeTable.{Tie, isTied}
-use Rattle.rules.specs.Texts.{label}
-use Rattle.rules.specs.Reading.{nameWords}
 use Rattle.rules.specs.Read2000.{property, shown, typeCode}
 use Rattle.rules.specs.declared.Name.{Name}
 use Rattle.rules.specs.declared.Value.{Value}
@@ -62,11 +59,3 @@ module _ (headers : List ℕ) (report : Bool) (type : ℕ) (b : Bool) (be : b �
   pub type-other : b ≡ false → type ≡ typeCode headers report type
   unfolding typeCode
   type-other k = sym (ap (λ c. cond c (bitOr (cond report 0x1900 0x1800) type) type) (sym be ∙ k))
-
--- a control's row by its name
-pub words-by : (code n first count : ℕ) (m m′ : Name) → m ≡ m′ → code ∷ nameWords n m′ ++ (first ∷ count ∷ []) ≡ code ∷ nameWords n m ++ (first ∷ count ∷ [])
-words-by code n first count m m′ e = ap (λ x. code ∷ nameWords n x ++ (first ∷ count ∷ [])) (sym e)
-
-pub words-numbered : (code n first count size : ℕ) (m : Name) → m ≡ Name.Numbered → size ≡ length (label n)
-    → code ∷ 1 ∷ n ∷ size ∷ first ∷ count ∷ [] ≡ code ∷ nameWords n m ++ (first ∷ count ∷ [])
-words-numbered code n first count size m e z = ap (λ k. code ∷ 1 ∷ n ∷ k ∷ first ∷ count ∷ []) z ∙ words-by code n first count m Name.Numbered e

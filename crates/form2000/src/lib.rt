@@ -14,7 +14,6 @@ use count2000::Word;
 use count2000::count;
 use count2000::half;
 use count2000::head;
-use count2000::is_section;
 use count2000::props;
 use count2000::value;
 use leaf::byte_at;
@@ -22,16 +21,16 @@ use leaf::is_utf16;
 use leaf::stored_value;
 use leaf::u16_at;
 use leaf::value_as;
-use rows::ControlRow;
+use rows::Next;
+use rows::control_row;
+use rows::is_section;
 use rows::put_control;
 use rows::put_property;
 use rules::Answer;
 use rules::Name;
 use rules::Property;
-use text::label_length;
 ghost use mathlib.Core.Path.{_≡_};
 ghost use mathlib.Core.Bool.{true, cond};
-ghost use mathlib.Core.List.{[], _∷_, _++_};
 ghost use mathlib.Core.Option.{some};
 ghost use Prim.Native.Nat.{_+_, _≤_};
 ghost use lib.Bits.{bitOr};
@@ -42,21 +41,12 @@ ghost use Rattle.rules.specs.Answer.{longest};
 ghost use Rattle.rules.specs.CodeTable.{header, wellFormed};
 ghost use Rattle.rules.specs.Tree.{levels};
 ghost use Rattle.rules.specs.Access2000.{Prop, runAt, entryAt, entriesAt, streamOf};
-ghost use Rattle.rules.specs.Reading.{nameWords};
 ghost use Rattle.rules.specs.Read2000.{isReport, typeCode, nameId, nameBy, objectPlace};
 ghost use Rattle.rules.specs.Rows.{controlWidth, propertyWidth, room};
 ghost use Rattle.rules.specs.Blob as blob;
-ghost use Rattle.rows.specs.Put.{controlWords};
 ghost use Rattle.rows.specs.Writing.{state};
 ghost use Rattle.rows.specs.Acts.{entryNodes, listNodes, topNodes, stood};
 ghost use Rattle.form2000.specs.Acts as acts;
-
-// What was written: the place behind it in the stream, and the next rows.
-struct Next {
-    at: usize,
-    control: usize,
-    property: usize,
-}
 
 // The place behind a run, and the row behind its last.
 struct Rows {
@@ -217,38 +207,6 @@ fn type_code(table: &[u8], report: bool, kind: u16) -> u32
         return join(header_mark(report), kind as u32);
     }
     kind as u32
-}
-
-// A control's row: it is control `n` of the output, and its `count` property rows begin at row `first`.
-fn control_row(type_code: u32, name: Name, n: u32, first: u32, count: u32) -> ControlRow
-    ensures { λ r. ⌜ controlWords r ≡ «type_code» ∷ nameWords n name ++ (first ∷ count ∷ []) ⌝ }
-{
-    match name {
-        Name::Text { start, size } => ControlRow {
-            type_code,
-            mark: 0,
-            start,
-            size,
-            first,
-            count,
-        },
-        Name::Numbered => ControlRow {
-            type_code,
-            mark: 1,
-            start: n,
-            size: label_length(n),
-            first,
-            count,
-        },
-        Name::Loose { start, size } => ControlRow {
-            type_code,
-            mark: 2,
-            start,
-            size,
-            first,
-            count,
-        },
-    }
 }
 
 // Writes the entry at `at` without its list: its property rows, and its control row.

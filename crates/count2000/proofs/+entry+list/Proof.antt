@@ -12,7 +12,7 @@ use Rattle.count2000.proofs.entry.Kinds as entry-kinds
 use Rattle.count2000.proofs.+entry+list.Lts-entry as entry-lts
 use Rattle.count2000.proofs.half.Reads as half-reads
 use Rattle.count2000.proofs.head.Reads as head-reads
-use Rattle.count2000.proofs.is_section.Reads as is-section-reads
+use Rattle.rows.proofs.is_section.Reads as is-section-reads
 use Rattle.count2000.proofs.props.Reads as props-reads
 use Rattle.count2000.proofs.+entry+list.{statement}
 use Rattle.count2000.proofs.+entry+list.Tie.{close}
