@@ -1,6 +1,5 @@
 // Lists the Blob that standard input holds behind its code table, as document 01's program `formlist` does.
 use libc::STDIN_FILENO;
-use names::tables;
 ghost use Rattle.rules.specs.NameTables.{controlTypeNames};
 ghost use Rattle.names.specs.Lookup.{Lent, AllLent};
 
@@ -50,14 +49,14 @@ fn list<'a>(
 }
 
 fn main() {
-    let text_ids = tables::text_ids();
-    let text_rows = tables::text_rows();
-    let number_ids = tables::number_ids();
-    let number_rows = tables::number_rows();
-    let bytes_ids = tables::bytes_ids();
-    let bytes_rows = tables::bytes_rows();
-    let type_ids = tables::control_type_ids();
-    let type_rows = tables::control_type_rows();
+    let text_ids = nametables::text_ids();
+    let text_rows = nametables::text_rows();
+    let number_ids = nametables::number_ids();
+    let number_rows = nametables::number_rows();
+    let bytes_ids = nametables::bytes_ids();
+    let bytes_rows = nametables::bytes_rows();
+    let type_ids = nametables::control_type_ids();
+    let type_rows = nametables::control_type_rows();
     let mut input = [0; 32768];
     let mut controls = [0; 1536];
     let mut properties = [0; 6144];

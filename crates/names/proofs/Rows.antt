@@ -14,7 +14,8 @@ use Rattle.rules.specs.Lists.{all, ascends, find, has, text}
 use Rattle.rules.specs.NameTables.{Table}
 use Rattle.rules.specs.Names.{nameIn, nameText, hasId, filled}
 use Rattle.names.specs.declared.Name.{Name}
-use Rattle.names.specs.Lookup.{Lent, idsOf, rowsOf, holds, right, placeIn, beforeZero, ofRow, named}
+use Rattle.nametables.specs.Columns.{idsOf, rowsOf}
+use Rattle.names.specs.Lookup.{Lent, holds, right, placeIn, beforeZero, ofRow, named}
 use Rattle.names.proofs.Both as both
 use Rattle.names.proofs.Zeros.{before-filled}
 

@@ -1,4 +1,4 @@
--- How the code has a table: its ids, and a row of 26 bytes for each.
+-- How a name is looked up in a table: its ids, and a row of 26 bytes for each.
 use Prim.Native.Nat.{ℕ, suc}
 use Prim.Native.String.{String}
 use mathlib.Core.Path.{_≡_}
@@ -9,15 +9,8 @@ use lib.ListN.{length}
 use Rattle.rules.specs.Lists.{all, ascends, text}
 use Rattle.rules.specs.NameTables.{Table, textNames, numberNames, bytesNames}
 use Rattle.rules.specs.Names.{filled}
+use Rattle.nametables.specs.Columns.{idsOf, rowsOf}
 use Rattle.names.specs.declared.Name.{Name}
-
-abbrev pub idsOf : Table → List ℕ
-idsOf [] = []
-idsOf (row ∷ table) = row .0 ∷ idsOf table
-
-abbrev pub rowsOf : Table → List (List ℕ)
-rowsOf [] = []
-rowsOf (row ∷ table) = filled (text (row .1)) ∷ rowsOf table
 
 -- a name that its row can hold: 1 to 26 bytes, none of them zero
 abbrev pub holds : ℕ × String → Bool

@@ -1,14 +1,5 @@
 // The names of values and of control types, by their ids.
-pub mod tables; // tables.rt: the ids and the rows of the four tables
 
-use tables::BYTES_IDS;
-use tables::BYTES_ROWS;
-use tables::CONTROL_TYPE_IDS;
-use tables::CONTROL_TYPE_ROWS;
-use tables::NUMBER_IDS;
-use tables::NUMBER_ROWS;
-use tables::TEXT_IDS;
-use tables::TEXT_ROWS;
 ghost use mathlib.Core.Path.{_≡_};
 ghost use mathlib.Core.List.{[]};
 ghost use Prim.Native.Nat.{_<_};
@@ -145,32 +136,32 @@ fn found_in(ids: &[u16], rows: &[[u8; 26]], id: u16) -> Name
 pub fn text_name(id: u16) -> Name
     ensures { λ r. ⌜ r ≡ named (nameIn textNames id) ⌝ }
 {
-    let ids = tables::text_ids();
-    let rows = tables::text_rows();
+    let ids = nametables::text_ids();
+    let rows = nametables::text_rows();
     found_in(&ids, &rows, id)
 }
 
 pub fn number_name(id: u16) -> Name
     ensures { λ r. ⌜ r ≡ named (nameIn numberNames id) ⌝ }
 {
-    let ids = tables::number_ids();
-    let rows = tables::number_rows();
+    let ids = nametables::number_ids();
+    let rows = nametables::number_rows();
     found_in(&ids, &rows, id)
 }
 
 pub fn bytes_name(id: u16) -> Name
     ensures { λ r. ⌜ r ≡ named (nameIn bytesNames id) ⌝ }
 {
-    let ids = tables::bytes_ids();
-    let rows = tables::bytes_rows();
+    let ids = nametables::bytes_ids();
+    let rows = nametables::bytes_rows();
     found_in(&ids, &rows, id)
 }
 
 pub fn control_type_name(id: u16) -> Name
     ensures { λ r. ⌜ r ≡ named (nameIn controlTypeNames id) ⌝ }
 {
-    let ids = tables::control_type_ids();
-    let rows = tables::control_type_rows();
+    let ids = nametables::control_type_ids();
+    let rows = nametables::control_type_rows();
     found_in(&ids, &rows, id)
 }
 

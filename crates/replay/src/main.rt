@@ -7,7 +7,6 @@ use lines::front;
 use lines::print_answer;
 use lines::print_bytes;
 use lines::print_rows;
-use names::tables;
 ghost use Prim.Native.Nat.{_<_};
 ghost use lib.ListN.{length};
 ghost use Rattle.rules.specs.NameTables.{controlTypeNames};
@@ -277,14 +276,14 @@ fn replay<'a>(
 
 // A B line has three bytes for each byte of a case, its letter and the line's end.
 fn main() {
-    let text_ids = tables::text_ids();
-    let text_rows = tables::text_rows();
-    let number_ids = tables::number_ids();
-    let number_rows = tables::number_rows();
-    let bytes_ids = tables::bytes_ids();
-    let bytes_rows = tables::bytes_rows();
-    let type_ids = tables::control_type_ids();
-    let type_rows = tables::control_type_rows();
+    let text_ids = nametables::text_ids();
+    let text_rows = nametables::text_rows();
+    let number_ids = nametables::number_ids();
+    let number_rows = nametables::number_rows();
+    let bytes_ids = nametables::bytes_ids();
+    let bytes_rows = nametables::bytes_rows();
+    let type_ids = nametables::control_type_ids();
+    let type_rows = nametables::control_type_rows();
     let mut codes = [0u8; 32768];
     let mut input = [0u8; 32768];
     let mut out = [0u8; 98306];

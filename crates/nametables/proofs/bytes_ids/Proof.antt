@@ -1,7 +1,7 @@
 use mathlib.Core.Path.{refl}
 use Rattle.rules.specs.NameTables.{bytesNames}
-use Rattle.names.proofs.tables.bytes_ids.Statement.{statement}
-use Rattle.names.proofs.tables.bytes_ids.Tie as tie
+use Rattle.nametables.proofs.bytes_ids.Statement.{statement}
+use Rattle.nametables.proofs.bytes_ids.Tie as tie
 
 returns : tie.Need-returns
 unfolding bytesNames

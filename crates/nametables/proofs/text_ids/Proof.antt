@@ -1,7 +1,7 @@
 use mathlib.Core.Path.{refl}
 use Rattle.rules.specs.NameTables.{textNames}
-use Rattle.names.proofs.tables.text_ids.Statement.{statement}
-use Rattle.names.proofs.tables.text_ids.Tie as tie
+use Rattle.nametables.proofs.text_ids.Statement.{statement}
+use Rattle.nametables.proofs.text_ids.Tie as tie
 
 returns : tie.Need-returns
 unfolding textNames

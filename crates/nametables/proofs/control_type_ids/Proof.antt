@@ -1,7 +1,7 @@
 use mathlib.Core.Path.{refl}
 use Rattle.rules.specs.NameTables.{controlTypeNames}
-use Rattle.names.proofs.tables.control_type_ids.Statement.{statement}
-use Rattle.names.proofs.tables.control_type_ids.Tie as tie
+use Rattle.nametables.proofs.control_type_ids.Statement.{statement}
+use Rattle.nametables.proofs.control_type_ids.Tie as tie
 
 returns : tie.Need-returns
 unfolding controlTypeNames

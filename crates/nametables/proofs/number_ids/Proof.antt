@@ -1,7 +1,7 @@
 use mathlib.Core.Path.{refl}
 use Rattle.rules.specs.NameTables.{numberNames}
-use Rattle.names.proofs.tables.number_ids.Statement.{statement}
-use Rattle.names.proofs.tables.number_ids.Tie as tie
+use Rattle.nametables.proofs.number_ids.Statement.{statement}
+use Rattle.nametables.proofs.number_ids.Tie as tie
 
 returns : tie.Need-returns
 unfolding numberNames

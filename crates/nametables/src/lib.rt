@@ -2,7 +2,7 @@
 // A program that looks many names up has each array once, from its function here, and lends it.
 ghost use mathlib.Core.Path.{_≡_};
 ghost use Rattle.rules.specs.NameTables.{textNames, numberNames, bytesNames, controlTypeNames};
-ghost use Rattle.names.specs.Lookup.{idsOf, rowsOf};
+ghost use Rattle.nametables.specs.Columns.{idsOf, rowsOf};
 
 // The ids of the text values that have names.
 pub const TEXT_IDS: [u16; 95] = [
