@@ -2,20 +2,15 @@
 use Prim.Native.Nat.{ℕ}
 use native.Mathlib.Omega.{arith}
 use mathlib.Core.Path.{_≡_, refl}
-use mathlib.Core.Bool.{Bool}
 use mathlib.Core.List.{List}
 use mathlib.Core.Option.{Option, none, some}
 use lib.ListN.{length}
-use Rattle.rules.specs.Tree.{Entry, Entries, isReported}
 use Rattle.rules.specs.Access2000.{Prop}
-use Rattle.rows.specs.Counting.{size1, size, props1, props}
 use Rattle.count2000.specs.Told as told
 use Rattle.count2000.specs.declared.Word.{Word}
 use Rattle.count2000.specs.declared.Spot.{Spot}
 use Rattle.count2000.specs.declared.Run.{Run}
 use Rattle.count2000.specs.declared.Opens.{Opens}
-use Rattle.count2000.specs.declared.One.{One}
-use Rattle.count2000.specs.declared.Part.{Part}
 
 pub word-of : (o : Option ℕ) (r : Word) (n : ℕ) → r ≡ told.half o → r ≡ Word.Of n → o ≡ some n
 word-of none r n e k = cc
@@ -74,23 +69,3 @@ opens-bad (some x) r p k = go (x .0) refl
     go : (y : Option ℕ) → x .0 ≡ y → some x ≡ none
     go none q = cc
     go (some m) q = cc
-
-pub one-of : (o : Option (Entry Prop × ℕ)) (r : One) (b : Bool) (c n e : ℕ) → r ≡ told.one o → r ≡ One.Of b c n e → (x : Entry Prop) × (isReported x ≡ b) × (size1 x ≡ c) × (props1 x ≡ n) × (o ≡ some (x, e))
-one-of none r b c n e p k = absurd (let z : _≡_ {A = ℕ} 0 1 = cc in omega arith)
-one-of (some x) r b c n e p k =
-    let p₁ : x .1 ≡ e = cc in
-    (x .0, cc, cc, cc, λ i. some (x .0, p₁ i))
-
-pub one-bad : (o : Option (Entry Prop × ℕ)) (r : One) → r ≡ told.one o → r ≡ One.Bad → o ≡ none
-one-bad none r p k = cc
-one-bad (some x) r p k = cc
-
-pub part-of : (o : Option (Entries Prop × ℕ)) (r : Part) (c n e : ℕ) → r ≡ told.part o → r ≡ Part.Of c n e → (es : Entries Prop) × (size es ≡ c) × (props es ≡ n) × (o ≡ some (es, e))
-part-of none r c n e p k = absurd (let z : _≡_ {A = ℕ} 0 1 = cc in omega arith)
-part-of (some x) r c n e p k =
-    let p₁ : x .1 ≡ e = cc in
-    (x .0, cc, cc, λ i. some (x .0, p₁ i))
-
-pub part-bad : (o : Option (Entries Prop × ℕ)) (r : Part) → r ≡ told.part o → r ≡ Part.Bad → o ≡ none
-part-bad none r p k = cc
-part-bad (some x) r p k = cc

@@ -14,7 +14,6 @@ use Rattle.count2000.specs.declared.Spot.{Spot}
 use Rattle.count2000.specs.declared.Run.{Run}
 use Rattle.count2000.specs.declared.Opens.{Opens}
 use Rattle.count2000.specs.declared.One.{One}
-use Rattle.count2000.specs.declared.Part.{Part}
 use Rattle.count2000.specs.declared.Counted.{Counted}
 
 abbrev pub half : Option ℕ → Word
@@ -48,15 +47,6 @@ head (some x) = headBy (x .0) (x .1)
 abbrev pub one : Option (Entry Prop × ℕ) → One
 one none = One.Bad
 one (some x) = One.Of (isReported (x .0)) (size1 (x .0)) (props1 (x .0)) (x .1)
-
-abbrev pub part : Option (Entries Prop × ℕ) → Part
-part none = Part.Bad
-part (some x) = Part.Of (size (x .0)) (props (x .0)) (x .1)
-
--- of the top list, what is reported
-abbrev pub top : Option (Entries Prop × ℕ) → Part
-top none = Part.Bad
-top (some x) = Part.Of (size (reported (x .0))) (props (reported (x .0))) (x .1)
 
 abbrev pub counted : Option (List Prop × Entries Prop) → Counted
 counted none = Counted.Bad

@@ -1,4 +1,5 @@
 // Counts what an Access 2000 stream has. A cursor is a place in the stream, by value.
+use rows::Part;
 use rows::is_section;
 ghost use mathlib.Core.Path.{_≡_};
 ghost use Prim.Native.Nat.{_<_};
@@ -6,6 +7,7 @@ ghost use lib.ListN.{length};
 ghost use Rattle.rules.specs.Bytes.{halfAt};
 ghost use Rattle.rules.specs.Tree.{levels};
 ghost use Rattle.rules.specs.Access2000.{lengthAt, extentAt, propertyAt, runAt, headAt, entryAt, entriesAt, streamOf};
+ghost use Rattle.rows.specs.Counting.{part, partTop};
 ghost use Rattle.count2000.specs.Told as told;
 
 // Two bytes, low byte first.
@@ -44,16 +46,6 @@ enum One {
     Bad,
     Of {
         kept: bool,
-        controls: usize,
-        props: usize,
-        next: usize,
-    },
-}
-
-// The entries of a list with all below them.
-enum Part {
-    Bad,
-    Of {
         controls: usize,
         props: usize,
         next: usize,
@@ -255,7 +247,7 @@ fn entry(s: &[u8], at: usize, left: usize) -> One
 
 // `n` entries from `at` on, with `left` levels left: with none left there may be no entry.
 fn list(s: &[u8], at: usize, n: usize, left: usize) -> Part
-    ensures { λ r. ⌜ r ≡ told.part (entriesAt left (now (s .entry)) n at) ⌝ }
+    ensures { λ r. ⌜ r ≡ part (entriesAt left (now (s .entry)) n at) ⌝ }
 {
     let mut p = at;
     let mut k = n;
@@ -291,7 +283,7 @@ fn list(s: &[u8], at: usize, n: usize, left: usize) -> Part
 
 // The top list, of which only some entries are reported.
 fn top(s: &[u8], at: usize, n: usize) -> Part
-    ensures { λ r. ⌜ r ≡ told.top (entriesAt levels (now (s .entry)) n at) ⌝ }
+    ensures { λ r. ⌜ r ≡ partTop (entriesAt levels (now (s .entry)) n at) ⌝ }
 {
     let mut p = at;
     let mut k = n;

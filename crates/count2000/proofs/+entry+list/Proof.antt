@@ -1,7 +1,10 @@
 use Prim.Native.Nat.{ℕ, _+_, _≤_, _<_}
 use native.Mathlib.Omega.{arith}
 use borrow.Author.Needs.{needs}
-use Rattle.count2000.proofs.Lists.{Taken, taken-none, taken-all, taken-deep, taken-bad, taken-more, half-room, run-room, head-room, one-room, part-room, entry-short, entry-run-bad, entry-head-bad, entry-plain, entry-list-bad, entry-parent}
+use mathlib.Core.Path.{ap}
+use Rattle.rules.specs.Access2000.{entryAt, entriesAt}
+use Rattle.rows.proofs.TakenLaws.{Counting, counting-start, counting-all, counting-deep, counting-bad, counting-more}
+use Rattle.count2000.proofs.Lists.{whole, whole-is, half-room, run-room, head-room, one-room, list-room, entry-short, entry-run-bad, entry-head-bad, entry-plain, entry-list-bad, entry-parent}
 use borrow.Fn.Kinds.{In}
 use borrow.Fn.PlainCycle.{Measures, is, falls, and}
 use Rattle.count2000.proofs.list.Reads as list
@@ -43,16 +46,18 @@ abbrev entry-calls : ℕ → entry-lts.Claims
 entry-calls t = (half-reads.Asked, half-reads.Learnt, props-reads.Asked, props-reads.Learnt, head-reads.Asked, head-reads.Learnt, is-section-reads.Asked, is-section-reads.Learnt, list-below t, list.Post)
 
 abbrev list-Inv-loop : list-lts.InvT-loop
-list-Inv-loop s at n left p₀ k₀ all₀ theirs₀ p k all theirs = (at + all + theirs ≤ p) × Taken s left n at all theirs k p
+list-Inv-loop s at n left p₀ k₀ all₀ theirs₀ p k all theirs = (at + all + theirs ≤ p) × Counting (entryAt s) left n at all theirs k p
 
 abbrev list-μ-loop : list-lts.MeasureT-loop
 list-μ-loop s at n left p₀ k₀ all₀ theirs₀ p k all theirs = k
 
 list-loop-holds : (t : ℕ) → list-lts.Need-loop-holds (list-calls t) (list-at t) list.Post list-Inv-loop list-μ-loop
-list-loop-holds t c = (omega arith, taken-none _ _ _ _)
+unfolding entriesAt
+list-loop-holds t c = (omega arith, counting-start _ _ _ _)
 
 list-returns : (t : ℕ) → list-lts.Need-returns (list-calls t) (list-at t) list.Post list-Inv-loop list-μ-loop
-list-returns t c = taken-deep _ _ _ _ _ _ _ _ (c .before .before .loop .inv .1) (c .if1 .taken) (c .before .loop-test .taken)
+unfolding entriesAt
+list-returns t c = counting-deep _ _ _ _ _ _ _ _ (c .before .before .loop .inv .1) (c .if1 .taken) (c .before .loop-test .taken)
 
 list-sub-entry : (t : ℕ) → list-lts.Need-sub-entry (list-calls t) (list-at t) list.Post list-Inv-loop list-μ-loop
 list-sub-entry t c = search needs
@@ -64,7 +69,8 @@ list-enum-told : (t : ℕ) → list-lts.Need-enum-told (list-calls t) (list-at t
 list-enum-told t c = search needs
 
 list-returns-2 : (t : ℕ) → list-lts.Need-returns-2 (list-calls t) (list-at t) list.Post list-Inv-loop list-μ-loop
-list-returns-2 t c = taken-bad _ _ _ _ _ _ _ _ (c .before .before .before .before .before .loop .inv .1) (c .before .before .before .if1 .left) (c .before .before .before .before .loop-test .taken) _ (c .before .before .entry .ensures) (c .enum-told .given .1)
+unfolding entriesAt
+list-returns-2 t c = counting-bad _ _ _ _ _ _ _ _ (c .before .before .before .before .before .loop .inv .1) (c .before .before .before .if1 .left) (c .before .before .before .before .loop-test .taken) _ (whole-is _ _ _ _ (c .before .before .entry .ensures)) (ap whole (c .enum-told .given .1))
 
 list-enum-known-controls : (t : ℕ) → list-lts.Need-enum-known-controls (list-calls t) (list-at t) list.Post list-Inv-loop list-μ-loop
 list-enum-known-controls t c = search needs
@@ -82,12 +88,14 @@ list-loop-less : (t : ℕ) → list-lts.Need-loop-less (list-calls t) (list-at t
 list-loop-less t c = search needs
 
 list-loop-again : (t : ℕ) → list-lts.Need-loop-again (list-calls t) (list-at t) list.Post list-Inv-loop list-μ-loop
+unfolding entriesAt
 list-loop-again t c =
     let b3 = c .before .before .before in
-    (omega (arith, one-room _ _ _ _ _ _ _ _ (b3 .entry .ensures) (c .before .controls .given .1)), taken-more _ _ _ _ _ _ _ _ (c .before .before .before .before .before .before .loop .inv .1) (c .before .before .before .before .if1 .left) (c .before .before .before .before .before .loop-test .taken) _ (b3 .entry .ensures) _ _ _ _ (c .before .controls .given .1))
+    (omega (arith, one-room _ _ _ _ _ _ _ _ (b3 .entry .ensures) (c .before .controls .given .1)), counting-more _ _ _ _ _ _ _ _ (c .before .before .before .before .before .before .loop .inv .1) (c .before .before .before .before .if1 .left) (c .before .before .before .before .before .loop-test .taken) _ (whole-is _ _ _ _ (b3 .entry .ensures)) _ _ _ (ap whole (c .before .controls .given .1)))
 
 list-returns-3 : (t : ℕ) → list-lts.Need-returns-3 (list-calls t) (list-at t) list.Post list-Inv-loop list-μ-loop
-list-returns-3 t c = taken-all _ _ _ _ _ _ _ _ (c .before .loop .inv .1) (c .loop-test .left)
+unfolding entriesAt
+list-returns-3 t c = counting-all _ _ _ _ _ _ _ _ (c .before .loop .inv .1) (c .loop-test .left)
 
 entry-half-requires : (t : ℕ) → entry-lts.Need-half-requires (entry-calls t) (entry-at t) entry.Post
 entry-half-requires t c κs = search needs
@@ -141,10 +149,10 @@ entry-enum-known-controls : (t : ℕ) → entry-lts.Need-enum-known-controls (en
 entry-enum-known-controls t c = search needs
 
 entry-add-t21 : (t : ℕ) → entry-lts.Need-add-t21 (entry-calls t) (entry-at t) entry.Post
-entry-add-t21 t c = omega (arith, part-room _ _ _ _ _ _ _ _ (c .before .before .before .list .ensures) (c .before .controls .given .1), head-room _ _ _ _ _ (c .before .before .before .before .before .before .before .head .ensures) (c .before .before .before .before .before .n .given .1))
+entry-add-t21 t c = omega (arith, list-room _ _ _ _ _ _ _ _ (c .before .before .before .list .ensures) (c .before .controls .given .1), head-room _ _ _ _ _ (c .before .before .before .before .before .before .before .head .ensures) (c .before .before .before .before .before .n .given .1))
 
 entry-add-t22 : (t : ℕ) → entry-lts.Need-add-t22 (entry-calls t) (entry-at t) entry.Post
-entry-add-t22 t c = omega (arith, part-room _ _ _ _ _ _ _ _ (c .before .before .before .list .ensures) (c .before .controls .given .1), head-room _ _ _ _ _ (c .before .before .before .before .before .before .before .head .ensures) (c .before .before .before .before .before .n .given .1), run-room _ _ _ _ _ (c .before .before .before .before .before .before .before .before .before .before .before .props .ensures) (c .before .before .before .before .before .before .before .before .before .count .given .1))
+entry-add-t22 t c = omega (arith, list-room _ _ _ _ _ _ _ _ (c .before .before .before .list .ensures) (c .before .controls .given .1), head-room _ _ _ _ _ (c .before .before .before .before .before .before .before .head .ensures) (c .before .before .before .before .before .n .given .1), run-room _ _ _ _ _ (c .before .before .before .before .before .before .before .before .before .before .before .props .ensures) (c .before .before .before .before .before .before .before .before .before .count .given .1))
 
 entry-returns-3 : (t : ℕ) → entry-lts.Need-returns-3 (entry-calls t) (entry-at t) entry.Post
 entry-returns-3 t c = entry-head-bad _ _ _ _ (c .before .before .before .before .before .before .before .before .before .before .half .ensures) _ (c .before .before .before .before .before .before .before .before .kind .given .1) _ (c .before .before .before .before .before .before .props .ensures) _ _ (c .before .before .before .before .count .given .1) _ (c .before .before .head .ensures) (c .enum-told3 .given .1)
