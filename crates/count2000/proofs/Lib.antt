@@ -3,5 +3,5 @@ pub mod Inverse
 pub mod Extents
 pub mod Runs
 pub mod Grows
-pub mod Lists
-pub mod Reported
+pub mod Entries
+pub mod Streams

@@ -4,7 +4,7 @@ use borrow.Author.Needs.{needs}
 use mathlib.Core.Path.{ap}
 use Rattle.rules.specs.Access2000.{entryAt, entriesAt}
 use Rattle.rows.proofs.TakenLaws.{Counting, counting-start, counting-all, counting-deep, counting-bad, counting-more}
-use Rattle.count2000.proofs.Lists.{whole, whole-is, half-room, run-room, head-room, one-room, list-room, entry-short, entry-run-bad, entry-head-bad, entry-plain, entry-list-bad, entry-parent}
+use Rattle.count2000.proofs.Entries.{whole, whole-is, half-room, run-room, head-room, one-room, list-room, entry-short, entry-run-bad, entry-head-bad, entry-plain, entry-list-bad, entry-parent}
 use borrow.Fn.Kinds.{In}
 use borrow.Fn.PlainCycle.{Measures, is, falls, and}
 use Rattle.count2000.proofs.list.Reads as list

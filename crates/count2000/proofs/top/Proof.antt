@@ -6,7 +6,7 @@ use mathlib.Core.Path.{refl, sym, ap, _∙_}
 use mathlib.Core.Logic.{⊎-elim}
 use Rattle.rules.specs.Access2000.{entryAt, entriesAt}
 use Rattle.rows.proofs.TakenLaws.{Choosing, choosing-start, choosing-all, choosing-left, choosing-bad, choosing-more}
-use Rattle.count2000.proofs.Lists.{chosen, chosen-is, chosen-kept, chosen-left, one-room}
+use Rattle.count2000.proofs.Entries.{chosen, chosen-is, chosen-kept, chosen-left, one-room}
 use Rattle.count2000.proofs.top.Statement.{statement}
 use Rattle.count2000.proofs.top.Tie as tie
 
