@@ -1,7 +1,7 @@
 use native.Mathlib.Omega.{arith}
 use borrow.Author.Needs.{needs}
 use mathlib.Core.Path.{_≡_, refl, _∙_}
-use Prim.Native.Nat.{_+_, _-_}
+use Prim.Native.Nat.{ℕ, _+_, _<_}
 use lib.ListN.{length}
 use Rattle.rules.specs.Access2000.{entriesAt}
 use Rattle.rules.specs.Read2000.{controlOf}
@@ -10,7 +10,6 @@ use Rattle.rows.specs.Acts.{listNodes}
 use Rattle.rows.proofs.RemainLaws.{Remain, remain-start, list-all, list-some, list-entry, list-more}
 use Rattle.form2000.specs.Acts.{Given}
 use Rattle.form2000.proofs.Nodes.{node-ready, entry-bad, entry-plain, entry-listed}
-use Prim.Native.Nat.{ℕ, _<_}
 use borrow.Fn.Kinds.{In}
 use borrow.Fn.PlainCycle.{Measures, is, falls, and}
 use Rattle.form2000.proofs.put_entry.Reads as put-entry
