@@ -2,7 +2,7 @@
 
    Length. A slice is a pointer and, behind it, a length that counts elements: bytes, or words of 32 bits.
    Ownership. A slice is lent for the call alone. Nothing is kept, allocated or freed, and no state is left between calls, so threads may call at
-   the same time with slices of their own.
+   the same time with slices of their own. The archive calls no code of others but memset of the C library.
    Overlap. A `const` slice is only read; such slices may overlap each other. A slice that is written may overlap nothing else that the call is given.
    Alignment. Words are aligned to 4 bytes.
    Empty. Where a length is 0 its pointer isn't followed, and may be null. Otherwise the pointer is to that many elements.
