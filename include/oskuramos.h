@@ -6,7 +6,7 @@
    Overlap. A `const` slice is only read; such slices may overlap each other. A slice that is written may overlap nothing else that the call is given.
    Alignment. Words are aligned to 4 bytes.
    Empty. Where a length is 0 its pointer isn't followed, and may be null. Otherwise the pointer is to that many elements.
-   Stack. A call takes less than 100 KB: 70 KB were measured for the deepest stream that is read.
+   Stack. A call takes less than 100 KB: less than 80 KB were measured for the deepest stream that is read.
 
    No function asks anything more of its caller. Bad input is refused by a number, and a refused call writes nothing. */
 #ifndef OSKURAMOS_H
