@@ -301,10 +301,27 @@ fn wide(x: u8) -> usize {
     x as usize
 }
 
+// About where an id stands among n rows, where none is noted: flags come first, values with a length last.
+fn about(n: usize, id: u8) -> usize {
+    if id < 0x30 {
+        return n / 16;
+    }
+    if id < 0x80 {
+        return n / 2;
+    }
+    n - n / 4
+}
+
 // The row at which to look first for an id.
 pub fn hint(hints: &[u8; 4096], body: Found, id: u8) -> usize {
     match body {
-        Found::Body { start, count: _ } => wide(hints[slot(start as usize, id as usize)]),
+        Found::Body { start, count } => {
+            let noted = wide(hints[slot(start as usize, id as usize)]);
+            if 0 < noted {
+                return noted;
+            }
+            about(count as usize, id)
+        }
         Found::Nowhere => 0,
     }
 }
