@@ -1,11 +1,12 @@
 use mathlib.Core.Path.{refl}
+use borrow.Author.Needs.{needs}
 use Rattle.rules.specs.NameTables.{numberNames}
 use Rattle.nametables.proofs.number_rows.Statement.{statement}
 use Rattle.nametables.proofs.number_rows.Tie as tie
 
 returns : tie.Need-returns
 unfolding numberNames
-returns c = refl
+returns c = c .before .put-rows .ensures
 
 pub number-rows-spec : {M : Type 1} → statement M
-number-rows-spec = tie.close (tie.spec returns)
+number-rows-spec = tie.close (tie.spec (λ c. search needs) (λ c. search needs) (λ c κs. refl) returns)
