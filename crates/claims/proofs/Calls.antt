@@ -22,9 +22,9 @@ use Rattle.names.proofs.number_name.Met as number-name-code
 use Rattle.names.proofs.bytes_name.Met as bytes-name-code
 use Rattle.names.proofs.control_type_name.Met as control-type-name-code
 use Rattle.names.proofs.value_name.Met as value-name-code
-use Rattle.leaf.proofs.entry_value.Met as entry-value-code
-use Rattle.leaf.proofs.stored_value.Met as stored-value-code
-use Rattle.leaf.proofs.«value_as».Met as value-as-code
+use Rattle.propvalue.proofs.entry_value.Met as entry-value-code
+use Rattle.propvalue.proofs.stored_value.Met as stored-value-code
+use Rattle.propvalue.proofs.«value_as».Met as value-as-code
 use Rattle.leaf.proofs.integer_value.Met as integer-value-code
 use Rattle.leaf.proofs.is_utf16.Met as is-utf16-code
 use Rattle.leaf.proofs.widen.Met as widen-code

@@ -1,7 +1,7 @@
 -- The public functions: each one's signature, the code that is built from it, and its contract's clauses as its caller learns them.
-use Rattle.leaf.proofs.entry_value as entry_value
-use Rattle.leaf.proofs.stored_value as stored_value
-use Rattle.leaf.proofs.«value_as» as «value_as»
+use Rattle.propvalue.proofs.entry_value as entry_value
+use Rattle.propvalue.proofs.stored_value as stored_value
+use Rattle.propvalue.proofs.«value_as» as «value_as»
 use Rattle.leaf.proofs.integer_value as integer_value
 use Rattle.leaf.proofs.widen as widen_single
 use Rattle.leaf.proofs.is_utf16 as is_utf16

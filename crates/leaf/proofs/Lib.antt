@@ -3,4 +3,4 @@ pub mod Past
 pub mod Signed
 pub mod Widening
 pub mod Units
-pub mod Values
+pub mod Integers

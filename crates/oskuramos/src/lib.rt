@@ -210,19 +210,19 @@ pub extern "C" fn oskuramos_value_name(mark: u32, id: u16) -> Name
 pub extern "C" fn oskuramos_entry_value(type_code: u32, bytes: &[u8]) -> Value
     ensures { λ r. ⌜ r ≡ handedValue (entryValue «type_code» (now (bytes .entry))) ⌝ }
 {
-    handed_value(leaf::entry_value(type_code, bytes))
+    handed_value(propvalue::entry_value(type_code, bytes))
 }
 
 #[no_mangle]
 pub extern "C" fn oskuramos_stored_value(id: u8, bytes: &[u8]) -> Value
     ensures { λ r. ⌜ r ≡ handedValue (storedValue id (now (bytes .entry))) ⌝ }
 {
-    handed_value(leaf::stored_value(id, bytes))
+    handed_value(propvalue::stored_value(id, bytes))
 }
 
 #[no_mangle]
 pub extern "C" fn oskuramos_value_as(kind: u8, id: u8, bytes: &[u8]) -> Value
     ensures { λ r. ⌜ r ≡ handedValue (valueAs kind id (now (bytes .entry))) ⌝ }
 {
-    handed_value(leaf::value_as(kind, id, bytes))
+    handed_value(propvalue::value_as(kind, id, bytes))
 }

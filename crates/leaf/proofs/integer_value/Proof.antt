@@ -6,7 +6,7 @@ use mir.Syntax.{w32}
 use mir.Facts.{toZ-pos, toZ-ofZ}
 use Rattle.rules.specs.Value.{signed}
 use Rattle.leaf.specs.Int.{intOf}
-use Rattle.leaf.proofs.Values.{one-byte, two-bytes, four-bytes, no-integer}
+use Rattle.leaf.proofs.Integers.{one-byte, two-bytes, four-bytes, no-integer}
 use Rattle.leaf.specs.declared.Int.the-variants.{Of}
 use Rattle.leaf.proofs.integer_value.Statement.{statement}
 use Rattle.leaf.proofs.integer_value.Tie as tie

@@ -2,9 +2,9 @@ use mathlib.Core.Path.{ap, _∙_}
 use native.Mathlib.Omega.{arith}
 use borrow.Author.Needs.{needs}
 use Rattle.rules.specs.Value.{boolValue}
-use Rattle.leaf.proofs.Values.{yes-empty, yes-byte, yes-longer}
-use Rattle.leaf.proofs.yes_no_value.Statement.{statement}
-use Rattle.leaf.proofs.yes_no_value.Tie as tie
+use Rattle.propvalue.proofs.Values.{yes-empty, yes-byte, yes-longer}
+use Rattle.propvalue.proofs.yes_no_value.Statement.{statement}
+use Rattle.propvalue.proofs.yes_no_value.Tie as tie
 
 returns : tie.Need-returns
 returns c = c .valued .ensures ∙ yes-empty (c .before .before .before .args .bytes .now) (omega arith)

@@ -3,11 +3,11 @@ use Prim.Native.Nat.{ℕ}
 use native.Mathlib.Omega.{arith}
 use borrow.Author.Needs.{needs}
 use Rattle.rules.specs.Value.{value, widened}
-use Rattle.leaf.proofs.Values.{a-single, no-single}
+use Rattle.propvalue.proofs.Values.{a-single, no-single}
 use Rattle.leaf.specs.Wide.{wordsOf}
 use Rattle.leaf.specs.declared.Wide.{Wide}
-use Rattle.leaf.proofs.single_value.Statement.{statement}
-use Rattle.leaf.proofs.single_value.Tie as tie
+use Rattle.propvalue.proofs.single_value.Statement.{statement}
+use Rattle.propvalue.proofs.single_value.Tie as tie
 
 returns : tie.Need-returns
 returns c =

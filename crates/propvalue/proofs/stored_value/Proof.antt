@@ -5,9 +5,9 @@ use borrow.Author.Needs.{needs}
 use mir.Syntax.{w32}
 use mir.Facts.{toZ-ofZ}
 use Rattle.rules.specs.Value.{value, signed, word32}
-use Rattle.leaf.proofs.Values.{stored-flag, stored-byte, stored-short, stored-long, stored-bytes}
-use Rattle.leaf.proofs.stored_value.Statement.{statement}
-use Rattle.leaf.proofs.stored_value.Tie as tie
+use Rattle.propvalue.proofs.Values.{stored-flag, stored-byte, stored-short, stored-long, stored-bytes}
+use Rattle.propvalue.proofs.stored_value.Statement.{statement}
+use Rattle.propvalue.proofs.stored_value.Tie as tie
 
 returns : tie.Need-returns
 returns c = let a = c .before .before .before .args in c .valued .ensures ∙ stored-flag (a .id) (a .bytes .now) (omega arith)

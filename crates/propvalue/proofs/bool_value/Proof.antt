@@ -1,8 +1,8 @@
 use mathlib.Core.Path.{_∙_}
 use borrow.Author.Tests.{eq-eqb, ne-eqb}
 use borrow.Author.Needs.{needs}
-use Rattle.leaf.proofs.bool_value.Statement.{statement}
-use Rattle.leaf.proofs.bool_value.Tie as tie
+use Rattle.propvalue.proofs.bool_value.Statement.{statement}
+use Rattle.propvalue.proofs.bool_value.Tie as tie
 
 returns : tie.Need-returns
 returns c = c .valued .ensures ∙ simp (eq-eqb _ _ (c .before .if1 .taken))

@@ -12,10 +12,10 @@ use lib.ListN.{length}
 use Rattle.rules.specs.Bytes.{byte, u16, u32}
 use Rattle.rules.specs.Utf16.{isUtf16}
 use Rattle.rules.specs.Value.{value, boolValue, notDefault, signed, longValue, shortValue, doubleValue, widened, guidValue, binaryValue, fits16, integerValue, longOr, shortOr, yesNoValue, entryValue, storedValue, valueAs}
-use Rattle.leaf.specs.Parts.{singleOrBinary, doubleOrBinary, guidOrBinary}
+use Rattle.propvalue.specs.Parts.{singleOrBinary, doubleOrBinary, guidOrBinary}
 use Rattle.leaf.specs.Int.{intOf, shortOf}
 use Rattle.leaf.specs.declared.Int.the-variants.{Of, Nothing}
 use Rattle.leaf.specs.declared.Short.the-variants.{Fits, Not}
 
 -- ---- a whole number that may be missing
 apart : {X : Type 0} → _≡_ {A = ℕ} 0 1 → X
@@ -57,22 +57,6 @@ short-fits (some y) z x e n =
 
 -- ---- by how many bytes there are
 module _ (b : List ℕ) where
-  pub one-byte : length b ≡ 1 → some (pos (byte b 0)) ≡ integerValue b
-  unfolding integerValue
-  one-byte h = rw h
-
-  pub two-bytes : length b ≡ 2 → some (signed 0x8000 (u16 b 0)) ≡ integerValue b
-  unfolding integerValue
-  two-bytes h = rw h
-
-  pub four-bytes : length b ≡ 4 → some (signed 0x80000000 (u32 b 0)) ≡ integerValue b
-  unfolding integerValue
-  four-bytes h = rw h
-
-  pub no-integer : (length b ≡ 1 → ⊥) → (length b ≡ 2 → ⊥) → (length b ≡ 4 → ⊥) → none ≡ integerValue b
-  unfolding integerValue
-  no-integer p q r = simp (ne-eqb (length b) 1 p, ne-eqb (length b) 2 q, ne-eqb (length b) 4 r)
-
   pub yes-empty : length b ≡ 0 → notDefault ≡ yesNoValue b
   unfolding yesNoValue
   yes-empty h = rw h

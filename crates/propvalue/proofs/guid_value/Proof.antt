@@ -1,9 +1,9 @@
 use mathlib.Core.Path.{_∙_}
 use native.Mathlib.Omega.{arith}
 use borrow.Author.Needs.{needs}
-use Rattle.leaf.proofs.Values.{a-guid, no-guid}
-use Rattle.leaf.proofs.guid_value.Statement.{statement}
-use Rattle.leaf.proofs.guid_value.Tie as tie
+use Rattle.propvalue.proofs.Values.{a-guid, no-guid}
+use Rattle.propvalue.proofs.guid_value.Statement.{statement}
+use Rattle.propvalue.proofs.guid_value.Tie as tie
 
 returns : tie.Need-returns
 returns c = c .valued .ensures ∙ a-guid (c .before .before .before .args .bytes .now) (omega arith)

@@ -4,10 +4,10 @@ use native.Mathlib.Omega.{arith}
 use borrow.Author.Tests.{ne-eqb}
 use borrow.Author.Needs.{needs}
 use Rattle.rules.specs.Value.{value, valueAs}
-use Rattle.leaf.specs.Parts.{doubleOrBinary, guidOrBinary}
-use Rattle.leaf.proofs.Values.{by-id, by-kind}
-use Rattle.leaf.proofs.value_as.Statement.{statement}
-use Rattle.leaf.proofs.value_as.Tie as tie
+use Rattle.propvalue.specs.Parts.{doubleOrBinary, guidOrBinary}
+use Rattle.propvalue.proofs.Values.{by-id, by-kind}
+use Rattle.propvalue.proofs.value_as.Statement.{statement}
+use Rattle.propvalue.proofs.value_as.Tie as tie
 
 -- the value at a kind that a pattern names
 kinded : (c : tie.Start) {k : ℕ} → c .args .kind ≡ k → valueAs (c .args .kind) (c .args .id) (c .args .bytes .now) ≡ valueAs k (c .args .id) (c .args .bytes .now)

@@ -3,9 +3,9 @@ use Prim.Native.Nat.{ℕ}
 use native.Mathlib.Omega.{arith}
 use borrow.Author.Needs.{needs}
 use Rattle.rules.specs.Value.{value}
-use Rattle.leaf.proofs.Values.{a-double, no-double}
-use Rattle.leaf.proofs.double_value.Statement.{statement}
-use Rattle.leaf.proofs.double_value.Tie as tie
+use Rattle.propvalue.proofs.Values.{a-double, no-double}
+use Rattle.propvalue.proofs.double_value.Statement.{statement}
+use Rattle.propvalue.proofs.double_value.Tie as tie
 
 returns : tie.Need-returns
 returns c =

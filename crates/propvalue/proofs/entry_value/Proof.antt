@@ -3,10 +3,10 @@ use mathlib.Core.Logic.{⊎-elim, inl, inr}
 use Prim.Native.Nat.{ℕ}
 use borrow.Author.Needs.{needs}
 use Rattle.rules.specs.Value.{entryValue}
-use Rattle.leaf.specs.Parts.{singleOrBinary, doubleOrBinary, guidOrBinary}
-use Rattle.leaf.proofs.Values.{other-type}
-use Rattle.leaf.proofs.entry_value.Statement.{statement}
-use Rattle.leaf.proofs.entry_value.Tie as tie
+use Rattle.propvalue.specs.Parts.{singleOrBinary, doubleOrBinary, guidOrBinary}
+use Rattle.propvalue.proofs.Values.{other-type}
+use Rattle.propvalue.proofs.entry_value.Statement.{statement}
+use Rattle.propvalue.proofs.entry_value.Tie as tie
 
 -- the value at a type that a pattern names
 typed : (c : tie.Start) {t : ℕ} → c .args .type-code ≡ t → entryValue (c .args .type-code) (c .args .bytes .now) ≡ entryValue t (c .args .bytes .now)

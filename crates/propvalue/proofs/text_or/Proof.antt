@@ -1,7 +1,7 @@
 use mathlib.Core.Path.{sym, _∙_}
 use borrow.Author.Needs.{needs}
-use Rattle.leaf.proofs.text_or.Statement.{statement}
-use Rattle.leaf.proofs.text_or.Tie as tie
+use Rattle.propvalue.proofs.text_or.Statement.{statement}
+use Rattle.propvalue.proofs.text_or.Tie as tie
 
 returns : tie.Need-returns
 returns c = c .valued .ensures ∙ simp (sym (c .before .before .is-utf16 .ensures), c .before .if1 .taken)

@@ -5,9 +5,9 @@ use mir.Syntax.{w32}
 use mir.Val.{toZ, ofZ}
 use mir.Facts.{toZ-ofZ}
 use Rattle.rules.specs.Value.{value, integerValue, word32}
-use Rattle.leaf.proofs.Values.{missing-long, long-is}
-use Rattle.leaf.proofs.long_value.Statement.{statement}
-use Rattle.leaf.proofs.long_value.Tie as tie
+use Rattle.propvalue.proofs.Values.{missing-long, long-is}
+use Rattle.propvalue.proofs.long_value.Statement.{statement}
+use Rattle.propvalue.proofs.long_value.Tie as tie
 
 -- v is a number of 32 bits, so it is read back as it is
 v-is : (c : tie.After-known-told) → toZ w32 (ofZ w32 (c .before .v .given .0 .0)) ≡ c .before .v .given .0 .0

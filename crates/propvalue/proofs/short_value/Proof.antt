@@ -7,10 +7,10 @@ use mir.Syntax.{w16, w32}
 use mir.Val.{SFits, toZ, ofZ}
 use mir.Facts.{toZ-ofZ}
 use Rattle.rules.specs.Value.{value, integerValue, word32}
 use Rattle.leaf.specs.Int.{shortOf}
-use Rattle.leaf.proofs.Values.{missing-short, too-long, short-fits}
-use Rattle.leaf.proofs.short_value.Statement.{statement}
-use Rattle.leaf.proofs.short_value.Tie as tie
+use Rattle.propvalue.proofs.Values.{missing-short, too-long, short-fits}
+use Rattle.propvalue.proofs.short_value.Statement.{statement}
+use Rattle.propvalue.proofs.short_value.Tie as tie
 
 -- v is a number of 32 bits, so it is read back as it is
 v-is : (c : tie.After-known-told) → toZ w32 (ofZ w32 (c .before .v .given .0 .0)) ≡ c .before .v .given .0 .0

@@ -1,0 +1,2 @@
+-- What the values' contracts say beyond the definitions of rules.
+pub mod Parts
