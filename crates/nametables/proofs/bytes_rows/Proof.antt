@@ -1,5 +1,4 @@
 use mathlib.Core.Path.{refl}
-use borrow.Author.Needs.{needs}
 use Rattle.rules.specs.NameTables.{bytesNames}
 use Rattle.nametables.proofs.bytes_rows.Statement.{statement}
 use Rattle.nametables.proofs.bytes_rows.Tie as tie
@@ -9,4 +8,4 @@ unfolding bytesNames
 returns c = c .before .put-rows .ensures
 
 pub bytes-rows-spec : {M : Type 1} → statement M
-bytes-rows-spec = tie.close (tie.spec (λ c. search needs) (λ c. search needs) (λ c κs. refl) returns)
+bytes-rows-spec = tie.close (tie.spec (λ c. refl) (λ c. refl) (λ c κs. refl) returns)

@@ -1,5 +1,4 @@
 use mathlib.Core.Path.{refl}
-use borrow.Author.Needs.{needs}
 use Rattle.rules.specs.NameTables.{controlTypeNames}
 use Rattle.nametables.proofs.control_type_rows.Statement.{statement}
 use Rattle.nametables.proofs.control_type_rows.Tie as tie
@@ -9,4 +8,4 @@ unfolding controlTypeNames
 returns c = c .before .put-rows .ensures
 
 pub control-type-rows-spec : {M : Type 1} → statement M
-control-type-rows-spec = tie.close (tie.spec (λ c. search needs) (λ c. search needs) (λ c κs. refl) returns)
+control-type-rows-spec = tie.close (tie.spec (λ c. refl) (λ c. refl) (λ c κs. refl) returns)

@@ -1,5 +1,4 @@
 use mathlib.Core.Path.{refl}
-use borrow.Author.Needs.{needs}
 use Rattle.rules.specs.NameTables.{numberNames}
 use Rattle.nametables.proofs.number_rows.Statement.{statement}
 use Rattle.nametables.proofs.number_rows.Tie as tie
@@ -9,4 +8,4 @@ unfolding numberNames
 returns c = c .before .put-rows .ensures
 
 pub number-rows-spec : {M : Type 1} → statement M
-number-rows-spec = tie.close (tie.spec (λ c. search needs) (λ c. search needs) (λ c κs. refl) returns)
+number-rows-spec = tie.close (tie.spec (λ c. refl) (λ c. refl) (λ c κs. refl) returns)

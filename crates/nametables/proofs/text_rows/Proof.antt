@@ -1,5 +1,4 @@
 use mathlib.Core.Path.{refl}
-use borrow.Author.Needs.{needs}
 use Rattle.rules.specs.NameTables.{textNames}
 use Rattle.nametables.proofs.text_rows.Statement.{statement}
 use Rattle.nametables.proofs.text_rows.Tie as tie
@@ -9,4 +8,4 @@ unfolding textNames
 returns c = c .before .put-rows .ensures
 
 pub text-rows-spec : {M : Type 1} → statement M
-text-rows-spec = tie.close (tie.spec (λ c. search needs) (λ c. search needs) (λ c κs. refl) returns)
+text-rows-spec = tie.close (tie.spec (λ c. refl) (λ c. refl) (λ c κs. refl) returns)
