@@ -18,8 +18,9 @@ use Rattle.rules.specs.declared.Answer.{Answer}
 use Rattle.text.proofs.Digits.{longest-label}
 use Rattle.text.proofs.Written.{guid-length}
 use Rattle.listing.specs.Lines.{Line}
-use Rattle.listing.proofs.Fields.{word-at, numbered, with-name, is-no, is-yes, low-half, high-half}
-use Rattle.listing.proofs.Tables.{control-types, values, short-name}
+use Rattle.values.proofs.Marks.{is-no, is-yes, low-half, high-half}
+use Rattle.fields.proofs.Fields.{word-at, numbered, with-name}
+use Rattle.fields.proofs.Tables.{control-types, values, short-name}
 use Rattle.listing.proofs.Placed.{held}
 
 -- a number of 32 bits

@@ -1,7 +1,7 @@
 use borrow.Author.Needs.{needs}
 use Rattle.rules.specs.Rows.{controlWidth, rowAt}
 use Rattle.text.proofs.Chain.{_⨟_, same}
-use Rattle.listing.proofs.Fields.{control-text}
+use Rattle.listing.proofs.Rows.{control-text}
 use Rattle.listing.proofs.Placed.{line}
 use Rattle.listing.proofs.control_line.Statement.{statement}
 use Rattle.listing.proofs.control_line.Tie as tie

@@ -1,7 +1,7 @@
 use borrow.Author.Needs.{needs}
 use Rattle.rules.specs.Rows.{propertyWidth, rowAt}
 use Rattle.text.proofs.Chain.{_⨟_}
-use Rattle.listing.proofs.Fields.{property-text}
+use Rattle.listing.proofs.Rows.{property-text}
 use Rattle.listing.proofs.Placed.{line}
 use Rattle.listing.proofs.property_line.Statement.{statement}
 use Rattle.listing.proofs.property_line.Tie as tie

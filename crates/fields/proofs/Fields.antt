@@ -1,0 +1,35 @@
+-- Words of rows and fields, as the code has them.
+use mathlib.Core.Path.{_≡_, refl, _∙_}
+use mathlib.Core.List.{List, [], _∷_}
+use Prim.Native.Nat.{ℕ, _+_, _*_, _/_, _<_}
+use native.Mathlib.Omega.{arith}
+use borrow.Author.Tests.{eq-eqb, ne-eqb}
+use lib.ListN.{length, getD, drop}
+use lib.Seq.{getD-take, getD-drop}
+use Rattle.rules.specs.Lists.{text}
+use Rattle.rules.specs.Digits.{decimal}
+use Rattle.rules.specs.Rows.{propertyWidth, rowAt}
+use Rattle.rules.specs.Listing.{orDash, word, nameColumn}
+
+-- a word of a row, by its place in the slice
+pub word-at : (n i : ℕ) (rows : List ℕ) → i < 6 → word (rowAt propertyWidth n rows) i ≡ getD rows (n * 6 + i) 0
+word-at n i rows h = getD-take 6 (drop (n * 6) rows) i 0 h ∙ getD-drop (n * 6) rows i 0
+
+-- ---- a name, a count
+pub no-name : (s : List ℕ) → length s ≡ 0 → orDash s ≡ text "-"
+unfolding orDash
+no-name [] e = refl
+no-name (b ∷ s) e = absurd (omega arith)
+
+pub a-name : (s : List ℕ) → (length s ≡ 0 → ⊥) → orDash s ≡ s
+unfolding orDash
+a-name [] e = absurd (e refl)
+a-name (b ∷ s) e = refl
+
+pub numbered : (m size : ℕ) → m ≡ 1 → nameColumn m size ≡ text "-"
+unfolding nameColumn
+numbered m size e = rw (eq-eqb m 1 e)
+
+pub with-name : (m size : ℕ) → (m ≡ 1 → ⊥) → nameColumn m size ≡ decimal (size / 2)
+unfolding nameColumn
+with-name m size e = rw (ne-eqb m 1 e)

@@ -1,0 +1,3 @@
+-- Laws of fields.
+pub mod Fields
+pub mod Tables

@@ -1,0 +1,2 @@
+-- What the writers of fields say.
+pub mod Parts

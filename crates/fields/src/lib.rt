@@ -1,0 +1,126 @@
+// The fields of a line, and the words of rows that they show. Each is written into a lent buffer; the place behind it is returned.
+use text::put_byte;
+use text::put_decimal;
+use text::put_hex;
+use text::put_text;
+use values::put_value;
+use values::put_word;
+use values::value_bytes;
+ghost use mathlib.Core.Path.{_≡_};
+ghost use mathlib.Core.List.{[], _∷_};
+ghost use Prim.Native.Nat.{_<_};
+ghost use Rattle.rules.specs.Lists.{text};
+ghost use Rattle.rules.specs.Digits.{decimal, hex};
+ghost use Rattle.rules.specs.NameTables.{controlTypeNames};
+ghost use Rattle.rules.specs.Names.{nameIn, namesFor};
+ghost use Rattle.rules.specs.Rows.{propertyWidth, rowAt};
+ghost use Rattle.rules.specs.Listing.{orDash, word, nameColumn};
+ghost use Rattle.names.specs.Lookup.{Lent, AllLent};
+ghost use Rattle.text.specs.Writer.{Wrote};
+ghost use Rattle.fields.specs.Parts.{fields, shownFields};
+
+// Word `i` of row `n`; rows that end before it have 0 there.
+pub fn row_word(rows: &[u32], n: u32, i: usize) -> u32
+    requires { ⌜ i < 6 ⌝ }
+    ensures { λ r. ⌜ r ≡ word (rowAt propertyWidth n (now (rows .entry))) i ⌝ }
+{
+    let at = (n as usize) * 6 + i;
+    if at < rows.len() { rows[at] } else { 0 }
+}
+
+// LF ends each line.
+pub fn put_end(out: &mut [u8], at: usize) -> usize
+    ensures { λ r. ⌜ Wrote (now (out .entry)) at (text "\n") (now (out .exit)) r ⌝ }
+{
+    put_byte(out, at, b'\n')
+}
+
+// What both kinds of row begin with: a letter, the row's number, its first word in hex; a blank behind each.
+pub fn put_head(out: &mut [u8], letter: u8, n: u32, code: u32) -> usize
+    ensures { λ r. ⌜ Wrote (now (out .entry)) 0 (fields ((letter ∷ []) ∷ decimal n ∷ hex 4 code ∷ [])) (now (out .exit)) r ⌝ }
+{
+    let p = put_byte(out, 0, letter);
+    let p = put_byte(out, p, b' ');
+    let p = put_decimal(out, p, n);
+    let p = put_byte(out, p, b' ');
+    let p = put_hex(out, p, 4, code);
+    put_byte(out, p, b' ')
+}
+
+fn put_name(out: &mut [u8], at: usize, name: &[u8]) -> usize
+    ensures { λ r. ⌜ Wrote (now (out .entry)) at (orDash (now (name .entry))) (now (out .exit)) r ⌝ }
+{
+    if name.len() == 0 {
+        put_byte(out, at, b'-')
+    } else {
+        put_text(out, at, name)
+    }
+}
+
+// No table has an id of more than 16 bits.
+pub fn put_type_name(out: &mut [u8], at: usize, ids: &[u16], rows: &[[u8; 26]], code: u32) -> usize
+    requires { ⌜ Lent controlTypeNames (now ids) (now rows) ⌝ }
+    ensures { λ r. ⌜ Wrote (now (out .entry)) at (orDash (nameIn controlTypeNames code)) (now (out .exit)) r ⌝ }
+{
+    if 0xffff < code {
+        return put_byte(out, at, b'-');
+    }
+    put_name(out, at, names::name_in(ids, rows, code as u16))
+}
+
+pub fn put_value_name<'a>(
+    out: &mut [u8],
+    at: usize,
+    text_ids: &[u16],
+    text_rows: &'a [[u8; 26]],
+    number_ids: &[u16],
+    number_rows: &'a [[u8; 26]],
+    bytes_ids: &[u16],
+    bytes_rows: &'a [[u8; 26]],
+    mark: u32,
+    id: u32,
+) -> usize
+    requires { ⌜ AllLent (now «text_ids») (now «text_rows») (now «number_ids») (now «number_rows») (now «bytes_ids») (now «bytes_rows») ⌝ }
+    ensures { λ r. ⌜ Wrote (now (out .entry)) at (orDash (nameIn (namesFor mark) id)) (now (out .exit)) r ⌝ }
+{
+    if 0xffff < id {
+        return put_byte(out, at, b'-');
+    }
+    let name = names::value_name_in(
+        text_ids,
+        text_rows,
+        number_ids,
+        number_rows,
+        bytes_ids,
+        bytes_rows,
+        mark,
+        id as u16,
+    );
+    put_name(out, at, name)
+}
+
+// How many characters a control's name has; a control without one is numbered.
+pub fn put_chars(out: &mut [u8], at: usize, mark: u32, size: u32) -> usize
+    ensures { λ r. ⌜ Wrote (now (out .entry)) at (nameColumn mark size) (now (out .exit)) r ⌝ }
+{
+    if mark == 1 {
+        put_byte(out, at, b'-')
+    } else {
+        put_decimal(out, at, size / 2)
+    }
+}
+
+// The word and the value of property row `n`.
+pub fn put_shown(out: &mut [u8], at: usize, stream: &[u8], rows: &[u32], n: u32) -> usize
+    ensures { λ r. ⌜ Wrote (now (out .entry)) at (shownFields (now (stream .entry)) (rowAt propertyWidth n (now (rows .entry)))) (now (out .exit)) r ⌝ }
+{
+    let mark = row_word(rows, n, 1);
+    let low = row_word(rows, n, 2);
+    let high = row_word(rows, n, 3);
+    let start = row_word(rows, n, 4);
+    let size = row_word(rows, n, 5);
+    let bytes = value_bytes(stream, start, size);
+    let p = put_word(out, at, mark);
+    let p = put_byte(out, p, b' ');
+    put_value(out, p, mark, low, high, size, bytes)
+}

@@ -1,0 +1,2 @@
+-- Laws of how values are shown.
+pub mod Marks

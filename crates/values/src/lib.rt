@@ -1,0 +1,99 @@
+// How the value of a property is shown: the word of its mark, and what it is. Each is written into a lent buffer; the place behind it is returned.
+use text::put_byte;
+use text::put_decimal;
+use text::put_guid;
+use text::put_hex;
+use text::put_text;
+ghost use mathlib.Core.Path.{_≡_};
+ghost use lib.ListN.{take, drop};
+ghost use Rattle.rules.specs.Bytes.{part};
+ghost use Rattle.rules.specs.Listing.{markWord, yesOrNo, number32, valueColumn};
+ghost use Rattle.text.specs.Writer.{Wrote};
+
+pub fn put_word(out: &mut [u8], at: usize, mark: u32) -> usize
+    ensures { λ r. ⌜ Wrote (now (out .entry)) at (markWord mark) (now (out .exit)) r ⌝ }
+{
+    match mark {
+        0 => put_text(out, at, b"bool"),
+        1 => put_text(out, at, b"notdefault"),
+        2 => put_text(out, at, b"short"),
+        3 => put_text(out, at, b"long"),
+        4 => put_text(out, at, b"double"),
+        5 => put_text(out, at, b"guid"),
+        6 => put_text(out, at, b"text"),
+        7 => put_text(out, at, b"binary"),
+        _ => put_text(out, at, b"loose"),
+    }
+}
+
+fn put_yes(out: &mut [u8], at: usize, low: u32) -> usize
+    ensures { λ r. ⌜ Wrote (now (out .entry)) at (yesOrNo low) (now (out .exit)) r ⌝ }
+{
+    if low == 0 {
+        put_text(out, at, b"no")
+    } else {
+        put_text(out, at, b"yes")
+    }
+}
+
+// The number that 32 bits are in two's complement.
+fn put_signed(out: &mut [u8], at: usize, low: u32) -> usize
+    ensures { λ r. ⌜ Wrote (now (out .entry)) at (number32 low) (now (out .exit)) r ⌝ }
+{
+    if low < 0x8000_0000 {
+        put_decimal(out, at, low)
+    } else {
+        let p = put_byte(out, at, b'-');
+        put_decimal(out, p, 0xffff_ffff - low + 1)
+    }
+}
+
+pub fn put_value(
+    out: &mut [u8],
+    at: usize,
+    mark: u32,
+    low: u32,
+    high: u32,
+    size: u32,
+    bytes: &[u8],
+) -> usize
+    ensures { λ r. ⌜ Wrote (now (out .entry)) at (valueColumn mark low high size (now (bytes .entry))) (now (out .exit)) r ⌝ }
+{
+    match mark {
+        0 => put_yes(out, at, low),
+        1 => put_byte(out, at, b'-'),
+        2 => put_signed(out, at, low),
+        3 => put_signed(out, at, low),
+        4 => {
+            let p = put_hex(out, at, 8, high);
+            put_hex(out, p, 8, low)
+        }
+        5 => put_guid(out, at, bytes),
+        6 => put_decimal(out, at, size / 2),
+        _ => put_decimal(out, at, size),
+    }
+}
+
+// ---- the bytes that it is of
+fn behind(s: &[u8], start: usize) -> &[u8]
+    ensures { λ r. ⌜ now r ≡ drop start (now (s .entry)) ⌝ }
+{
+    if start < s.len() {
+        &s[start..]
+    } else {
+        &s[..0]
+    }
+}
+
+fn front(s: &[u8], size: usize) -> &[u8]
+    ensures { λ r. ⌜ now r ≡ take size (now (s .entry)) ⌝ }
+{
+    if size < s.len() { &s[..size] } else { s }
+}
+
+// The bytes of a value, as far as the stream has them.
+pub fn value_bytes(stream: &[u8], start: u32, size: u32) -> &[u8]
+    ensures { λ r. ⌜ now r ≡ part (now (stream .entry)) start size ⌝ }
+{
+    front(behind(stream, start as usize), size as usize)
+}
