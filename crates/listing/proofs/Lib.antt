@@ -1,5 +1,5 @@
 -- Laws of the lines; the public ones serve the program that prints them.
-pub mod Rows
 pub mod Placed
+pub mod Rows
 pub mod Longest
 pub mod Printed

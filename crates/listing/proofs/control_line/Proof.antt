@@ -1,8 +1,7 @@
 use borrow.Author.Needs.{needs}
 use Rattle.rules.specs.Rows.{controlWidth, rowAt}
-use Rattle.text.proofs.Chain.{_⨟_, same}
-use Rattle.listing.proofs.Rows.{control-text}
-use Rattle.listing.proofs.Placed.{line}
+use Rattle.text.proofs.Chain.{same}
+use Rattle.listing.proofs.Rows.{control-wrote}
 use Rattle.listing.proofs.control_line.Statement.{statement}
 use Rattle.listing.proofs.control_line.Tie as tie
 
@@ -19,22 +18,21 @@ returns c =
     let c1 = c2 .before .before .before .before in
     let w = c1 .before .before in
     let a = c1 .before .before .before .before .before .before .before .before .before .before .args in
-    rw (control-text (a .n) (rowAt controlWidth (a .n) (a .rows .now)))
-    (line (rw (
-      w .before .before .before .before .row-word .ensures,
-      w .before .before .before .row-word2 .ensures,
-      w .before .before .row-word3 .ensures,
-      w .before .row-word4 .ensures,
-      w .row-word5 .ensures,
-    ) at (c1 .put-head .ensures
-    ⨟ c2 .put-type-name .ensures
-    ⨟ c3 .put-byte .ensures
-    ⨟ c4 .put-chars .ensures
-    ⨟ c5 .put-byte2 .ensures
-    ⨟ c6 .put-decimal .ensures
-    ⨟ c7 .put-byte3 .ensures
-    ⨟ c8 .put-decimal2 .ensures
-    ⨟ c9 .put-end .ensures)))
+    control-wrote (a .n) (rowAt controlWidth (a .n) (a .rows .now))
+    (w .before .before .before .before .row-word .ensures)
+    (w .before .before .before .row-word2 .ensures)
+    (w .before .before .row-word3 .ensures)
+    (w .before .row-word4 .ensures)
+    (w .row-word5 .ensures)
+    (c1 .put-head .ensures)
+    (c2 .put-type-name .ensures)
+    (c3 .put-byte .ensures)
+    (c4 .put-chars .ensures)
+    (c5 .put-byte2 .ensures)
+    (c6 .put-decimal .ensures)
+    (c7 .put-byte3 .ensures)
+    (c8 .put-decimal2 .ensures)
+    (c9 .put-end .ensures)
 
 same-length : tie.Need-same-length
 same-length c = same (returns c .wrote)

@@ -1,8 +1,6 @@
 use borrow.Author.Needs.{needs}
 use Rattle.rules.specs.Rows.{propertyWidth, rowAt}
-use Rattle.text.proofs.Chain.{_⨟_}
-use Rattle.listing.proofs.Rows.{property-text}
-use Rattle.listing.proofs.Placed.{line}
+use Rattle.listing.proofs.Rows.{property-wrote}
 use Rattle.listing.proofs.property_line.Statement.{statement}
 use Rattle.listing.proofs.property_line.Tie as tie
 
@@ -15,12 +13,13 @@ returns c =
     let c1 = c2 .before .before .before .before in
     let w = c1 .before .before in
     let a = c1 .before .before .before .before .before .before .before .before .before .before .args in
-    rw (property-text (a .stream .now) (a .n) (rowAt propertyWidth (a .n) (a .rows .now)))
-    (line (rw (w .before .row-word .ensures, w .row-word2 .ensures) at (c1 .put-head .ensures
-    ⨟ c2 .put-value-name .ensures
-    ⨟ c3 .put-byte .ensures
-    ⨟ c4 .put-shown .ensures
-    ⨟ c5 .put-end .ensures)))
+    property-wrote (a .n) (rowAt propertyWidth (a .n) (a .rows .now)) (a .stream .now)
+    (w .before .row-word .ensures) (w .row-word2 .ensures)
+    (c1 .put-head .ensures)
+    (c2 .put-value-name .ensures)
+    (c3 .put-byte .ensures)
+    (c4 .put-shown .ensures)
+    (c5 .put-end .ensures)
 
 pub property-line-spec : {M : Type 1} → statement M
 property-line-spec =
