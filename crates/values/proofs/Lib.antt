@@ -1,2 +1,3 @@
 -- Laws of how values are shown.
+pub mod Parts
 pub mod Marks

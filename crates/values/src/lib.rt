@@ -5,7 +5,6 @@ use text::put_guid;
 use text::put_hex;
 use text::put_text;
 ghost use mathlib.Core.Path.{_≡_};
-ghost use lib.ListN.{take, drop};
 ghost use Rattle.rules.specs.Bytes.{part};
 ghost use Rattle.rules.specs.Listing.{markWord, yesOrNo, number32, valueColumn};
 ghost use Rattle.text.specs.Writer.{Wrote};
@@ -74,26 +73,18 @@ pub fn put_value(
     }
 }
 
-// ---- the bytes that it is of
-fn behind(s: &[u8], start: usize) -> &[u8]
-    ensures { λ r. ⌜ now r ≡ drop start (now (s .entry)) ⌝ }
-{
-    if start < s.len() {
-        &s[start..]
-    } else {
-        &s[..0]
-    }
-}
-
-fn front(s: &[u8], size: usize) -> &[u8]
-    ensures { λ r. ⌜ now r ≡ take size (now (s .entry)) ⌝ }
-{
-    if size < s.len() { &s[..size] } else { s }
-}
-
 // The bytes of a value, as far as the stream has them.
 pub fn value_bytes(stream: &[u8], start: u32, size: u32) -> &[u8]
     ensures { λ r. ⌜ now r ≡ part (now (stream .entry)) start size ⌝ }
 {
-    front(behind(stream, start as usize), size as usize)
+    let first = start as usize;
+    if stream.len() <= first {
+        return &stream[..0];
+    }
+    let most = size as usize;
+    if stream.len() - first <= most {
+        return &stream[first..];
+    }
+    let end = first + most;
+    &stream[first..end]
 }

@@ -1,0 +1,20 @@
+-- A part of a list: past its end, up to its end, and within it.
+use mathlib.Core.Path.{_≡_, refl, sym, ap, _∙_}
+use mathlib.Core.List.{List, []}
+use Prim.Native.Nat.{ℕ, _+_, _-_, _≤_}
+use native.Mathlib.Omega.{arith}
+use lib.ListN.{length, take, drop, length-drop, drop-of-length-le}
+use lib.Seq.{take-all}
+use Rattle.rules.specs.Bytes.{part}
+
+module _ (s : List ℕ) (p n : ℕ) where
+  pub part-none : length s ≤ p → [] ≡ part s p n
+  part-none h = rw (drop-of-length-le s h) (sym (take-all n [] (omega arith)))
+
+  pub part-rest : length s - p ≤ n → take (length s - p) (drop p s) ≡ part s p n
+  part-rest h =
+      take-all (length s - p) (drop p s) (simp length-drop (omega arith))
+      ∙ sym (take-all n (drop p s) (simp length-drop (omega arith)))
+
+  pub part-whole : take (p + n - p) (drop p s) ≡ part s p n
+  part-whole = let e : p + n - p ≡ n = omega arith in ap (λ (k : ℕ). take k (drop p s)) e
