@@ -4,6 +4,9 @@ use Rattle.listing.proofs.Rows.{property-wrote}
 use Rattle.listing.proofs.property_line.Statement.{statement}
 use Rattle.listing.proofs.property_line.Tie as tie
 
+put-value-name-requires : tie.Need-put-value-name-requires
+put-value-name-requires c κs = c .before .before .before .before .before .before .before .before .before .before .before .before .before .pre
+
 returns : tie.Need-returns
 returns c =
     let c5 = c .before .before in
@@ -25,6 +28,7 @@ pub property-line-spec : {M : Type 1} → statement M
 property-line-spec =
     tie.close
     (tie.spec
-    (λ c κs. search needs) (λ c κs. search needs) (λ c κs. search needs) (λ c κs. search needs) (λ c κs. search needs)
-    (λ c κs. search needs) (λ c κs. search needs) (λ c. search needs)
+    (λ c κs. search needs) (λ c κs. search needs) (λ c κs. search needs)
+    put-value-name-requires
+    (λ c κs. search needs) (λ c κs. search needs) (λ c κs. search needs) (λ c. search needs)
     returns)
