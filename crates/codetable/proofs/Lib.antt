@@ -4,5 +4,6 @@ pub mod Halves
 pub mod Lookup
 pub mod Rows
 pub mod Scopes
+pub mod Starts
 pub mod Steps
 pub mod WellFormed

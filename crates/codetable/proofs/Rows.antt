@@ -3,6 +3,7 @@
 use Prim.Native.Nat.{ℕ, zero, suc, _+_, _≤_}
 use mathlib.Core.Path.{_≡_, refl, ap}
 use mathlib.Core.List.{List, _∷_}
+use native.Mathlib.Omega.{arith}
 use Rattle.rules.specs.Lists.{find}
 use Rattle.rules.specs.Bytes.{byte, u16}
 use Rattle.rules.specs.CodeTable.{idOf, tieAt, tiesAt, isTied}
@@ -20,6 +21,10 @@ pub row-hit : (t : List ℕ) {start n wanted at left half mid i : ℕ} → Turn 
     → Sorted (tiesAt t start n) → Tied x k ≡ asRow (find (isTied wanted) (tiesAt t start n))
 unfolding asRow
 row-hit t {start} {n} T x k h ex ek a = rw (ex, ek, ties-as-items t start n, hit T h (rw (ties-as-items t start n) at a))
+
+-- what is not tied is no row that was told
+pub not-tied : {A : Type 0} (x k : ℕ) → Untied ≡ Tied x k → A
+not-tied x k e = absurd (let z : _≡_ {A = ℕ} 0 1 = cc in omega arith)
 
 pub row-none : (t : List ℕ) {start n wanted at left : ℕ} → Narrowed (tieAt t) idOf 4 start n wanted at left → left ≤ 0
     → Sorted (tiesAt t start n) → Untied ≡ asRow (find (isTied wanted) (tiesAt t start n))

@@ -5,14 +5,15 @@ use mathlib.Core.List.{List, [], _∷_, map}
 use mathlib.Core.Bool.{Bool, true, _&&_}
 use mathlib.Core.Option.{Option, none, some}
 use lib.Dec.{eqb}
-use lib.ListN.{length}
+use lib.ListN.{length, getD}
 use Rattle.rules.specs.Lists.{all, find, ascends}
 use Rattle.rules.specs.Bytes.{byte, u16}
-use Rattle.rules.specs.CodeTable.{Tie, idOf, keyOf, key, tiesAt, scopesAt, tieOk, scopeOk, rowCount, wellFormed, scopeRows}
+use Rattle.rules.specs.CodeTable.{Tie, idOf, keyOf, key, tiesAt, scopesAt, scopeCount, contentsAt, bodiesAt, tieOk, scopeOk, rowCount, wellFormed, isTied, scopeRows}
 use Rattle.codetable.specs.declared.Found.{Found}
 use Rattle.codetable.specs.declared.Found.the-variants.{Body, Nowhere}
 use Rattle.codetable.specs.declared.Row.{Row}
 use Rattle.codetable.specs.declared.Row.the-variants.{Tied, Untied}
+use Rattle.codetable.specs.declared.RowRead.{RowRead}
 use Rattle.codetable.specs.declared.Place.{Place}
 use Rattle.codetable.specs.declared.Place.the-variants.{At, Missing}
 
@@ -20,6 +21,12 @@ use Rattle.codetable.specs.declared.Place.the-variants.{At, Missing}
 pub record Small (x bound r : ℕ) : Type 0 where
   pub is : r ≡ x
   pub small : r < bound
+
+-- the numbers of the row at a place
+pub record ReadsRow (t : List ℕ) (at : ℕ) (r : RowRead) : Type 0 where
+  pub id : Small (byte t at) 256 (r .id)
+  pub target : Small (u16 t (at + 1)) 65536 (r .target)
+  pub kind : Small (byte t (at + 3)) 256 (r .kind)
 
 -- ---- well-formedness of what is left, from the least id or key that may come next
 unfoldable pub tiesFrom : ℕ → List Tie → Bool
@@ -59,6 +66,10 @@ unfoldable pub countsTo : List ℕ → ℕ → ℕ → ℕ
 countsTo t contents zero = 0
 countsTo t contents (suc i) = countsTo t contents i + countAt t contents i
 
+-- where the rows of each scope start
+abbrev pub Placed : List ℕ → List ℕ → Type 0
+Placed t starts = (i : ℕ) → i < scopeCount t → i < 64 → getD starts i 0 ≡ bodiesAt t + 4 * countsTo t (contentsAt t) i
+
 unfoldable pub asPlace : Option ℕ → Place
 asPlace none = Missing
 asPlace (some i) = At i
@@ -83,6 +94,11 @@ asRow (some r) = Tied (r .target) (r .kind)
 -- the ids of the rows ascend
 abbrev pub Sorted : List Tie → Type 0
 Sorted rs = ascends 0 (map idOf rs) ≡ true
+
+-- a row that is told is what the rows say of the id
+abbrev pub Looks : List ℕ → ℕ → ℕ → ℕ → Row → Type 0
+Looks t start n wanted r =
+    (x k : ℕ) → r ≡ Tied x k → Sorted (tiesAt t start n) → r ≡ asRow (find (isTied wanted) (tiesAt t start n))
 
 -- a body of a well-formed table holds the scope's rows, in the order of their ids
 pub record Finds (t : List ℕ) (kind code : ℕ) (body : Found) : Type 0 where

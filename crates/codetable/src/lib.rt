@@ -4,7 +4,7 @@ ghost use Prim.Native.Nat.{_+_, _*_, _<_, _≤_, _^_};
 ghost use Rattle.rules.specs.Bytes.{byte, u16};
 ghost use Rattle.rules.specs.Lists.{has, ascends, find};
 ghost use Rattle.rules.specs.CodeTable as t;
-ghost use Rattle.codetable.specs.Look.{Small, Seeks, Finds, Formed, Sorted, bodyRows, asRow, countsTo};
+ghost use Rattle.codetable.specs.Look.{Small, ReadsRow, Placed, Seeks, Finds, Looks, Formed, Sorted, bodyRows, asRow};
 
 // Where the rows of a scope are.
 pub enum Found {
@@ -18,10 +18,23 @@ pub enum Row {
     Untied,
 }
 
+// The four bytes of a row.
+struct RowRead {
+    id: usize,
+    target: usize,
+    kind: usize,
+}
+
 // Which scope of the contents is wanted, counted from 0.
 enum Place {
     At(usize),
     Missing,
+}
+
+fn wide(x: u8) -> usize
+    ensures { λ r. ⌜ (r ≡ x) × (r < 256) ⌝ }
+{
+    x as usize
 }
 
 // The byte at a place, or 0 past the end.
@@ -39,6 +52,25 @@ fn word(table: &[u8], at: usize) -> usize
     ensures { λ r. ⌜ Small (u16 (now (table .entry)) at) 65536 r ⌝ }
 {
     byte(table, at) + 256 * byte(table, at + 1)
+}
+
+// The row at a place. Where it ends inside the table, one test serves all of its bytes.
+fn read_row(table: &[u8], at: usize) -> RowRead
+    requires { ⌜ at + 3 < 2 ^ 60 ⌝ }
+    ensures { λ r. ⌜ ReadsRow (now (table .entry)) at r ⌝ }
+{
+    if at + 3 < table.len() {
+        return RowRead {
+            id: wide(table[at]),
+            target: wide(table[at + 1]) + 256 * wide(table[at + 1 + 1]),
+            kind: wide(table[at + 3]),
+        };
+    }
+    RowRead {
+        id: byte(table, at),
+        target: word(table, at + 1),
+        kind: byte(table, at + 3),
+    }
 }
 
 // The n codes from start on ascend.
@@ -70,9 +102,10 @@ fn ties_ok(table: &[u8], start: usize, n: usize) -> bool
     let mut left = n;
     let mut least = 0;
     while 0 < left {
-        let id = byte(table, at);
-        let target = word(table, at + 1);
-        let kind = byte(table, at + 3);
+        let row = read_row(table, at);
+        let id = row.id;
+        let target = row.target;
+        let kind = row.kind;
         if id < least {
             return false;
         }
@@ -197,23 +230,44 @@ fn seek_scope(table: &[u8], contents: usize, n: usize, wanted: usize) -> Place
     Place::Missing
 }
 
-// How many rows the first n scopes have together.
-fn rows_before(table: &[u8], contents: usize, n: usize) -> usize
-    requires { ⌜ (contents < 2 ^ 16) × (n ≤ 64) ⌝ }
-    ensures { λ r. ⌜ Small (countsTo (now (table .entry)) contents n) 4194304 r ⌝ }
+// Which of n scopes has the wanted kind and code: one is looked at first.
+fn find_index(table: &[u8], contents: usize, n: usize, wanted: usize, near: usize) -> Place
+    requires { ⌜ contents + 5 * n < 2 ^ 32 ⌝ }
+    ensures { λ r. ⌜ Seeks (now (table .entry)) contents n wanted r ⌝ }
 {
-    let mut sum = 0;
-    let mut i = 0;
-    while i < n {
-        sum += word(table, contents + 5 * i + 3);
-        i += 1;
+    if near < n {
+        let at = contents + 5 * near;
+        if byte(table, at) * 65536 + word(table, at + 1) == wanted {
+            return Place::At(near);
+        }
     }
-    sum
+    seek_scope(table, contents, n, wanted)
 }
 
-// Where the rows of a scope are, in a well-formed table.
-pub fn find_scope(table: &[u8], kind: u8, code: u16) -> Found
-    ensures { λ r. ⌜ Finds (now (table .entry)) kind code r ⌝ }
+// Where the rows of each scope start, 64 scopes at most.
+pub fn scope_starts(table: &[u8]) -> [u32; 64]
+    ensures { λ r. ⌜ Placed (now (table .entry)) r ⌝ }
+{
+    let scopes = word(table, 2);
+    let mut starts = [0; 64];
+    let mut at = 4 + 2 * byte(table, 1);
+    let mut body = at + 5 * scopes;
+    let mut i = 0;
+    while i < scopes {
+        if 63 < i {
+            return starts;
+        }
+        starts[i] = body as u32;
+        body += 4 * word(table, at + 3);
+        at += 5;
+        i += 1;
+    }
+    starts
+}
+
+// Where the rows of a scope are, in a well-formed table whose rows start at `starts`. Any scope may be told as near: it is looked at first.
+pub fn find_scope(table: &[u8], starts: &[u32; 64], kind: u8, code: u16, near: usize) -> Found
+    ensures { λ r. ⌜ (Placed (now (table .entry)) (now (starts .entry)) → Finds (now (table .entry)) kind code r) ⌝ }
 {
     let headers = byte(table, 1);
     let listed = word(table, 2);
@@ -222,14 +276,12 @@ pub fn find_scope(table: &[u8], kind: u8, code: u16) -> Found
     }
     let contents = 4 + 2 * headers;
     let wanted = kind as usize * 65536 + code as usize;
-    let Place::At(index) = seek_scope(table, contents, listed, wanted) else {
+    let Place::At(index) = find_index(table, contents, listed, wanted, near) else {
         return Found::Nowhere;
     };
-    let before = rows_before(table, contents, index);
-    let start = contents + 5 * listed + 4 * before;
     let count = word(table, contents + 5 * index + 3);
     Found::Body {
-        start: start as u32,
+        start: starts[index],
         count: count as u16,
     }
 }
@@ -244,7 +296,7 @@ fn first_look(near: usize, n: usize) -> usize
     n / 2
 }
 
-// What n rows say of an id, where the ids ascend: one row is looked at first, then by halves.
+// What n rows say of an id, where the ids ascend: by halves, where one row is looked at first.
 fn seek_row(table: &[u8], start: usize, n: usize, wanted: usize, near: usize) -> Row
     requires { ⌜ start + 4 * n < 2 ^ 60 ⌝ }
     ensures { λ r. ⌜ (Sorted (t.tiesAt (now (table .entry)) start n) → r ≡ asRow (find (t.isTied wanted) (t.tiesAt (now (table .entry)) start n))) ⌝ }
@@ -254,11 +306,12 @@ fn seek_row(table: &[u8], start: usize, n: usize, wanted: usize, near: usize) ->
     let mut half = first_look(near, n);
     while 0 < rows {
         let mid = at + 4 * half;
-        let id = byte(table, mid);
+        let row = read_row(table, mid);
+        let id = row.id;
         if id == wanted {
             return Row::Tied {
-                target: word(table, mid + 1) as u16,
-                kind: byte(table, mid + 3) as u8,
+                target: row.target as u16,
+                kind: row.kind as u8,
             };
         }
         if id < wanted {
@@ -273,35 +326,24 @@ fn seek_row(table: &[u8], start: usize, n: usize, wanted: usize, near: usize) ->
     Row::Untied
 }
 
-// What the rows that were found say of an id, where their ids ascend. Any row may be told as near: it is looked at first.
-pub fn find_row(table: &[u8], body: Found, id: u8, near: usize) -> Row
-    ensures { λ r. ⌜ (Sorted (bodyRows (now (table .entry)) body) → r ≡ asRow (find (t.isTied id) (bodyRows (now (table .entry)) body))) ⌝ }
+// What the row `near` of n rows says of an id, where it is tied there.
+fn look(table: &[u8], start: usize, n: usize, wanted: usize, near: usize) -> Row
+    requires { ⌜ start + 4 * n < 2 ^ 60 ⌝ }
+    ensures { λ r. ⌜ Looks (now (table .entry)) start n wanted r ⌝ }
 {
-    match body {
-        Found::Body { start, count } => seek_row(
-            table,
-            start as usize,
-            count as usize,
-            id as usize,
-            near,
-        ),
-        Found::Nowhere => Row::Untied,
+    if near < n {
+        let row = read_row(table, start + 4 * near);
+        if row.id == wanted {
+            return Row::Tied {
+                target: row.target as u16,
+                kind: row.kind as u8,
+            };
+        }
     }
+    Row::Untied
 }
 
-// ---- hints: at which row of a body an id is looked for first. A hint may be wrong; nothing but time rests on it.
-fn slot(start: usize, id: usize) -> usize
-    requires { ⌜ (start < 2 ^ 60) × (id < 256) ⌝ }
-    ensures { λ r. ⌜ r < 4096 ⌝ }
-{
-    (start + 16 * id) % 4096
-}
-
-fn wide(x: u8) -> usize {
-    x as usize
-}
-
-// About where an id stands among n rows, where none is noted: flags come first, values with a length last.
+// About where an id stands among n rows: flags come first, values with a length last.
 fn about(n: usize, id: u8) -> usize {
     if id < 0x30 {
         return n / 16;
@@ -312,22 +354,51 @@ fn about(n: usize, id: u8) -> usize {
     n - n / 4
 }
 
+// What the rows that were found say of an id, where their ids ascend. Any row may be told as near: it is looked at first.
+pub fn find_row(table: &[u8], body: Found, id: u8, near: usize) -> Row
+    ensures { λ r. ⌜ (Sorted (bodyRows (now (table .entry)) body) → r ≡ asRow (find (t.isTied id) (bodyRows (now (table .entry)) body))) ⌝ }
+{
+    let Found::Body { start, count } = body else {
+        return Row::Untied;
+    };
+    let at = start as usize;
+    let n = count as usize;
+    let wanted = id as usize;
+    match look(table, at, n, wanted, near) {
+        Row::Tied { target, kind } => Row::Tied { target, kind },
+        Row::Untied => seek_row(table, at, n, wanted, about(n, id)),
+    }
+}
+
+// ---- hints: which scope is looked at first for a code, and which row of a body for an id. A hint may be wrong; nothing but time rests on it.
+fn row_slot(start: usize, id: usize) -> usize
+    requires { ⌜ (start < 2 ^ 60) × (id < 256) ⌝ }
+    ensures { λ r. ⌜ r < 4096 ⌝ }
+{
+    (3 * start + id) % 4096
+}
+
+fn scope_slot(code: usize) -> usize
+    ensures { λ r. ⌜ r < 4352 ⌝ }
+{
+    4096 + code % 256
+}
+
+// The scope at which to look first for a code.
+pub fn scope_hint(hints: &[u8; 4352], code: u16) -> usize {
+    wide(hints[scope_slot(code as usize)])
+}
+
 // The row at which to look first for an id.
-pub fn hint(hints: &[u8; 4096], body: Found, id: u8) -> usize {
+pub fn row_hint(hints: &[u8; 4352], body: Found, id: u8) -> usize {
     match body {
-        Found::Body { start, count } => {
-            let noted = wide(hints[slot(start as usize, id as usize)]);
-            if 0 < noted {
-                return noted;
-            }
-            about(count as usize, id)
-        }
+        Found::Body { start, count: _ } => wide(hints[row_slot(start as usize, id as usize)]),
         Found::Nowhere => 0,
     }
 }
 
 // Notes the first 255 of n rows.
-fn note_rows(table: &[u8], start: usize, n: usize, hints: &mut [u8; 4096])
+fn note_rows(table: &[u8], start: usize, n: usize, hints: &mut [u8; 4352])
     requires { ⌜ start + 4 * n < 2 ^ 60 ⌝ }
 {
     let mut at = start;
@@ -337,7 +408,7 @@ fn note_rows(table: &[u8], start: usize, n: usize, hints: &mut [u8; 4096])
         if 254 < row {
             return;
         }
-        let k = slot(start, byte(table, at));
+        let k = row_slot(start, byte(table, at));
         hints[k] = row;
         row += 1;
         at += 4;
@@ -345,15 +416,22 @@ fn note_rows(table: &[u8], start: usize, n: usize, hints: &mut [u8; 4096])
     }
 }
 
-// Notes the rows of every scope.
-pub fn note_scopes(table: &[u8], hints: &mut [u8; 4096]) {
+// Notes the first 255 scopes and their rows.
+pub fn note_scopes(table: &[u8], hints: &mut [u8; 4352]) {
     let scopes = word(table, 2);
     let mut at = 4 + 2 * byte(table, 1);
     let mut body = at + 5 * scopes;
     let mut left = scopes;
+    let mut scope: u8 = 0;
     while 0 < left {
+        if 254 < scope {
+            return;
+        }
+        let k = scope_slot(byte(table, at + 1));
+        hints[k] = scope;
         let count = word(table, at + 3);
         note_rows(table, body, count, hints);
+        scope += 1;
         at += 5;
         body += 4 * count;
         left -= 1;
@@ -364,5 +442,6 @@ pub fn note_scopes(table: &[u8], hints: &mut [u8; 4096]) {
 pub fn row_of(table: &[u8], kind: u8, code: u16, id: u8) -> Row
     ensures { λ r. ⌜ (Formed (now (table .entry)) → r ≡ asRow (t.rowOf (now (table .entry)) kind code id)) ⌝ }
 {
-    find_row(table, find_scope(table, kind, code), id, 0)
+    let starts = scope_starts(table);
+    find_row(table, find_scope(table, &starts, kind, code, 0), id, 0)
 }

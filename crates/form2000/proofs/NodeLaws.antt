@@ -26,7 +26,7 @@ use Rattle.rows.specs.Acts.{Held, Fit, stood}
 use Rattle.rows.proofs.WritingLaws.{theirs-one, write-one}
 use Rattle.codetable.specs.Look.{Finds, Formed, bodyRows}
 use Rattle.codetable.specs.declared.Found.{Found}
-use Rattle.form2000.specs.Acts.{shownIn, ran, runAct, RunReady, RunGood, nameIn, nodeAt, act, NodesReady}
+use Rattle.form2000.specs.Acts.{shownIn, ran, runAct, RunReady, nameIn, nodeAt, act, NodesReady}
 
 -- ---- two bytes
 byte-is : (s : List ℕ) (p : ℕ) → Every (λ b. (b ≡ byte s p) × (p < length s)) (byteAt s p)
@@ -68,9 +68,9 @@ pub record NodeParts (t s : List ℕ) (p : ℕ) (st : State) : Type 0 where
   pub is : nodeAt s p ≡ some (node (u16 s p) props ∷ [], end)
   pub fit : Fit (controlOf t s (node (u16 s p) props) ∷ []) st
 
-pub node-parts : (t s : List ℕ) (p : ℕ) (st : State) → NodesReady t s (nodeAt s p) st → NodeParts t s p st
+pub node-parts : (t starts s : List ℕ) (p : ℕ) (st : State) → NodesReady t starts s (nodeAt s p) st → NodeParts t s p st
 unfolding nodeAt
-node-parts t s p st h = go (halfAt s p) (runAt s (p + 2)) (half-is s p) refl refl (h .fits)
+node-parts t starts s p st h = go (halfAt s p) (runAt s (p + 2)) (half-is s p) refl refl (h .fits)
   where
     go : (a : Option ℕ) (b : Option (List Prop × ℕ)) → Every (λ n. (n ≡ u16 s p) × (p + 1 < length s)) a → runAt s (p + 2) ≡ b
         → nodeAt s p ≡ (a >>= λ type. b >>= λ x. some (node type (x .0) ∷ [], x .1))
@@ -86,9 +86,9 @@ node-parts t s p st h = go (halfAt s p) (runAt s (p + 2)) (half-is s p) refl ref
       fit = rw (e .0) at f;
     }
 
-module _ (t s : List ℕ) (at : ℕ) (cs : List ℕ) (ci : ℕ) (ps : List ℕ) (pi : ℕ) (h : NodesReady t s (nodeAt s at) (state cs ci ps pi)) where
+module _ (t starts s : List ℕ) (at : ℕ) (cs : List ℕ) (ci : ℕ) (ps : List ℕ) (pi : ℕ) (h : NodesReady t starts s (nodeAt s at) (state cs ci ps pi)) where
   parts : NodeParts t s at (state cs ci ps pi)
-  parts = node-parts t s at (state cs ci ps pi) h
+  parts = node-parts t starts s at (state cs ci ps pi) h
 
   theirs-many : length (theirs (controlOf t s (node (u16 s at) (parts .props)) ∷ [])) ≡ length (parts .props)
   unfolding controlOf
@@ -102,9 +102,6 @@ module _ (t s : List ℕ) (at : ℕ) (cs : List ℕ) (ci : ℕ) (ps : List ℕ) 
 
   pub node-small : (ci ≤ longest) × (pi ≤ longest)
   node-small = omega (arith, parts .fit .few)
-
-  pub node-good : RunGood s (at + 2)
-  node-good = record { small = h .known .small; good = rw (parts .run) tt }
 
   module _ (kind : ℕ) (ke : kind ≡ u16 s at) (body : Found) (be : Finds t 2 kind body) where
     pub node-run-ready : RunReady t body s (at + 2) ps pi

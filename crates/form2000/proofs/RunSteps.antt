@@ -2,12 +2,13 @@
 use Prim.Native.Nat.{ℕ, _+_, _*_, _≤_, _<_}
 use native.Mathlib.Omega.{arith}
 use mathlib.Core.Path.{_≡_, refl, sym, ap, _∙_}
-use mathlib.Core.Bool.{true, false}
+use mathlib.Core.Bool.{Bool, true, false, cond}
+use mathlib.Core.Logic.{_⊎_, inl, inr}
 use mathlib.Core.List.{List, [], _∷_, map}
 use mathlib.Core.Option.{Option, none, some}
-use lib.Dec.{leb}
+use lib.Dec.{leb, eqb}
 use lib.ListN.{length}
-use borrow.Author.Tests.{eq-eqb, ne-eqb}
+use borrow.Author.Tests.{eq-eqb, ne-eqb, eqb-true, eqb-false}
 use Rattle.rules.specs.Lists.{_>>=_, find}
 use Rattle.rules.specs.Bytes.{byte}
 use Rattle.rules.specs.Rows.{propertyWidth}
@@ -16,14 +17,15 @@ use Rattle.rules.specs.Reading.{propertyRow}
 use Rattle.rules.specs.declared.Name.{Name}
 use Rattle.rules.specs.declared.Property.{Property}
 use Rattle.rules.proofs.ListLaws.{Every, every-if, every-when}
-use Rattle.rules.proofs.Access2000Laws.{after, past-end, run-step}
+use Rattle.rules.proofs.Access2000Laws.{after, run-step}
 use Rattle.rows.specs.Put.{put}
 use Rattle.rows.specs.Acts.{Held}
 use Rattle.rows.proofs.PutLaws.{put-length}
 use Rattle.rows.proofs.WritingLaws.{properties-none, properties-more}
 use Rattle.count2000.specs.Told as told
 use Rattle.count2000.specs.declared.Spot.{Spot}
-use Rattle.form2000.specs.Acts.{prop, ran, runAct, RunFits, nameAt, nameIn}
+use Rattle.form2000.specs.declared.Naming.{Naming}
+use Rattle.form2000.specs.Acts.{prop, ran, runAct, RunFits, nameAt, nameIn, nextName}
 
 property-id : (s : List ℕ) (p : ℕ) → Every (λ q. q .id ≡ byte s p) (propertyAt s p)
 unfolding propertyAt
@@ -158,34 +160,34 @@ module _ (s : List ℕ) (w at p : ℕ) (known : Unnamed s w at p) where
             is = sym (first-not s w (prop (byte s p) st sz) (runAt s (st + sz)) e) ∙ ap (nameIn s w) (sym m) ∙ known .is;
           }
 
--- while a place of the stream is left nothing was found; then what was found is the name
-pub record Named (s : List ℕ) (w at : ℕ) (found : Name) (p : ℕ) : Type 0 where
-  pub ahead : p < length s → Unnamed s w at p × (found ≡ Name.Numbered)
-  pub over : length s ≤ p → found ≡ nameIn s w (runAt s at)
+-- nothing was found yet, or what was found is the name
+abbrev pub Named : List ℕ → ℕ → ℕ → Naming → ℕ → Type 0
+Named s w at x p =
+    (Unnamed s w at p × (x .name ≡ Name.Numbered) × (x .wanted ≡ w)) ⊎ ((x .name ≡ nameIn s w (runAt s at)) × (x .wanted ≡ 0xFF))
 
-named-at : (s : List ℕ) (w at p : ℕ) → Unnamed s w at p → (found : Name) → found ≡ Name.Numbered → Named s w at found p
-named-at s w at p u found e = record { ahead = λ _. (u, e); over = λ h. e ∙ unnamed-stop s w at p u (past-end s p h) }
+held-good : {A : Type 0} (P : A → Type 0) (o : Option A) → Held P o → Held (λ _. Unit {0}) o
+held-good P none h = h
+held-good P (some x) h = tt
 
-pub named-start : (s : List ℕ) (w at : ℕ) → Held (λ _. Unit {0}) (runAt s at) → Named s w at Name.Numbered at
-named-start s w at h = named-at s w at at (unnamed-start s w at h) Name.Numbered refl
+pub named-start : (s : List ℕ) (w at : ℕ) (P : List Prop × ℕ → Type 0) → Held P (runAt s at) → Named s w at (record { name = Name.Numbered; wanted = w }) at
+named-start s w at P h = inl (unnamed-start s w at (held-good P (runAt s at) h), refl, refl)
 
-module _ (s : List ℕ) (w at : ℕ) (found : Name) (p : ℕ) (known : Named s w at found p) (h : p < length s) where
-  unnamed : Unnamed s w at p
-  unnamed = known .ahead h .0
+pub named-stop : (s : List ℕ) (w at : ℕ) (x : Naming) (p : ℕ) → Named s w at x p → goesOn s p ≡ false → x .name ≡ nameIn s w (runAt s at)
+named-stop s w at x p (inl u) t = u .1 ∙ unnamed-stop s w at p (u .0) t
+named-stop s w at x p (inr e) t = e .0
 
-  pub named-stop : goesOn s p ≡ false → found ≡ nameIn s w (runAt s at)
-  named-stop t = known .ahead h .1 ∙ unnamed-stop s w at p unnamed t
+module _ (s : List ℕ) (w at : ℕ) (p : ℕ) (r : Spot) (goes : goesOn s p ≡ true) (re : r ≡ told.spot (propertyAt s p)) (st sz : ℕ) (k : r ≡ Spot.At st sz) (low : byte s p < 0xFD) where
+  same-named : (x : Naming) → Named s w at x p → (byte s p ≡ x .wanted → ⊥) → Named s w at x (st + sz)
+  same-named x (inl u) n = inl (unnamed-more s w at p (u .0) r goes re st sz k (λ e. n (e ∙ sym (u .2))), u .1, u .2)
+  same-named x (inr e) n = inr e
 
-  module _ (r : Spot) (goes : goesOn s p ≡ true) (re : r ≡ told.spot (propertyAt s p)) where
-    pub named-bad : r ≡ Spot.Bad → ⊥
-    named-bad k = unnamed-bad s w at p unnamed r goes re k
+  now-named : (x : Naming) → Named s w at x p → byte s p ≡ x .wanted → nameAt s st sz ≡ nameIn s w (runAt s at)
+  now-named x (inl u) e = unnamed-found s w at p (u .0) r goes re st sz k (nameAt s st sz) (e ∙ u .2) refl
+  now-named x (inr h) e = absurd (omega (arith, low, e, h .1))
 
-    module _ (st sz : ℕ) (k : r ≡ Spot.At st sz) where
-      pub named-found : (x : Name) (p′ : ℕ) → byte s p ≡ w → x ≡ nameAt s st sz → length s ≤ p′ → Named s w at x p′
-      named-found x p′ e xe l = record {
-        ahead = λ k′. absurd (omega (arith, l, k′));
-        over = λ _. unnamed-found s w at p unnamed r goes re st sz k x e xe;
-      }
-
-      pub named-more : (byte s p ≡ w → ⊥) → Named s w at found (st + sz)
-      named-more e = named-at s w at (st + sz) (unnamed-more s w at p unnamed r goes re st sz k e) found (known .ahead h .1)
+  pub named-more : (x x′ : Naming) → Named s w at x p → x′ ≡ nextName s (byte s p) st sz x → Named s w at x′ (st + sz)
+  named-more x x′ h e = rw e (go (eqb (byte s p) (x .wanted)) refl)
+    where
+      go : (b : Bool) → eqb (byte s p) (x .wanted) ≡ b → Named s w at (cond b (record { name = nameAt s st sz; wanted = 0xFF }) x) (st + sz)
+      go true q = inr (now-named x h (eqb-true _ _ q), refl)
+      go false q = same-named x h (eqb-false _ _ q)

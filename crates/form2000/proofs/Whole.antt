@@ -26,7 +26,7 @@ use Rattle.rows.specs.Acts.{topNodes, Held, Stood, stood}
 use Rattle.rows.proofs.LevelLaws.{EntriesGrow, fewer}
 use Rattle.rows.proofs.CountingLaws as counting
 use Rattle.rows.proofs.WritingLaws.{properties-length, reading-written}
-use Rattle.codetable.specs.Look.{Finds, bodyRows}
+use Rattle.codetable.specs.Look.{Placed, Finds, bodyRows}
 use Rattle.codetable.specs.declared.Found.{Found}
 use Rattle.count2000.specs.Told as told
 use Rattle.count2000.specs.declared.Opens.{Opens}
@@ -153,14 +153,14 @@ module _ (t s controls rows : List ℕ) (h : StreamReady t s controls rows) wher
               let c : next ≡ parts .first = ap (λ v. v .1) w in
               (λ i. entriesAt levels s (b i) (c i)) ∙ parts .list
 
-          pub top-ready : NodesReady t s (topNodes (entriesAt levels s n next)) (state controls 0 rows′ row)
+          pub top-ready : (starts : List ℕ) → Placed t starts → NodesReady t starts s (topNodes (entriesAt levels s n next)) (state controls 0 rows′ row)
           unfolding read2000
-          top-ready =
+          top-ready starts placed =
               let l : length rows′ ≡ length rows = ap length own-rows ∙ properties-length (read2000 t s (is .tree) .own) rows 0 in
               let m = theirs-are t s (is .tree) in
               let c = controls-are t s (is .tree) in
               record {
-                known = record { formed = h .formed; small = h .small };
+                known = record { formed = h .formed; placed = placed; small = h .small };
                 fits = rw list-is (record {
                   room = record { controls = omega (arith, is .fits .0); properties = omega (arith, is .fits .1, l, own-run .row-is, properties-are t s (is .tree), m) };
                   few = omega (arith, few t s (is .tree) (is .reads), h .small, own-run .row-is, m, c);

@@ -23,9 +23,10 @@ use Rattle.rules.specs.declared.Name.the-variants.{Text, Numbered}
 use Rattle.rules.specs.declared.Property.{Property}
 use Rattle.rows.specs.Writing.{State, writeProperties}
 use Rattle.rows.specs.Acts.{Nodes, entryNodes, listNodes, keptNodes, Held, Stood, actBy, Ready}
-use Rattle.codetable.specs.Look.{Sorted, bodyRows}
+use Rattle.codetable.specs.Look.{Placed, Sorted, bodyRows}
 use Rattle.codetable.specs.declared.Found.{Found}
 use Rattle.form2000.specs.declared.Pass.{Pass}
+use Rattle.form2000.specs.declared.Naming.{Naming}
 
 abbrev pub answer : ℕ → ℕ → ℕ → ℕ → Answer
 answer number first second third = record { number = number; first = first; second = second; third = third }
@@ -73,9 +74,14 @@ abbrev pub nameIn : List ℕ → ℕ → Option (List Prop × ℕ) → Name
 nameIn s id none = Numbered
 nameIn s id (some x) = nameBy s (find (λ q. eqb (q .id) id) (x .0))
 
-pub record RunGood (s : List ℕ) (at : ℕ) : Type 0 where
+-- a value within the stream whose mark is 6 only where it is UTF-16
+pub record NameReady (s : List ℕ) (mark start size : ℕ) : Type 0 where
   pub small : length s ≤ longest
-  pub good : Held (λ _. Unit {0}) (runAt s at)
+  pub inside : start + size ≤ length s
+  pub text : mark ≡ 6 → isUtf16 (part s start size) ≡ true
+
+abbrev pub nextName : List ℕ → ℕ → ℕ → ℕ → Naming → Naming
+nextName s id start size n = cond (eqb id (n .wanted)) (record { name = nameAt s start size; wanted = 0xFF }) n
 
 -- ---- entries and lists
 -- an entry without its list; and its list, or none, from the place behind its run on
@@ -94,13 +100,14 @@ belowAt s below q = headAt s q >>= belowBy below
 abbrev pub act : List ℕ → List ℕ → Nodes Prop → State → Option Stood
 act t s o st = actBy (controlOf t s) o st
 
--- what is known of the table and the stream beforehand
-pub record Given (t s : List ℕ) : Type 0 where
+-- what is known of the table, the starts of its rows and the stream beforehand
+pub record Given (t starts s : List ℕ) : Type 0 where
   pub formed : wellFormed t ≡ true
+  pub placed : Placed t starts
   pub small : length s ≤ longest
 
-abbrev pub NodesReady : List ℕ → List ℕ → Nodes Prop → State → Type 0
-NodesReady t s o st = Ready (Given t s) (controlOf t s) o st
+abbrev pub NodesReady : List ℕ → List ℕ → List ℕ → Nodes Prop → State → Type 0
+NodesReady t starts s o st = Ready (Given t starts s) (controlOf t s) o st
 
 -- ---- the top list
 pub record Skips (s : List ℕ) (at : ℕ) (r : Pass) : Type 0 where

@@ -3,9 +3,11 @@ use codetable::Found;
 use codetable::Row;
 use codetable::find_row;
 use codetable::find_scope;
-use codetable::hint;
 use codetable::is_header;
 use codetable::note_scopes;
+use codetable::row_hint;
+use codetable::scope_hint;
+use codetable::scope_starts;
 use count2000::Counted;
 use count2000::Opens;
 use count2000::Run;
@@ -47,10 +49,17 @@ ghost use Rattle.rows.specs.Writing.{state};
 ghost use Rattle.rows.specs.Acts.{entryNodes, listNodes, topNodes, stood};
 ghost use Rattle.form2000.specs.Acts as acts;
 
-// The place behind a run, and the row behind its last.
+// The place behind a run, the row behind its last, and the name that it holds.
 struct Rows {
     at: usize,
     row: usize,
+    name: Name,
+}
+
+// The name of a run as far as it was read, and the id that the name has: none has it once a name was met.
+struct Naming {
+    name: Name,
+    wanted: u8,
 }
 
 // Whether an entry of the top list is passed over.
@@ -78,7 +87,7 @@ fn join(mark: u32, code: u32) -> u32
 // A property with this id and value, by the rows of its scope.
 fn property(
     table: &[u8],
-    hints: &[u8; 4096],
+    hints: &[u8; 4352],
     body: Found,
     s: &[u8],
     id: u8,
@@ -89,7 +98,7 @@ fn property(
     ensures { λ r. ⌜ r ≡ acts.shownIn (bodyRows (now (table .entry)) body) (now (s .entry)) (acts.prop id start size) ⌝ }
 {
     let bytes = part(s, start, size);
-    match find_row(table, body, id, hint(hints, body, id)) {
+    match find_row(table, body, id, row_hint(hints, body, id)) {
         Row::Tied { target, kind } => Property {
             id: target as u32,
             value: value_as(kind, id, bytes),
@@ -105,41 +114,17 @@ fn property(
     }
 }
 
-// Writes a row for each property of the run at `at`, from row `first` on.
-fn properties(
-    table: &[u8],
-    hints: &[u8; 4096],
-    body: Found,
-    s: &[u8],
-    at: usize,
-    rows: &mut [u32],
-    first: usize,
-) -> Rows
-    requires { ⌜ acts.RunReady (now table) body (now s) at (now rows) first ⌝ }
-    ensures { λ r. ⌜ some (acts.ran (now (rows .exit)) (r .row) (r .at)) ≡ acts.runAct (acts.shownIn (bodyRows (now (table .entry)) body) (now (s .entry))) (runAt (now (s .entry)) at) (now (rows .entry)) first ⌝ }
-{
-    let mut p = at;
-    let mut n = first;
-    while p < s.len() {
-        let id = s[p];
-        if 0xFD <= id {
-            return Rows { at: p, row: n };
-        }
-        let Spot::At { start, size } = value(s, p) else {
-            return Rows { at: p, row: n };
-        };
-        put_property(rows, n, property(table, hints, body, s, id, start, size));
-        p = start + size;
-        n = n + 1;
-    }
-    Rows { at: p, row: n }
-}
-
-// ---- controls
-fn name_at(s: &[u8], start: usize, size: usize) -> Name
-    requires { ⌜ (start + size ≤ length (now s)) × (length (now s) ≤ longest) ⌝ }
+// The name that a property holds whose value was read with this mark: 6 is told of UTF-16 alone.
+fn name_at(s: &[u8], mark: u32, start: usize, size: usize) -> Name
+    requires { ⌜ acts.NameReady (now s) mark start size ⌝ }
     ensures { λ r. ⌜ r ≡ acts.nameAt (now (s .entry)) start size ⌝ }
 {
+    if mark == 6 {
+        return Name::Text {
+            start: start as u32,
+            size: size as u32,
+        };
+    }
     if is_utf16(part(s, start, size)) {
         Name::Text {
             start: start as u32,
@@ -150,33 +135,66 @@ fn name_at(s: &[u8], start: usize, size: usize) -> Name
     }
 }
 
-// The name that the first property with the id `wanted` holds, in the run at `at`.
-fn name(s: &[u8], at: usize, wanted: u8) -> Name
-    requires { ⌜ acts.RunGood (now s) at ⌝ }
-    ensures { λ r. ⌜ r ≡ acts.nameIn (now (s .entry)) wanted (runAt (now (s .entry)) at) ⌝ }
+// A property more of the run: the first with the wanted id has the name.
+fn next_name(so_far: Naming, s: &[u8], id: u8, mark: u32, start: usize, size: usize) -> Naming
+    requires { ⌜ acts.NameReady (now s) mark start size ⌝ }
+    ensures { λ r. ⌜ r ≡ acts.nextName (now (s .entry)) id start size «so_far» ⌝ }
 {
-    let end = s.len();
-    let mut found = Name::Numbered;
-    let mut p = at;
-    while p < end {
-        let id = s[p];
-        if 0xFD <= id {
-            return found;
-        }
-        let Spot::At { start, size } = value(s, p) else {
-            return found;
+    if id == so_far.wanted {
+        return Naming {
+            name: name_at(s, mark, start, size),
+            wanted: 0xFF,
         };
-        let next = start + size;
-        if id == wanted {
-            found = name_at(s, start, size);
-            p = end;
-        } else {
-            p = next;
-        }
     }
-    found
+    so_far
 }
 
+fn run_rows(at: usize, row: usize, naming: Naming) -> Rows
+    ensures { λ r. ⌜ (r .at ≡ at) × (r .row ≡ row) × (r .name ≡ naming .name) ⌝ }
+{
+    let name = naming.name;
+    Rows { at, row, name }
+}
+
+// Writes a row for each property of the run at `at`, from row `first` on; the name is that of the first property with the id `wanted`.
+fn properties(
+    table: &[u8],
+    hints: &[u8; 4352],
+    body: Found,
+    s: &[u8],
+    at: usize,
+    rows: &mut [u32],
+    first: usize,
+    wanted: u8,
+) -> Rows
+    requires { ⌜ acts.RunReady (now table) body (now s) at (now rows) first ⌝ }
+    ensures { λ r. ⌜ (some (acts.ran (now (rows .exit)) (r .row) (r .at)) ≡ acts.runAct (acts.shownIn (bodyRows (now (table .entry)) body) (now (s .entry))) (runAt (now (s .entry)) at) (now (rows .entry)) first) × (r .name ≡ acts.nameIn (now (s .entry)) wanted (runAt (now (s .entry)) at)) ⌝ }
+{
+    let mut p = at;
+    let mut n = first;
+    let mut naming = Naming {
+        name: Name::Numbered,
+        wanted,
+    };
+    while p < s.len() {
+        let id = s[p];
+        if 0xFD <= id {
+            return run_rows(p, n, naming);
+        }
+        let Spot::At { start, size } = value(s, p) else {
+            return run_rows(p, n, naming);
+        };
+        let shown = property(table, hints, body, s, id, start, size);
+        let v = shown.value;
+        naming = next_name(naming, s, id, v.mark, start, size);
+        put_property(rows, n, shown);
+        p = start + size;
+        n = n + 1;
+    }
+    run_rows(p, n, naming)
+}
+
+// ---- controls
 fn name_id(kind: u16) -> u8
     ensures { λ r. ⌜ r ≡ nameId kind ⌝ }
 {
@@ -211,7 +229,8 @@ fn type_code(table: &[u8], report: bool, kind: u16) -> u32
 // Writes the entry at `at` without its list: its property rows, and its control row.
 fn put_node(
     table: &[u8],
-    hints: &[u8; 4096],
+    hints: &[u8; 4352],
+    starts: &[u32; 64],
     s: &[u8],
     at: usize,
     controls: &mut [u32],
@@ -219,15 +238,15 @@ fn put_node(
     rows: &mut [u32],
     p: usize,
 ) -> Next
-    requires { ⌜ acts.NodesReady (now table) (now s) (acts.nodeAt (now s) at) (state (now controls) c (now rows) p) ⌝ }
+    requires { ⌜ acts.NodesReady (now table) (now starts) (now s) (acts.nodeAt (now s) at) (state (now controls) c (now rows) p) ⌝ }
     ensures { λ r. ⌜ some (stood (now (controls .exit)) (r .control) (now (rows .exit)) (r .property) (r .at)) ≡ acts.act (now (table .entry)) (now (s .entry)) (acts.nodeAt (now (s .entry)) at) (state (now (controls .entry)) c (now (rows .entry)) p) ⌝ }
 {
     let kind = u16_at(s, at);
     let run = at + 2;
-    let body = find_scope(table, 2, kind);
-    let own = properties(table, hints, body, s, run, rows, p);
+    let body = find_scope(table, starts, 2, kind, scope_hint(hints, kind));
+    let own = properties(table, hints, body, s, run, rows, p, name_id(kind));
     let next = own.row;
-    let named = name(s, run, name_id(kind));
+    let named = own.name;
     let code = type_code(table, is_report(s), kind);
     let row = control_row(code, named, c as u32, p as u32, (next - p) as u32);
     let below = c + 1;
@@ -242,7 +261,8 @@ fn put_node(
 // Writes the entry at `at` and all below it; `left` levels are left below it.
 fn put_entry(
     table: &[u8],
-    hints: &[u8; 4096],
+    hints: &[u8; 4352],
+    starts: &[u32; 64],
     s: &[u8],
     at: usize,
     left: usize,
@@ -251,10 +271,10 @@ fn put_entry(
     rows: &mut [u32],
     p: usize,
 ) -> Next
-    requires { ⌜ acts.NodesReady (now table) (now s) (entryNodes (entryAt (now s) (entriesAt left (now s)) at)) (state (now controls) c (now rows) p) ⌝ }
+    requires { ⌜ acts.NodesReady (now table) (now starts) (now s) (entryNodes (entryAt (now s) (entriesAt left (now s)) at)) (state (now controls) c (now rows) p) ⌝ }
     ensures { λ r. ⌜ some (stood (now (controls .exit)) (r .control) (now (rows .exit)) (r .property) (r .at)) ≡ acts.act (now (table .entry)) (now (s .entry)) (entryNodes (entryAt (now (s .entry)) (entriesAt left (now (s .entry))) at)) (state (now (controls .entry)) c (now (rows .entry)) p) ⌝ }
 {
-    let node = put_node(table, hints, s, at, controls, c, rows, p);
+    let node = put_node(table, hints, starts, s, at, controls, c, rows, p);
     let behind = node.at;
     let i = node.control;
     let j = node.property;
@@ -268,6 +288,7 @@ fn put_entry(
         Opens::Listed { count, next } => put_list(
             table,
             hints,
+            starts,
             s,
             next,
             count,
@@ -283,7 +304,8 @@ fn put_entry(
 // Writes `n` entries from `at` on and all below them, with `left` levels left.
 fn put_list(
     table: &[u8],
-    hints: &[u8; 4096],
+    hints: &[u8; 4352],
+    starts: &[u32; 64],
     s: &[u8],
     at: usize,
     n: usize,
@@ -293,7 +315,7 @@ fn put_list(
     rows: &mut [u32],
     p: usize,
 ) -> Next
-    requires { ⌜ acts.NodesReady (now table) (now s) (listNodes (entriesAt left (now s) n at)) (state (now controls) c (now rows) p) ⌝ }
+    requires { ⌜ acts.NodesReady (now table) (now starts) (now s) (listNodes (entriesAt left (now s) n at)) (state (now controls) c (now rows) p) ⌝ }
     ensures { λ r. ⌜ some (stood (now (controls .exit)) (r .control) (now (rows .exit)) (r .property) (r .at)) ≡ acts.act (now (table .entry)) (now (s .entry)) (listNodes (entriesAt left (now (s .entry)) n at)) (state (now (controls .entry)) c (now (rows .entry)) p) ⌝ }
 {
     let mut pos = at;
@@ -301,7 +323,7 @@ fn put_list(
     let mut i = c;
     let mut j = p;
     while 0 < k {
-        let e = put_entry(table, hints, s, pos, left - 1, controls, i, rows, j);
+        let e = put_entry(table, hints, starts, s, pos, left - 1, controls, i, rows, j);
         pos = e.at;
         i = e.control;
         j = e.property;
@@ -338,7 +360,8 @@ fn skip(s: &[u8], at: usize) -> Pass
 // Writes what is reported of the top list: `n` entries from `at` on.
 fn put_top(
     table: &[u8],
-    hints: &[u8; 4096],
+    hints: &[u8; 4352],
+    starts: &[u32; 64],
     s: &[u8],
     at: usize,
     n: usize,
@@ -347,7 +370,7 @@ fn put_top(
     rows: &mut [u32],
     p: usize,
 ) -> Next
-    requires { ⌜ acts.NodesReady (now table) (now s) (topNodes (entriesAt levels (now s) n at)) (state (now controls) c (now rows) p) ⌝ }
+    requires { ⌜ acts.NodesReady (now table) (now starts) (now s) (topNodes (entriesAt levels (now s) n at)) (state (now controls) c (now rows) p) ⌝ }
     ensures { λ r. ⌜ some (stood (now (controls .exit)) (r .control) (now (rows .exit)) (r .property) (r .at)) ≡ acts.act (now (table .entry)) (now (s .entry)) (topNodes (entriesAt levels (now (s .entry)) n at)) (state (now (controls .entry)) c (now (rows .entry)) p) ⌝ }
 {
     let mut pos = at;
@@ -361,7 +384,7 @@ fn put_top(
                 k = k - 1;
             }
             Pass::Not => {
-                let e = put_entry(table, hints, s, pos, 255, controls, i, rows, j);
+                let e = put_entry(table, hints, starts, s, pos, 255, controls, i, rows, j);
                 pos = e.at;
                 i = e.control;
                 j = e.property;
@@ -388,15 +411,27 @@ fn write(table: &[u8], s: &[u8], controls: &mut [u32], rows: &mut [u32])
     requires { ⌜ acts.StreamReady (now table) (now s) (now controls) (now rows) ⌝ }
     ensures { λ _. ⌜ acts.StreamDone (now (table .entry)) (now (s .entry)) (now (controls .entry)) (now (rows .entry)) (now (controls .exit)) (now (rows .exit)) ⌝ }
 {
-    let mut hints = [0; 4096];
+    let mut hints = [0; 4352];
     note_scopes(table, &mut hints);
-    let body = find_scope(table, object_kind(s), 0);
-    let own = properties(table, &hints, body, s, 10, rows, 0);
+    let starts = scope_starts(table);
+    let body = find_scope(table, &starts, object_kind(s), 0, 0);
+    let own = properties(table, &hints, body, s, 10, rows, 0, 0xFF);
     let behind = own.at;
     let first = own.row;
     match head(s, behind) {
         Opens::Listed { count, next } => {
-            put_top(table, &hints, s, next, count, controls, 0, rows, first);
+            put_top(
+                table,
+                &hints,
+                &starts,
+                s,
+                next,
+                count,
+                controls,
+                0,
+                rows,
+                first,
+            );
         }
         Opens::Plain { next: _ } => {}
         Opens::Bad => {}

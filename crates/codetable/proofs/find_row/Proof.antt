@@ -1,21 +1,32 @@
+use native.Mathlib.Omega.{arith}
 use borrow.Author.Needs.{needs}
+use mathlib.Core.Path.{sym, _∙_}
 use Rattle.rules.specs.Lists.{find}
 use Rattle.codetable.specs.Look.{bodyRows, asRow}
 use Rattle.codetable.proofs.find_row.Statement.{statement}
 use Rattle.codetable.proofs.find_row.Tie as tie
 
 returns : tie.Need-returns
-unfolding bodyRows
-returns c = rw (c .before .before .body .given .1) (c .seek-row .ensures)
+unfolding bodyRows find asRow
+returns c = λ s. rw (c .enum-told .given .1)
 
 returns-2 : tie.Need-returns-2
-unfolding bodyRows find asRow
-returns-2 c = λ s. rw (c .enum-told .given .1)
+unfolding bodyRows
+returns-2 c =
+    let told = c .before .target .given .1 in
+    rw (c .before .before .before .before .before .body .given .1) (λ s. sym told ∙ c .before .before .before .look .ensures _ _ told s)
+
+returns-3 : tie.Need-returns-3
+unfolding bodyRows
+returns-3 c = rw (c .before .before .before .before .before .before .body .given .1) (c .seek-row .ensures)
 
 pub find-row-spec : {M : Type 1} → statement M
 find-row-spec =
     tie.close
     (tie.spec
-    (λ c. search needs) (λ c. search needs) (λ c. search needs) (λ c κs. search needs) (λ c. search needs)
+    (λ c. search needs) (λ c. search needs)
     returns
-    returns-2)
+    (λ c. search needs) (λ c. search needs) (λ c κs. search needs)
+    (λ c. search needs) (λ c. search needs) (λ c κs. search needs) (λ c κs. search needs)
+    returns-2
+    returns-3)

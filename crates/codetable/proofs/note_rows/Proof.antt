@@ -20,6 +20,6 @@ note-rows-spec =
     (λ c. search needs)
     (λ c κs. search needs)
     (λ c κs. (omega arith, c .byte .ensures .small))
-    (λ c. omega (arith, c .slot .ensures))
+    (λ c. omega (arith, c .row-slot .ensures))
     (λ c. omega arith) (λ c. omega arith) (λ c. omega arith) (λ c. omega arith) (λ c. omega arith)
     (λ c. search needs))

@@ -5,10 +5,10 @@ use Rattle.codetable.proofs.note_scopes.Statement.{statement}
 use Rattle.codetable.proofs.note_scopes.Tie as tie
 
 abbrev Inv-loop : tie.InvT-loop
-Inv-loop table scopes hints₀ at₀ body₀ left₀ hints at body left = (at + 5 * left < 2 ^ 32) × (body + 262144 * left < 2 ^ 60)
+Inv-loop table scopes hints₀ at₀ body₀ left₀ scope₀ hints at body left scope = (at + 5 * left < 2 ^ 32) × (body + 262144 * left < 2 ^ 60)
 
 abbrev μ-loop : tie.MeasureT-loop
-μ-loop table scopes hints₀ at₀ body₀ left₀ hints at body left = left
+μ-loop table scopes hints₀ at₀ body₀ left₀ scope₀ hints at body left scope = left
 
 pub note-scopes-spec : {M : Type 1} → statement M
 note-scopes-spec =
@@ -20,9 +20,12 @@ note-scopes-spec =
     (λ c. omega (arith, c .byte .ensures .small)) (λ c. omega (arith, c .byte .ensures .small))
     (λ c. omega (arith, c .before .word .ensures .small)) (λ c. omega (arith, c .byte .ensures .small, c .before .word .ensures .small))
     (λ c. omega (arith, c .byte .ensures .small, c .before .word .ensures .small))
+    (λ c. search needs)
+    (λ c. omega arith) (λ c κs. search needs) (λ c κs. search needs)
+    (λ c. omega (arith, c .scope-slot .ensures))
     (λ c. omega arith) (λ c κs. omega arith)
     (λ c κs. omega (arith, c .before .word2 .ensures .small))
-    (λ c. omega arith)
+    (λ c. omega arith) (λ c. omega arith)
     (λ c. omega (arith, c .before .before .word2 .ensures .small)) (λ c. omega (arith, c .before .before .word2 .ensures .small))
     (λ c. omega arith) (λ c. omega arith)
     (λ c. omega (arith, c .before .before .word2 .ensures .small))

@@ -17,7 +17,7 @@ abbrev μ-loop : tie.MeasureT-loop
 μ-loop table start n wanted near at₀ rows₀ half₀ at rows half = rows
 
 -- the loop's head, from where the last thing is read
-abbrev head : tie.After-byte Inv-loop μ-loop → tie.At-loop Inv-loop μ-loop
+abbrev head : tie.After-read-row Inv-loop μ-loop → tie.At-loop Inv-loop μ-loop
 head c = c .before .before
 
 -- the row that is looked at is one of those left
@@ -25,18 +25,18 @@ inside : (c : tie.In-loop Inv-loop μ-loop) → c .before .loop .half < c .befor
 inside c = c .before .loop .inv .2 (omega arith)
 
 -- what a turn has read
-turn : (c : tie.After-byte Inv-loop μ-loop)
+turn : (c : tie.After-read-row Inv-loop μ-loop)
     → Turn (tieAt (now (head c .before .before .before .args .table))) idOf 4 (head c .before .before .before .args .start) (head c .before .before .before .args .n)
-    (head c .before .before .before .args .wanted) (head c .loop .at) (head c .loop .rows) (head c .loop .half) (head c .loop .at + 4 * head c .loop .half) (c .byte .result)
-turn c = record { so-far = head c .loop .inv .0; fits = inside (c .before); middle = refl; reads = c .byte .ensures .is }
+    (head c .before .before .before .args .wanted) (head c .loop .at) (head c .loop .rows) (head c .loop .half) (head c .loop .at + 4 * head c .loop .half) (c .read-row .result .id)
+turn c = record { so-far = head c .loop .inv .0; fits = inside (c .before); middle = refl; reads = c .read-row .ensures .id .is }
 
 loop-holds : tie.Need-loop-holds Inv-loop μ-loop
 loop-holds c = (begin _ _ 4 _ _ _, omega arith, c .first-look .ensures)
 
 returns : tie.Need-returns Inv-loop μ-loop
 returns c =
-    row-hit (now (c .before .before .before .before .before .before .before .before .args .table)) (turn (c .before .before .before)) _ _
-    (c .before .before .if1 .taken) (c .before .word .ensures .is) (c .byte2 .ensures .is)
+    let r = c .before .before .before .read-row .ensures in
+    row-hit (now (c .before .before .before .before .before .before .before .before .args .table)) (turn (c .before .before .before)) _ _ (c .before .before .if1 .taken) (r .target .is) (r .kind .is)
 
 loop-again : tie.Need-loop-again Inv-loop μ-loop
 loop-again c = (go-up (turn (c .before .before)) (omega arith), omega (arith, inside (c .before .before .before)), λ h. omega arith)
@@ -55,11 +55,8 @@ seek-row-spec =
     μ-loop
     (λ c κs. search needs)
     loop-holds
-    (λ c. omega (arith, inside c)) (λ c. omega (arith, inside c)) (λ c κs. search needs)
-    (λ c. omega (arith, inside (c .before .before))) (λ c κs. omega (arith, inside (c .before .before)))
-    (λ c. omega arith)
-    (λ c. omega (arith, inside (c .before .before .before))) (λ c κs. search needs)
-    (λ c. omega arith)
+    (λ c. omega (arith, inside c)) (λ c. omega (arith, inside c)) (λ c κs. omega (arith, inside c))
+    (λ c. search needs) (λ c. search needs)
     returns
     (λ c. omega (arith, inside (c .before .before .before))) (λ c. omega (arith, inside (c .before .before .before))) (λ c. omega (arith, inside (c .before .before .before)))
     (λ c. omega (arith, inside (c .before .before .before)))

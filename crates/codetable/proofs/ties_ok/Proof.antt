@@ -17,45 +17,40 @@ abbrev μ-loop : tie.MeasureT-loop
 μ-loop table start n at₀ left₀ least₀ at left least = left
 
 -- the loop's head, from where the last thing is read
-abbrev head : tie.After-byte2 Inv-loop μ-loop → tie.At-loop Inv-loop μ-loop
-head c = c .before .before .before .before
+abbrev head : tie.After-read-row Inv-loop μ-loop → tie.At-loop Inv-loop μ-loop
+head c = c .before .before
 
 -- the row that a turn has read
-read : (c : tie.After-byte2 Inv-loop μ-loop)
-    → TieRead (now (head c .before .before .args .table)) (head c .loop .at) (head c .loop .left) (c .before .before .byte .result) (c .before .word .result) (c .byte2 .result)
-read c = record {
-  more = omega arith;
-  id-is = c .before .before .byte .ensures .is;
-  target-is = c .before .word .ensures .is;
-  kind-is = c .byte2 .ensures .is;
-}
+read : (c : tie.After-read-row Inv-loop μ-loop)
+    → TieRead (now (head c .before .before .args .table)) (head c .loop .at) (head c .loop .left) (c .read-row .result .id) (c .read-row .result .target) (c .read-row .result .kind)
+read c = record { more = omega arith; id-is = c .read-row .ensures .id .is; target-is = c .read-row .ensures .target .is; kind-is = c .read-row .ensures .kind .is }
 
 loop-holds : tie.Need-loop-holds Inv-loop μ-loop
 loop-holds c = (sym (ties-at-zero _), omega arith, omega arith)
 
 returns : tie.Need-returns Inv-loop μ-loop
 returns c =
-    let l = c .before .before .before .before .before .loop in
+    let l = c .before .before .before .loop in
     sym (l .inv .0 ∙ ties-low (read (c .before)) (l .least) (omega arith))
 
 returns-2 : tie.Need-returns-2 Inv-loop μ-loop
 returns-2 c =
-    let l = c .before .before .before .before .before .before .loop in
+    let l = c .before .before .before .before .loop in
     sym (l .inv .0 ∙ ties-id (read (c .before .before)) (l .least) (omega arith))
 
 returns-3 : tie.Need-returns-3 Inv-loop μ-loop
 returns-3 c =
-    let l = c .before .before .before .before .before .before .before .loop in
+    let l = c .before .before .before .before .before .loop in
     sym (l .inv .0 ∙ ties-target (read (c .before .before .before)) (l .least) (omega arith) (omega arith))
 
 returns-4 : tie.Need-returns-4 Inv-loop μ-loop
 returns-4 c =
-    let l = c .before .before .before .before .before .before .before .before .loop in
+    let l = c .before .before .before .before .before .before .loop in
     sym (l .inv .0 ∙ ties-kind (read (c .before .before .before .before)) (l .least) (omega arith) (omega arith) (omega arith))
 
 loop-again : tie.Need-loop-again Inv-loop μ-loop
 loop-again c =
-    let l = c .before .before .before .before .before .before .before .before .loop in
+    let l = c .before .before .before .before .before .before .loop in
     (l .inv .0 ∙ ties-step (read (c .before .before .before .before)) (l .least) (omega arith) (omega arith) (omega arith) (omega arith), omega arith, omega arith)
 
 returns-5 : tie.Need-returns-5 Inv-loop μ-loop
@@ -68,7 +63,7 @@ ties-ok-spec =
     Inv-loop
     μ-loop
     loop-holds
-    (λ c κs. search needs) (λ c. omega arith) (λ c κs. search needs) (λ c. omega arith) (λ c κs. search needs)
+    (λ c κs. omega arith)
     returns
     returns-2
     returns-3
