@@ -2,10 +2,14 @@
 use rules::Answer;
 ghost use mathlib.Core.Path.{_≡_};
 ghost use mathlib.Core.List.{[]};
-ghost use Prim.Native.Nat.{_+_};
-ghost use Rattle.rules.specs.Answer.{refusal};
-ghost use Rattle.rules.specs.Blob.{is2000, exit};
+ghost use mathlib.Core.Bool.{true};
+ghost use Prim.Native.Nat.{_+_, _≤_};
+ghost use lib.ListN.{length};
+ghost use Rattle.rules.specs.Answer.{refusal, longest};
+ghost use Rattle.rules.specs.CodeTable.{wellFormed};
+ghost use Rattle.rules.specs.Blob.{is2000, exitBy, exit};
 ghost use Rattle.rules.specs.NamePart.{namePart, partBytes};
+ghost use Rattle.form2000.specs.Acts as acts;
 ghost use Rattle.blob.specs.Exit.{exited, partOr, placeOr, partPlace};
 
 fn refused(number: u32) -> Answer
@@ -29,6 +33,14 @@ fn is_2000(table: &[u8], stream: &[u8]) -> bool
     stream[0] == codetable::layout(table)
 }
 
+// Reads a stream of the Access 2000 layout.
+fn read_2000(table: &[u8], stream: &[u8], controls: &mut [u32], properties: &mut [u32]) -> Answer
+    requires { ⌜ (wellFormed (now table) ≡ true) × (length (now stream) ≤ longest) ⌝ }
+    ensures { λ r. ⌜ exited r (now (controls .exit)) (now (properties .exit)) ≡ exitBy (acts.outcome (now (table .entry)) (now (stream .entry)) (now (controls .entry)) (now (properties .entry))) (now (controls .entry)) (now (properties .entry)) ⌝ }
+{
+    form2000::read(table, stream, controls, properties)
+}
+
 // Reads a Blob into rows of controls and of properties. A refusal leaves both slices as they were.
 pub fn read_blob(
     table: &[u8],
@@ -45,7 +57,7 @@ pub fn read_blob(
         return refused(8);
     }
     if is_2000(table, stream) {
-        return form2000::read(table, stream, controls, properties);
+        return read_2000(table, stream, controls, properties);
     }
     later::read(stream, controls, properties)
 }

@@ -24,8 +24,8 @@ returns-2 c = let a = c .before .before .before .before .before .before .before 
 is-2000-requires : tie.Need-is-2000-requires
 is-2000-requires c κs = search needs
 
-read-requires : tie.Need-read-requires
-read-requires c κs = (sym (c .before .before .before .before .before .well-formed .ensures) ∙ not-false _ (c .before .before .before .before .if2 .left), omega arith)
+read-2000-requires : tie.Need-read-2000-requires
+read-2000-requires c κs = (sym (c .before .before .before .before .before .well-formed .ensures) ∙ not-false _ (c .before .before .before .before .if2 .left), omega arith)
 
 same-length : tie.Need-same-length
 same-length c = search needs
@@ -36,11 +36,11 @@ same-length-2 c = search needs
 returns-3 : tie.Need-returns-3
 returns-3 c =
     let a = c .before .before .before .before .before .before .before .before .before .before .before .before .before .before .before .before .args in
-    c .before .before .before .before .read .ensures
+    c .before .before .before .before .read-2000 .ensures
     ∙ by-2000 (a .table .now) (a .stream .now) (a .controls .now) (a .properties .now) (omega arith) (sym (c .before .before .before .before .before .before .before .before .before .before .well-formed .ensures) ∙ not-false _ (c .before .before .before .before .before .before .before .before .before .if2 .left)) (sym (c .before .before .before .before .before .before .before .before .is-2000 .ensures) ∙ c .before .before .before .before .before .before .before .if3 .taken)
 
-read-requires-2 : tie.Need-read-requires-2
-read-requires-2 c κs = search needs
+read-requires : tie.Need-read-requires
+read-requires c κs = search needs
 
 same-length-3 : tie.Need-same-length-3
 same-length-3 c = search needs
@@ -51,7 +51,7 @@ same-length-4 c = search needs
 returns-4 : tie.Need-returns-4
 returns-4 c =
     let a = c .before .before .before .before .before .before .before .before .before .before .before .before .before .before .before .before .args in
-    by-later (a .table .now) (a .stream .now) (a .controls .now) (a .properties .now) (omega arith) (sym (c .before .before .before .before .before .before .before .before .before .before .well-formed .ensures) ∙ not-false _ (c .before .before .before .before .before .before .before .before .before .if2 .left)) (sym (c .before .before .before .before .before .before .before .before .is-2000 .ensures) ∙ c .before .before .before .before .before .before .before .if3 .left) _ _ _ (c .before .before .before .before .read2 .ensures)
+    by-later (a .table .now) (a .stream .now) (a .controls .now) (a .properties .now) (omega arith) (sym (c .before .before .before .before .before .before .before .before .before .before .well-formed .ensures) ∙ not-false _ (c .before .before .before .before .before .before .before .before .before .if2 .left)) (sym (c .before .before .before .before .before .before .before .before .is-2000 .ensures) ∙ c .before .before .before .before .before .before .before .if3 .left) _ _ _ (c .before .before .before .before .read .ensures)
 
 pub read-blob-spec : {M : Type 1} → statement M
 read-blob-spec =
@@ -63,11 +63,11 @@ read-blob-spec =
     refused-requires-2
     returns-2
     is-2000-requires
-    read-requires
+    read-2000-requires
     same-length
     same-length-2
     returns-3
-    read-requires-2
+    read-requires
     same-length-3
     same-length-4
     returns-4)
