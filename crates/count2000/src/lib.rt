@@ -85,19 +85,19 @@ pub fn half(s: &[u8], at: usize) -> Word
 fn value_size(id: u8) -> Size
     ensures { λ r. ⌜ r ≡ told.sizeOf id ⌝ }
 {
-    if id <= 0x2F {
-        return Size::Told(0);
-    }
-    if id <= 0x5F {
-        return Size::Told(1);
-    }
-    if id <= 0x7F {
-        return Size::Told(2);
-    }
-    if id <= 0xBC {
+    if 0x7F < id {
+        if 0xBC < id {
+            return Size::Stored;
+        }
         return Size::Told(4);
     }
-    Size::Stored
+    if 0x5F < id {
+        return Size::Told(2);
+    }
+    if 0x2F < id {
+        return Size::Told(1);
+    }
+    Size::Told(0)
 }
 
 // A length of one byte: FD and FE are numbers here, as any other below FF.
