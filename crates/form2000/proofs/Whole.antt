@@ -33,8 +33,10 @@ use Rattle.count2000.specs.declared.Opens.{Opens}
 use Rattle.count2000.specs.declared.Counted.{Counted}
 use Rattle.count2000.proofs.Inverse.{opens-plain, opens-listed, opens-bad}
 use Rattle.count2000.proofs.Grows.{run-grows, head-grows, entries-grow}
-use Rattle.form2000.specs.Acts.{answer, shownIn, ran, runAct, RunReady, act, NodesReady, Roomy, StreamReady, StreamDone, exited, outcome}
-use Rattle.form2000.proofs.NodeLaws.{RunOf, run-written, shown-same}
+use Rattle.run2000.specs.Runs.{shownIn, ran, runAct, RunReady}
+use Rattle.tree2000.specs.Acts.{act, NodesReady}
+use Rattle.form2000.specs.Acts.{answer, Roomy, StreamReady, StreamDone, exited, outcome}
+use Rattle.run2000.proofs.Written.{RunOf, run-written, shown-same}
 
 -- ---- the parts of a stream
 pub record StreamParts (s : List ℕ) (x : List Prop × Entries Prop) : Type 0 where

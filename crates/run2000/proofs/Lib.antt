@@ -1,0 +1,4 @@
+-- What the proofs of several functions use.
+pub mod RunSteps
+pub mod Shows
+pub mod Written

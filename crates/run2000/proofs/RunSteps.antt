@@ -1,0 +1,193 @@
+-- A run, a property at a time: its rows, and the name that it holds.
+use Prim.Native.Nat.{ℕ, _+_, _*_, _≤_, _<_}
+use native.Mathlib.Omega.{arith}
+use mathlib.Core.Path.{_≡_, refl, sym, ap, _∙_}
+use mathlib.Core.Bool.{Bool, true, false, cond}
+use mathlib.Core.Logic.{_⊎_, inl, inr}
+use mathlib.Core.List.{List, [], _∷_, map}
+use mathlib.Core.Option.{Option, none, some}
+use lib.Dec.{leb, eqb}
+use lib.ListN.{length}
+use borrow.Author.Tests.{eq-eqb, ne-eqb, eqb-true, eqb-false}
+use Rattle.rules.specs.Lists.{_>>=_, find}
+use Rattle.rules.specs.Bytes.{byte}
+use Rattle.rules.specs.Rows.{propertyWidth}
+use Rattle.rules.specs.Access2000.{Prop, extentAt, propertyAt, goesOn, runAt}
+use Rattle.rules.specs.Reading.{propertyRow}
+use Rattle.rules.specs.declared.Name.{Name}
+use Rattle.rules.specs.declared.Property.{Property}
+use Rattle.rules.proofs.ListLaws.{Every, every-if, every-when}
+use Rattle.rules.proofs.Access2000Laws.{after, run-step}
+use Rattle.rows.specs.Put.{put}
+use Rattle.rows.specs.Acts.{Held}
+use Rattle.rows.proofs.PutLaws.{put-length}
+use Rattle.rows.proofs.WritingLaws.{properties-none, properties-more}
+use Rattle.count2000.specs.Told as told
+use Rattle.count2000.specs.declared.Spot.{Spot}
+use Rattle.run2000.specs.declared.Naming.{Naming}
+use Rattle.run2000.specs.Runs.{prop, ran, runAct, RunFits, nameAt, nameIn, nextName}
+
+property-id : (s : List ℕ) (p : ℕ) → Every (λ q. q .id ≡ byte s p) (propertyAt s p)
+unfolding propertyAt
+property-id s p =
+    every-when (λ q. q .id ≡ byte s p) (extentAt s (byte s p) (p + 1)) _ λ x _.
+    every-if (λ q. q .id ≡ byte s p) (leb (x .0 + x .1) (length s)) _ _ (λ _. refl) λ _. tt
+
+property-is : (s : List ℕ) (p : ℕ) (r : Spot) (st sz : ℕ) → r ≡ told.spot (propertyAt s p) → r ≡ Spot.At st sz → propertyAt s p ≡ some (prop (byte s p) st sz)
+property-is s p r st sz e k = go (propertyAt s p) (property-id s p) (sym e ∙ k)
+  where
+    go : (o : Option Prop) → Every (λ q. q .id ≡ byte s p) o → told.spot o ≡ Spot.At st sz → o ≡ some (prop (byte s p) st sz)
+    go none h e = cc
+    go (some q) h e =
+        let e₀ : q .start ≡ st = cc in
+        let e₁ : q .size ≡ sz = cc in
+        λ i. some (prop (h i) (e₀ i) (e₁ i))
+
+property-bad : (o : Option Prop) (r : Spot) → r ≡ told.spot o → r ≡ Spot.Bad → o ≡ none
+property-bad none r e k = refl
+property-bad (some q) r e k = cc
+
+-- ---- what is left of a run
+abbrev pub Rest : Type 0
+Rest = Option (List Prop × ℕ)
+
+abbrev pub behind : Prop → Rest → Rest
+behind q o = o >>= λ x. some (q ∷ x .0, x .1)
+
+pub run-more : (s : List ℕ) (p : ℕ) (r : Spot) (st sz : ℕ) → goesOn s p ≡ true → r ≡ told.spot (propertyAt s p) → r ≡ Spot.At st sz
+    → runAt s p ≡ behind (prop (byte s p) st sz) (runAt s (st + sz))
+run-more s p r st sz t e k = (rw t at (run-step s p)) ∙ ap (λ o. o >>= after (runAt s)) (property-is s p r st sz e k)
+
+pub run-stop : (s : List ℕ) (p : ℕ) → goesOn s p ≡ false → runAt s p ≡ some ([], p)
+run-stop s p t = rw t at (run-step s p)
+
+pub run-bad : (s : List ℕ) (p : ℕ) (r : Spot) → goesOn s p ≡ true → r ≡ told.spot (propertyAt s p) → r ≡ Spot.Bad → runAt s p ≡ none
+run-bad s p r t e k = (rw t at (run-step s p)) ∙ ap (λ o. o >>= after (runAt s)) (property-bad (propertyAt s p) r e k)
+
+-- ---- rows: what is left to write from here is what there was to write
+pub record Left (f : Prop → Property) (s : List ℕ) (at : ℕ) (old : List ℕ) (first : ℕ) (new : List ℕ) (p n : ℕ) : Type 0 where
+  pub fits : Held (RunFits new n) (runAt s p)
+  pub is : runAct f (runAt s p) new n ≡ runAct f (runAt s at) old first
+  pub same : length new ≡ length old
+
+pub left-start : (f : Prop → Property) (s : List ℕ) (at : ℕ) (old : List ℕ) (first : ℕ) → Held (RunFits old first) (runAt s at) → Left f s at old first old at first
+left-start f s at old first h = record { fits = h; is = refl; same = refl }
+
+one-room : (q : Prop) (new : List ℕ) (n : ℕ) (o : Rest) → Held (RunFits new n) (behind q o) → n * propertyWidth + propertyWidth ≤ length new
+one-room q new n none h = absurd h
+one-room q new n (some x) h = omega (arith, h)
+
+fits-more : (q : Prop) (new new′ : List ℕ) (n : ℕ) (o : Rest) → length new′ ≡ length new → Held (RunFits new n) (behind q o) → Held (RunFits new′ (n + 1)) o
+fits-more q new new′ n none l h = h
+fits-more q new new′ n (some x) l h = omega (arith, h, l)
+
+act-more : (f : Prop → Property) (q : Prop) (new : List ℕ) (n : ℕ) (o : Rest) → runAct f o (put propertyWidth new n (propertyRow (f q) ∷ [])) (n + 1) ≡ runAct f (behind q o) new n
+act-more f q new n none = refl
+act-more f q new n (some x) =
+    let a = properties-more (f q) (map f (x .0)) new n in
+    let b : n + 1 + length (x .0) ≡ n + length (q ∷ x .0) = omega arith in
+    λ i. some (ran (sym a i) (b i) (x .1))
+
+module _ (f : Prop → Property) (s : List ℕ) (at : ℕ) (old : List ℕ) (first : ℕ) (new : List ℕ) (p n : ℕ) (known : Left f s at old first new p n) where
+  pub left-stop : goesOn s p ≡ false → some (ran new n p) ≡ runAct f (runAt s at) old first
+  left-stop t =
+      let a = properties-none new n in
+      let b : n ≡ n + 0 = omega arith in
+      let e : some (ran new n p) ≡ runAct f (some ([], p)) new n = λ i. some (ran (sym a i) (b i) p) in
+      e ∙ ap (λ o. runAct f o new n) (sym (run-stop s p t)) ∙ known .is
+
+  module _ (r : Spot) (goes : goesOn s p ≡ true) (re : r ≡ told.spot (propertyAt s p)) where
+    pub left-bad : r ≡ Spot.Bad → ⊥
+    left-bad k = rw (run-bad s p r goes re k) at (known .fits)
+
+    module _ (st sz : ℕ) (k : r ≡ Spot.At st sz) where
+      pub left-room : n * propertyWidth + propertyWidth ≤ length new
+      left-room = one-room (prop (byte s p) st sz) new n (runAt s (st + sz)) (rw (run-more s p r st sz goes re k) at (known .fits))
+
+      pub left-more : (q : Property) (new′ : List ℕ) → q ≡ f (prop (byte s p) st sz) → new′ ≡ put propertyWidth new n (propertyRow q ∷ []) → Left f s at old first new′ (st + sz) (n + 1)
+      left-more q new′ qe ne =
+          let m = run-more s p r st sz goes re k in
+          let e : new′ ≡ put propertyWidth new n (propertyRow (f (prop (byte s p) st sz)) ∷ []) = ne ∙ ap (λ x. put propertyWidth new n (propertyRow x ∷ [])) qe in
+          let l : length new′ ≡ length new = ap length ne ∙ put-length propertyWidth new n (propertyRow q ∷ []) in
+          record {
+            fits = fits-more (prop (byte s p) st sz) new new′ n (runAt s (st + sz)) l (rw m at (known .fits));
+            is = rw e (act-more f (prop (byte s p) st sz) new n (runAt s (st + sz)) ∙ ap (λ o. runAct f o new n) (sym m) ∙ known .is);
+            same = l ∙ known .same;
+          }
+
+-- ---- the name: the first with its id in what is left is the first there was
+pub record Unnamed (s : List ℕ) (w at p : ℕ) : Type 0 where
+  pub good : Held (λ _. Unit {0}) (runAt s p)
+  pub is : nameIn s w (runAt s p) ≡ nameIn s w (runAt s at)
+
+unnamed-start : (s : List ℕ) (w at : ℕ) → Held (λ _. Unit {0}) (runAt s at) → Unnamed s w at at
+unnamed-start s w at h = record { good = h; is = refl }
+
+first-is : (s : List ℕ) (w : ℕ) (q : Prop) (o : Rest) → q .id ≡ w → Held (λ _. Unit {0}) (behind q o) → nameIn s w (behind q o) ≡ nameAt s (q .start) (q .size)
+unfolding find
+first-is s w q none e h = absurd h
+first-is s w q (some x) e h = rw (eq-eqb (q .id) w e)
+
+first-not : (s : List ℕ) (w : ℕ) (q : Prop) (o : Rest) → (q .id ≡ w → ⊥) → nameIn s w (behind q o) ≡ nameIn s w o
+unfolding find
+first-not s w q none e = refl
+first-not s w q (some x) e = rw (ne-eqb (q .id) w e)
+
+good-more : (q : Prop) (o : Rest) → Held (λ _. Unit {0}) (behind q o) → Held (λ _. Unit {0}) o
+good-more q none h = h
+good-more q (some x) h = tt
+
+module _ (s : List ℕ) (w at p : ℕ) (known : Unnamed s w at p) where
+  unnamed-stop : goesOn s p ≡ false → Name.Numbered ≡ nameIn s w (runAt s at)
+  unfolding find
+  unnamed-stop t = ap (nameIn s w) (sym (run-stop s p t)) ∙ known .is
+
+  module _ (r : Spot) (goes : goesOn s p ≡ true) (re : r ≡ told.spot (propertyAt s p)) where
+    unnamed-bad : r ≡ Spot.Bad → ⊥
+    unnamed-bad k = rw (run-bad s p r goes re k) at (known .good)
+
+    module _ (st sz : ℕ) (k : r ≡ Spot.At st sz) where
+      unnamed-found : (x : Name) → byte s p ≡ w → x ≡ nameAt s st sz → x ≡ nameIn s w (runAt s at)
+      unnamed-found x e xe =
+          let m = run-more s p r st sz goes re k in
+          xe ∙ sym (first-is s w (prop (byte s p) st sz) (runAt s (st + sz)) e (rw m at (known .good))) ∙ ap (nameIn s w) (sym m) ∙ known .is
+
+      unnamed-more : (byte s p ≡ w → ⊥) → Unnamed s w at (st + sz)
+      unnamed-more e =
+          let m = run-more s p r st sz goes re k in
+          record {
+            good = good-more (prop (byte s p) st sz) (runAt s (st + sz)) (rw m at (known .good));
+            is = sym (first-not s w (prop (byte s p) st sz) (runAt s (st + sz)) e) ∙ ap (nameIn s w) (sym m) ∙ known .is;
+          }
+
+-- nothing was found yet, or what was found is the name
+abbrev pub Named : List ℕ → ℕ → ℕ → Naming → ℕ → Type 0
+Named s w at x p =
+    (Unnamed s w at p × (x .name ≡ Name.Numbered) × (x .wanted ≡ w)) ⊎ ((x .name ≡ nameIn s w (runAt s at)) × (x .wanted ≡ 0xFF))
+
+held-good : {A : Type 0} (P : A → Type 0) (o : Option A) → Held P o → Held (λ _. Unit {0}) o
+held-good P none h = h
+held-good P (some x) h = tt
+
+pub named-start : (s : List ℕ) (w at : ℕ) (P : List Prop × ℕ → Type 0) → Held P (runAt s at) → Named s w at (record { name = Name.Numbered; wanted = w }) at
+named-start s w at P h = inl (unnamed-start s w at (held-good P (runAt s at) h), refl, refl)
+
+pub named-stop : (s : List ℕ) (w at : ℕ) (x : Naming) (p : ℕ) → Named s w at x p → goesOn s p ≡ false → x .name ≡ nameIn s w (runAt s at)
+named-stop s w at x p (inl u) t = u .1 ∙ unnamed-stop s w at p (u .0) t
+named-stop s w at x p (inr e) t = e .0
+
+module _ (s : List ℕ) (w at : ℕ) (p : ℕ) (r : Spot) (goes : goesOn s p ≡ true) (re : r ≡ told.spot (propertyAt s p)) (st sz : ℕ) (k : r ≡ Spot.At st sz) (low : byte s p < 0xFD) where
+  same-named : (x : Naming) → Named s w at x p → (byte s p ≡ x .wanted → ⊥) → Named s w at x (st + sz)
+  same-named x (inl u) n = inl (unnamed-more s w at p (u .0) r goes re st sz k (λ e. n (e ∙ sym (u .2))), u .1, u .2)
+  same-named x (inr e) n = inr e
+
+  now-named : (x : Naming) → Named s w at x p → byte s p ≡ x .wanted → nameAt s st sz ≡ nameIn s w (runAt s at)
+  now-named x (inl u) e = unnamed-found s w at p (u .0) r goes re st sz k (nameAt s st sz) (e ∙ u .2) refl
+  now-named x (inr h) e = absurd (omega (arith, low, e, h .1))
+
+  pub named-more : (x x′ : Naming) → Named s w at x p → x′ ≡ nextName s (byte s p) st sz x → Named s w at x′ (st + sz)
+  named-more x x′ h e = rw e (go (eqb (byte s p) (x .wanted)) refl)
+    where
+      go : (b : Bool) → eqb (byte s p) (x .wanted) ≡ b → Named s w at (cond b (record { name = nameAt s st sz; wanted = 0xFF }) x) (st + sz)
+      go true q = inr (now-named x h (eqb-true _ _ q), refl)
+      go false q = same-named x h (eqb-false _ _ q)

@@ -1,0 +1,76 @@
+-- What the functions that write a run of an Access 2000 stream ask and do.
+use Prim.Native.Nat.{ℕ, _+_, _*_, _≤_}
+use mathlib.Core.Path.{_≡_}
+use mathlib.Core.Bool.{true, cond}
+use mathlib.Core.List.{List, map}
+use mathlib.Core.Option.{Option, none, some}
+use lib.Dec.{eqb}
+use lib.ListN.{length}
+use Rattle.rules.specs.Lists.{find}
+use Rattle.rules.specs.Bytes.{part}
+use Rattle.rules.specs.Utf16.{isUtf16}
+use Rattle.rules.specs.Answer.{longest}
+use Rattle.rules.specs.CodeTable.{Tie, isTied}
+use Rattle.rules.specs.Access2000.{Prop, runAt}
+use Rattle.rules.specs.Rows.{propertyWidth}
+use Rattle.rules.specs.Read2000.{shown, nameBy}
+use Rattle.rules.specs.declared.Name.{Name}
+use Rattle.rules.specs.declared.Name.the-variants.{Text, Numbered}
+use Rattle.rules.specs.declared.Property.{Property}
+use Rattle.rows.specs.Writing.{writeProperties}
+use Rattle.rows.specs.Acts.{Held}
+use Rattle.codetable.specs.Look.{Sorted, bodyRows}
+use Rattle.codetable.specs.declared.Found.{Found}
+use Rattle.run2000.specs.declared.Naming.{Naming}
+
+-- ---- a property, and a run of them
+abbrev pub prop : ℕ → ℕ → ℕ → Prop
+prop id start size = record { id = id; start = start; size = size }
+
+-- a property by the rows of its scope
+unfoldable pub shownIn : List Tie → List ℕ → Prop → Property
+shownIn ties s q = shown s q (find (isTied (q .id)) ties)
+
+-- a value within a stream that isn't too long, and the rows that tie its id
+pub record Inside (t : List ℕ) (body : Found) (s : List ℕ) (start size : ℕ) : Type 0 where
+  pub small : length s ≤ longest
+  pub sorted : Sorted (bodyRows t body)
+  pub inside : start + size ≤ length s
+
+-- the property rows at exit, the row behind the last, and the place behind the run
+pub record Ran : Type 0 where
+  pub rows : List ℕ
+  pub row : ℕ
+  pub next : ℕ
+
+abbrev pub ran : List ℕ → ℕ → ℕ → Ran
+ran rows row next = record { rows = rows; row = row; next = next }
+
+abbrev pub runAct : (Prop → Property) → Option (List Prop × ℕ) → List ℕ → ℕ → Option Ran
+runAct f none rows first = none
+runAct f (some x) rows first = some (ran (writeProperties (map f (x .0)) rows first) (first + length (x .0)) (x .1))
+
+abbrev pub RunFits : List ℕ → ℕ → List Prop × ℕ → Type 0
+RunFits rows first x = (first + length (x .0)) * propertyWidth ≤ length rows
+
+pub record RunReady (t : List ℕ) (body : Found) (s : List ℕ) (at : ℕ) (rows : List ℕ) (first : ℕ) : Type 0 where
+  pub small : length s ≤ longest
+  pub sorted : Sorted (bodyRows t body)
+  pub fits : Held (RunFits rows first) (runAt s at)
+
+-- ---- a name
+abbrev pub nameAt : List ℕ → ℕ → ℕ → Name
+nameAt s start size = cond (isUtf16 (part s start size)) (Text start size) Numbered
+
+abbrev pub nameIn : List ℕ → ℕ → Option (List Prop × ℕ) → Name
+nameIn s id none = Numbered
+nameIn s id (some x) = nameBy s (find (λ q. eqb (q .id) id) (x .0))
+
+-- a value within the stream whose mark is 6 only where it is UTF-16
+pub record NameReady (s : List ℕ) (mark start size : ℕ) : Type 0 where
+  pub small : length s ≤ longest
+  pub inside : start + size ≤ length s
+  pub text : mark ≡ 6 → isUtf16 (part s start size) ≡ true
+
+abbrev pub nextName : List ℕ → ℕ → ℕ → ℕ → Naming → Naming
+nextName s id start size n = cond (eqb id (n .wanted)) (record { name = nameAt s start size; wanted = 0xFF }) n

@@ -1,0 +1,160 @@
+// A run of an Access 2000 stream: its properties written as rows, and the name that it holds.
+use codetable::Found;
+use codetable::Row;
+use codetable::find_row;
+use codetable::row_hint;
+use count2000::Spot;
+use count2000::value;
+use leaf::is_utf16;
+use propvalue::stored_value;
+use propvalue::value_as;
+use rows::put_property;
+use rules::Name;
+use rules::Property;
+ghost use mathlib.Core.Path.{_≡_};
+ghost use mathlib.Core.Option.{some};
+ghost use Prim.Native.Nat.{_+_, _≤_};
+ghost use lib.Bits.{bitOr};
+ghost use lib.ListN.{length};
+ghost use Rattle.codetable.specs.Look.{bodyRows};
+ghost use Rattle.rules.specs.Bytes.{part};
+ghost use Rattle.rules.specs.Access2000.{runAt};
+ghost use Rattle.run2000.specs.Runs as runs;
+
+// The place behind a run, the row behind its last, and the name that it holds.
+pub struct Rows {
+    pub at: usize,
+    pub row: usize,
+    pub name: Name,
+}
+
+// The name of a run as far as it was read, and the id that the name has: none has it once a name was met.
+struct Naming {
+    name: Name,
+    wanted: u8,
+}
+
+fn part(s: &[u8], start: usize, size: usize) -> &[u8]
+    requires { ⌜ start + size ≤ length (now s) ⌝ }
+    ensures { λ r. ⌜ now r ≡ part (now (s .entry)) start size ⌝ }
+{
+    let end = start + size;
+    &s[start..end]
+}
+
+// A mark or a prefix joined by OR with a code.
+pub fn join(mark: u32, code: u32) -> u32
+    ensures { λ r. ⌜ r ≡ bitOr mark code ⌝ }
+{
+    mark | code
+}
+
+// A property with this id and value, by the rows of its scope.
+fn property(
+    table: &[u8],
+    hints: &[u8; 4352],
+    body: Found,
+    s: &[u8],
+    id: u8,
+    start: usize,
+    size: usize,
+) -> Property
+    requires { ⌜ runs.Inside (now table) body (now s) start size ⌝ }
+    ensures { λ r. ⌜ r ≡ runs.shownIn (bodyRows (now (table .entry)) body) (now (s .entry)) (runs.prop id start size) ⌝ }
+{
+    let bytes = part(s, start, size);
+    match find_row(table, body, id, row_hint(hints, body, id)) {
+        Row::Tied { target, kind } => Property {
+            id: target as u32,
+            value: value_as(kind, id, bytes),
+            start: start as u32,
+            size: size as u32,
+        },
+        Row::Untied => Property {
+            id: join(0x8000, id as u32),
+            value: stored_value(id, bytes),
+            start: start as u32,
+            size: size as u32,
+        },
+    }
+}
+
+// The name that a property holds whose value was read with this mark: 6 is told of UTF-16 alone.
+fn name_at(s: &[u8], mark: u32, start: usize, size: usize) -> Name
+    requires { ⌜ runs.NameReady (now s) mark start size ⌝ }
+    ensures { λ r. ⌜ r ≡ runs.nameAt (now (s .entry)) start size ⌝ }
+{
+    if mark == 6 {
+        return Name::Text {
+            start: start as u32,
+            size: size as u32,
+        };
+    }
+    if is_utf16(part(s, start, size)) {
+        Name::Text {
+            start: start as u32,
+            size: size as u32,
+        }
+    } else {
+        Name::Numbered
+    }
+}
+
+// A property more of the run: the first with the wanted id has the name.
+fn next_name(so_far: Naming, s: &[u8], id: u8, mark: u32, start: usize, size: usize) -> Naming
+    requires { ⌜ runs.NameReady (now s) mark start size ⌝ }
+    ensures { λ r. ⌜ r ≡ runs.nextName (now (s .entry)) id start size «so_far» ⌝ }
+{
+    if id == so_far.wanted {
+        return Naming {
+            name: name_at(s, mark, start, size),
+            wanted: 0xFF,
+        };
+    }
+    so_far
+}
+
+fn run_rows(at: usize, row: usize, naming: Naming) -> Rows
+    ensures { λ r. ⌜ (r .at ≡ at) × (r .row ≡ row) × (r .name ≡ naming .name) ⌝ }
+{
+    let name = naming.name;
+    Rows { at, row, name }
+}
+
+// Writes a row for each property of the run at `at`, from row `first` on; the name is that of the first property with the id `wanted`.
+pub fn properties(
+    table: &[u8],
+    hints: &[u8; 4352],
+    body: Found,
+    s: &[u8],
+    at: usize,
+    rows: &mut [u32],
+    first: usize,
+    wanted: u8,
+) -> Rows
+    requires { ⌜ runs.RunReady (now table) body (now s) at (now rows) first ⌝ }
+    ensures { λ r. ⌜ (some (runs.ran (now (rows .exit)) (r .row) (r .at)) ≡ runs.runAct (runs.shownIn (bodyRows (now (table .entry)) body) (now (s .entry))) (runAt (now (s .entry)) at) (now (rows .entry)) first) × (r .name ≡ runs.nameIn (now (s .entry)) wanted (runAt (now (s .entry)) at)) ⌝ }
+{
+    let mut p = at;
+    let mut n = first;
+    let mut naming = Naming {
+        name: Name::Numbered,
+        wanted,
+    };
+    while p < s.len() {
+        let id = s[p];
+        if 0xFD <= id {
+            return run_rows(p, n, naming);
+        }
+        let Spot::At { start, size } = value(s, p) else {
+            return run_rows(p, n, naming);
+        };
+        let shown = property(table, hints, body, s, id, start, size);
+        let v = shown.value;
+        naming = next_name(naming, s, id, v.mark, start, size);
+        put_property(rows, n, shown);
+        p = start + size;
+        n = n + 1;
+    }
+    run_rows(p, n, naming)
+}

@@ -1,0 +1,17 @@
+-- A type code by the table's header codes.
+use Prim.Native.Nat.{ℕ}
+use mathlib.Core.Path.{_≡_, sym, ap, _∙_}
+use mathlib.Core.Bool.{Bool, true, false, cond}
+use mathlib.Core.List.{List}
+use lib.Bits.{bitOr}
+use Rattle.rules.specs.Lists.{has}
+use Rattle.rules.specs.Read2000.{typeCode}
+
+module _ (headers : List ℕ) (report : Bool) (type : ℕ) (b : Bool) (be : b ≡ has type headers) where
+  pub type-header : (mark code : ℕ) → b ≡ true → mark ≡ cond report 0x1900 0x1800 → code ≡ bitOr mark type → code ≡ typeCode headers report type
+  unfolding typeCode
+  type-header mark code k me ce = ce ∙ ap (λ m. bitOr m type) me ∙ sym (ap (λ c. cond c (bitOr (cond report 0x1900 0x1800) type) type) (sym be ∙ k))
+
+  pub type-other : b ≡ false → type ≡ typeCode headers report type
+  unfolding typeCode
+  type-other k = sym (ap (λ c. cond c (bitOr (cond report 0x1900 0x1800) type) type) (sym be ∙ k))
