@@ -13,13 +13,14 @@ use Rattle.rules.proofs.ListLaws.{every-at}
 use Rattle.rows.specs.Counting.{part1, part, partKept}
 use Rattle.rows.specs.declared.Part.{Part}
 use Rattle.rows.proofs.TakenLaws.{part-of, part-bad, part-room, part1-grows, part-grows}
+use Rattle.walk2000.specs.Told as walked
 use Rattle.count2000.specs.Told as told
-use Rattle.count2000.specs.declared.Word.{Word}
-use Rattle.count2000.specs.declared.Run.{Run}
-use Rattle.count2000.specs.declared.Opens.{Opens}
+use Rattle.walk2000.specs.declared.Word.{Word}
+use Rattle.walk2000.specs.declared.Run.{Run}
+use Rattle.walk2000.specs.declared.Opens.{Opens}
 use Rattle.count2000.specs.declared.One.{One}
-use Rattle.count2000.proofs.Inverse.{word-of, word-short, run-of, run-bad, opens-plain, opens-listed, opens-bad}
-use Rattle.count2000.proofs.Grows.{half-within, run-grows, head-grows, entry-grows, entries-grow}
+use Rattle.walk2000.proofs.Inverse.{word-of, word-short, run-of, run-bad, opens-plain, opens-listed, opens-bad}
+use Rattle.walk2000.proofs.Grows.{half-within, run-grows, head-grows, entry-grows, entries-grow}
 
 -- an entry's answer as a part, with all below it; and as a part of the top list
 abbrev pub whole : One → Part
@@ -52,19 +53,7 @@ module _ (r : One) (b : Bool) (c n e : ℕ) (k : r ≡ One.Of b c n e) where
   pub chosen-left : b ≡ false → chosen r ≡ Part.Of 0 0 e
   chosen-left t = rw (k, t)
 
--- room: what is read takes at least as many bytes as are counted
-pub half-room : (s : List ℕ) (p : ℕ) (r : Word) (n : ℕ) → r ≡ told.half (halfAt s p) → r ≡ Word.Of n → p + 1 < length s
-half-room s p r n e k = every-at (λ _. p + 1 < length s) (halfAt s p) n (half-within s p) (word-of (halfAt s p) r n e k)
-
-pub run-room : (s : List ℕ) (p : ℕ) (r : Run) (n e : ℕ) → r ≡ told.run (runAt s p) → r ≡ Run.Of n e → p + n ≤ e
-run-room s p r n e re rk =
-    let x = run-of (runAt s p) r n e re rk in
-    let g = every-at _ (runAt s p) (x .0, e) (run-grows s p) (x .2) in
-    omega (arith, x .1, g)
-
-pub head-room : (s : List ℕ) (p : ℕ) (r : Opens) (n e : ℕ) → r ≡ told.head (headAt s p) → r ≡ Opens.Listed n e → p < e
-head-room s p r n e re rk = every-at _ (headAt s p) (some n, e) (head-grows s p) (opens-listed (headAt s p) r n e re rk)
-
+-- room: what is counted takes at least as many bytes
 pub one-room : (d : ℕ) (s : List ℕ) (p : ℕ) (r : One) (b : Bool) (c n e : ℕ) → r ≡ told.one (entryAt s (entriesAt d s) p) → r ≡ One.Of b c n e → p + c + n ≤ e
 one-room d s p r b c n e re rk =
     let o = entryAt s (entriesAt d s) p in
@@ -74,17 +63,17 @@ pub list-room : (d : ℕ) (s : List ℕ) (m p : ℕ) (r : Part) (c n e : ℕ) �
 list-room d s m p r c n e re rk = part-room p (part (entriesAt d s m p)) c n e (part-grows p (entriesAt d s m p) (entries-grow d s m p)) (sym re ∙ rk)
 
 -- an entry by its parts
-module _ (below : ℕ → ℕ → Option (Entries Prop × ℕ)) (s : List ℕ) (p : ℕ) (w : Word) (we : w ≡ told.half (halfAt s p)) where
+module _ (below : ℕ → ℕ → Option (Entries Prop × ℕ)) (s : List ℕ) (p : ℕ) (w : Word) (we : w ≡ walked.half (halfAt s p)) where
   pub entry-short : w ≡ Word.Short → One.Bad ≡ told.one (entryAt s below p)
   unfolding entryAt
   entry-short wk = rw (word-short (halfAt s p) w we wk)
 
-  module _ (kind : ℕ) (wk : w ≡ Word.Of kind) (u : Run) (ue : u ≡ told.run (runAt s (p + 2))) where
+  module _ (kind : ℕ) (wk : w ≡ Word.Of kind) (u : Run) (ue : u ≡ walked.run (runAt s (p + 2))) where
     pub entry-run-bad : u ≡ Run.Bad → One.Bad ≡ told.one (entryAt s below p)
     unfolding entryAt
     entry-run-bad uk = rw (word-of (halfAt s p) w kind we wk, run-bad (runAt s (p + 2)) u ue uk)
 
-    module _ (n q : ℕ) (uk : u ≡ Run.Of n q) (o : Opens) (oe : o ≡ told.head (headAt s q)) where
+    module _ (n q : ℕ) (uk : u ≡ Run.Of n q) (o : Opens) (oe : o ≡ walked.head (headAt s q)) where
       pub entry-head-bad : o ≡ Opens.Bad → One.Bad ≡ told.one (entryAt s below p)
       unfolding entryAt
       entry-head-bad ok =

@@ -1,7 +1,3 @@
 -- What the proofs of several functions use.
-pub mod Inverse
-pub mod Extents
-pub mod Runs
-pub mod Grows
 pub mod Entries
 pub mod Streams

@@ -9,22 +9,23 @@ use Rattle.rules.specs.Access2000.{runAt, headAt, entriesAt, streamOf}
 use Rattle.rows.specs.Counting.{partTop}
 use Rattle.rows.specs.declared.Part.{Part}
 use Rattle.rows.proofs.TakenLaws.{top-of, top-bad, part-room, top-grows}
+use Rattle.walk2000.specs.Told as walked
 use Rattle.count2000.specs.Told as told
-use Rattle.count2000.specs.declared.Run.{Run}
-use Rattle.count2000.specs.declared.Opens.{Opens}
+use Rattle.walk2000.specs.declared.Run.{Run}
+use Rattle.walk2000.specs.declared.Opens.{Opens}
 use Rattle.count2000.specs.declared.Counted.{Counted}
-use Rattle.count2000.proofs.Inverse.{run-of, run-bad, opens-plain, opens-listed, opens-bad}
-use Rattle.count2000.proofs.Grows.{entries-grow}
+use Rattle.walk2000.proofs.Inverse.{run-of, run-bad, opens-plain, opens-listed, opens-bad}
+use Rattle.walk2000.proofs.Grows.{entries-grow}
 
 pub top-room : (d : ℕ) (s : List ℕ) (m p : ℕ) (r : Part) (c n e : ℕ) → r ≡ partTop (entriesAt d s m p) → r ≡ Part.Of c n e → p + c + n ≤ e
 top-room d s m p r c n e re rk = part-room p (partTop (entriesAt d s m p)) c n e (top-grows p (entriesAt d s m p) (entries-grow d s m p)) (sym re ∙ rk)
 
-module _ (s : List ℕ) (u : Run) (ue : u ≡ told.run (runAt s 10)) where
+module _ (s : List ℕ) (u : Run) (ue : u ≡ walked.run (runAt s 10)) where
   pub stream-run-bad : u ≡ Run.Bad → Counted.Bad ≡ told.counted (streamOf s)
   unfolding streamOf
   stream-run-bad uk = rw (run-bad (runAt s 10) u ue uk)
 
-  module _ (own p : ℕ) (uk : u ≡ Run.Of own p) (o : Opens) (oe : o ≡ told.head (headAt s p)) where
+  module _ (own p : ℕ) (uk : u ≡ Run.Of own p) (o : Opens) (oe : o ≡ walked.head (headAt s p)) where
     pub stream-head-bad : o ≡ Opens.Bad → Counted.Bad ≡ told.counted (streamOf s)
     unfolding streamOf
     stream-head-bad ok =

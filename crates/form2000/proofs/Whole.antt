@@ -28,11 +28,12 @@ use Rattle.rows.proofs.CountingLaws as counting
 use Rattle.rows.proofs.WritingLaws.{properties-length, reading-written}
 use Rattle.codetable.specs.Look.{Placed, Finds, bodyRows}
 use Rattle.codetable.specs.declared.Found.{Found}
+use Rattle.walk2000.specs.Told as walked
 use Rattle.count2000.specs.Told as told
-use Rattle.count2000.specs.declared.Opens.{Opens}
+use Rattle.walk2000.specs.declared.Opens.{Opens}
 use Rattle.count2000.specs.declared.Counted.{Counted}
-use Rattle.count2000.proofs.Inverse.{opens-plain, opens-listed, opens-bad}
-use Rattle.count2000.proofs.Grows.{run-grows, head-grows, entries-grow}
+use Rattle.walk2000.proofs.Inverse.{opens-plain, opens-listed, opens-bad}
+use Rattle.walk2000.proofs.Grows.{run-grows, head-grows, entries-grow}
 use Rattle.run2000.specs.Runs.{shownIn, ran, runAct, RunReady}
 use Rattle.tree2000.specs.Acts.{act, NodesReady}
 use Rattle.form2000.specs.Acts.{answer, Roomy, StreamReady, StreamDone, exited, outcome}
@@ -130,7 +131,7 @@ module _ (t s controls rows : List ℕ) (h : StreamReady t s controls rows) wher
           let f : shownIn (bodyRows t body) s ≡ propertyIn t s (objectPlace s) = shown-same t s kind 0 body (h .formed) be ∙ ap (λ k. propertyIn t s (record { kind = k; code = 0 })) ke in
           own-run .rows ∙ ap (λ g. writeProperties (map g (is .tree .0)) rows 0) f
 
-      module _ (o : Opens) (oe : o ≡ told.head (headAt s end)) where
+      module _ (o : Opens) (oe : o ≡ walked.head (headAt s end)) where
         head-is : headAt s end ≡ some (some (parts .many), parts .first)
         head-is = ap (headAt s) (own-run .next-is) ∙ parts .head
 

@@ -22,8 +22,8 @@ use Rattle.rows.specs.Put.{put}
 use Rattle.rows.specs.Acts.{Held}
 use Rattle.rows.proofs.PutLaws.{put-length}
 use Rattle.rows.proofs.WritingLaws.{properties-none, properties-more}
-use Rattle.count2000.specs.Told as told
-use Rattle.count2000.specs.declared.Spot.{Spot}
+use Rattle.walk2000.specs.Told as told
+use Rattle.walk2000.specs.declared.Spot.{Spot}
 use Rattle.run2000.specs.declared.Naming.{Naming}
 use Rattle.run2000.specs.Runs.{prop, ran, runAct, RunFits, nameAt, nameIn, nextName}
 

@@ -12,9 +12,9 @@ use Rattle.rows.specs.Writing.{State}
 use Rattle.rows.specs.Acts.{entryNodes, listNodes, _then_}
 use Rattle.rows.proofs.ActLaws.{at-place}
 use Rattle.rows.proofs.RemainLaws.{Remain, remain-start, ready-first, remain-step, remain-done}
-use Rattle.count2000.specs.Told as told
-use Rattle.count2000.specs.declared.Opens.{Opens}
-use Rattle.count2000.proofs.Inverse.{opens-plain, opens-listed, opens-bad}
+use Rattle.walk2000.specs.Told as told
+use Rattle.walk2000.specs.declared.Opens.{Opens}
+use Rattle.walk2000.proofs.Inverse.{opens-plain, opens-listed, opens-bad}
 use Rattle.tree2000.specs.Acts.{nodeAt, belowBy, belowAt, act, Given, NodesReady}
 
 module _ (below : ℕ → ℕ → Option (Entries Prop × ℕ)) (type : ℕ) (ps : List Prop) where

@@ -10,11 +10,11 @@ use Rattle.rules.specs.Bytes.{halfAt}
 use Rattle.rules.specs.Tree.{Entry, Entries, plain, parent, isSection, isReported}
 use Rattle.rules.specs.Access2000.{Prop, runAt, headAt, closeAt, entryAt}
 use Rattle.rules.proofs.ListLaws.{Every, every-when}
-use Rattle.count2000.specs.Told as told
-use Rattle.count2000.specs.declared.Word.{Word}
-use Rattle.count2000.specs.declared.Run.{Run}
-use Rattle.count2000.specs.declared.Opens.{Opens}
-use Rattle.count2000.proofs.Inverse.{word-of, word-short, run-of, run-bad, opens-plain, opens-listed, opens-bad}
+use Rattle.walk2000.specs.Told as told
+use Rattle.walk2000.specs.declared.Word.{Word}
+use Rattle.walk2000.specs.declared.Run.{Run}
+use Rattle.walk2000.specs.declared.Opens.{Opens}
+use Rattle.walk2000.proofs.Inverse.{word-of, word-short, run-of, run-bad, opens-plain, opens-listed, opens-bad}
 use Rattle.rows.specs.Acts.{entryNodes, keptNodes}
 use Rattle.tree2000.specs.Acts.{Skips}
 use Rattle.tree2000.specs.declared.Pass.{Pass}

@@ -4,7 +4,8 @@ use borrow.Author.Needs.{needs}
 use mathlib.Core.Path.{ap}
 use Rattle.rules.specs.Access2000.{entryAt, entriesAt}
 use Rattle.rows.proofs.TakenLaws.{Counting, counting-start, counting-all, counting-deep, counting-bad, counting-more}
-use Rattle.count2000.proofs.Entries.{whole, whole-is, half-room, run-room, head-room, one-room, list-room, entry-short, entry-run-bad, entry-head-bad, entry-plain, entry-list-bad, entry-parent}
+use Rattle.walk2000.proofs.Room.{half-room, run-room, head-room}
+use Rattle.count2000.proofs.Entries.{whole, whole-is, one-room, list-room, entry-short, entry-run-bad, entry-head-bad, entry-plain, entry-list-bad, entry-parent}
 use borrow.Fn.Kinds.{In}
 use borrow.Fn.PlainCycle.{Measures, is, falls, and}
 use Rattle.count2000.proofs.list.Reads as list
@@ -13,10 +14,10 @@ use Rattle.count2000.proofs.+entry+list.Lts-list as list-lts
 use Rattle.count2000.proofs.entry.Reads as entry
 use Rattle.count2000.proofs.entry.Kinds as entry-kinds
 use Rattle.count2000.proofs.+entry+list.Lts-entry as entry-lts
-use Rattle.count2000.proofs.half.Reads as half-reads
-use Rattle.count2000.proofs.head.Reads as head-reads
+use Rattle.walk2000.proofs.half.Reads as half-reads
+use Rattle.walk2000.proofs.head.Reads as head-reads
 use Rattle.rows.proofs.is_section.Reads as is-section-reads
-use Rattle.count2000.proofs.props.Reads as props-reads
+use Rattle.walk2000.proofs.props.Reads as props-reads
 use Rattle.count2000.proofs.+entry+list.{statement}
 use Rattle.count2000.proofs.+entry+list.Tie.{close}
 

@@ -1,5 +1,5 @@
 use Rattle.count2000.proofs.Streams.{top-room, stream-run-bad, stream-head-bad, stream-plain, stream-list-bad, stream-more, stream-whole}
-use Rattle.count2000.proofs.Entries.{run-room, head-room}
+use Rattle.walk2000.proofs.Room.{run-room, head-room}
 use native.Mathlib.Omega.{arith}
 use borrow.Author.Needs.{needs}
 use Rattle.count2000.proofs.count.Statement.{statement}

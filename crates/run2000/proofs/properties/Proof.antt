@@ -8,7 +8,7 @@ use lib.ListN.{length}
 use Rattle.rules.specs.Access2000.{goesOn}
 use Rattle.rules.proofs.Access2000Laws.{past-end}
 use Rattle.codetable.specs.Look.{bodyRows}
-use Rattle.count2000.proofs.Runs.{starts, stops, ends}
+use Rattle.walk2000.proofs.Runs.{starts, stops, ends}
 use Rattle.run2000.specs.Runs.{shownIn, RunFits}
 use Rattle.run2000.proofs.Shows.{shown-six}
 use Rattle.run2000.proofs.RunSteps.{Left, left-start, left-stop, left-bad, left-room, left-more, Named, named-start, named-stop, named-more}

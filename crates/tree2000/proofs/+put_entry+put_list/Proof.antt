@@ -18,7 +18,7 @@ use Rattle.tree2000.proofs.+put_entry+put_list.Lts-put_entry as put-ent
 use Rattle.tree2000.proofs.put_list.Reads as put-list
 use Rattle.tree2000.proofs.put_list.Kinds as put-list-kinds
 use Rattle.tree2000.proofs.+put_entry+put_list.Lts-put_list as put-list-lts
-use Rattle.count2000.proofs.head.Reads as head-reads
+use Rattle.walk2000.proofs.head.Reads as head-reads
 use Rattle.tree2000.proofs.put_node.Reads as put-node-reads
 use Rattle.tree2000.proofs.+put_entry+put_list.{statement}
 use Rattle.tree2000.proofs.+put_entry+put_list.Tie.{close}

@@ -1,5 +1,5 @@
 use native.Mathlib.Omega.{arith}
-use Rattle.count2000.proofs.Entries.{half-room}
+use Rattle.walk2000.proofs.Room.{half-room}
 use Rattle.tree2000.proofs.Skipping.{skip-short, skip-section, skip-run-bad, skip-head-bad, skip-listed, skip-plain}
 use borrow.Author.Needs.{needs}
 use Rattle.tree2000.proofs.skip.Statement.{statement}

@@ -1,8 +1,8 @@
 use native.Mathlib.Omega.{arith}
 use borrow.Author.Tests.{le-leb, lt-leb}
-use Rattle.count2000.specs.Told.{sizeOf}
-use Rattle.count2000.proofs.value_size.Statement.{statement}
-use Rattle.count2000.proofs.value_size.Tie as tie
+use Rattle.walk2000.specs.Told.{sizeOf}
+use Rattle.walk2000.proofs.value_size.Statement.{statement}
+use Rattle.walk2000.proofs.value_size.Tie as tie
 
 returns : tie.Need-returns
 unfolding sizeOf

@@ -14,9 +14,9 @@ use Rattle.rules.specs.Bytes.{byte}
 use Rattle.rules.specs.Access2000.{Prop, goesOn, propertyAt, runAt}
 use Rattle.rules.proofs.ListLaws.{Every}
 use Rattle.rules.proofs.Access2000Laws.{Within, property-within, after, run-step}
-use Rattle.count2000.specs.Told as told
-use Rattle.count2000.specs.declared.Spot.{Spot}
-use Rattle.count2000.specs.declared.Run.{Run}
+use Rattle.walk2000.specs.Told as told
+use Rattle.walk2000.specs.declared.Spot.{Spot}
+use Rattle.walk2000.specs.declared.Run.{Run}
 
 -- n properties more than the answer says
 abbrev pub addRun : ℕ → Run → Run

@@ -1,10 +1,10 @@
-use Rattle.count2000.proofs.Inverse.{word-of, word-short}
+use Rattle.walk2000.proofs.Inverse.{word-of, word-short}
 use Rattle.rules.specs.Bytes.{halfAt, byteAt}
 use Rattle.rules.specs.Access2000.{headAt}
 use borrow.Author.Tests.{le-ltb, lt-ltb, eq-eqb, ne-eqb}
 use borrow.Author.Needs.{needs}
-use Rattle.count2000.proofs.head.Statement.{statement}
-use Rattle.count2000.proofs.head.Tie as tie
+use Rattle.walk2000.proofs.head.Statement.{statement}
+use Rattle.walk2000.proofs.head.Tie as tie
 
 returns : tie.Need-returns
 unfolding headAt byteAt

@@ -2,10 +2,10 @@ use Prim.Native.Nat.{_+_, _-_, _≤_}
 use native.Mathlib.Omega.{arith}
 use lib.ListN.{length}
 use borrow.Author.Needs.{needs}
-use Rattle.count2000.proofs.Runs.{Passed, passed-none, passed-more, passed-stop, passed-bad, starts, stops, ends}
+use Rattle.walk2000.proofs.Runs.{Passed, passed-none, passed-more, passed-stop, passed-bad, starts, stops, ends}
 use Rattle.rules.proofs.Access2000Laws.{past-end}
-use Rattle.count2000.proofs.props.Statement.{statement}
-use Rattle.count2000.proofs.props.Tie as tie
+use Rattle.walk2000.proofs.props.Statement.{statement}
+use Rattle.walk2000.proofs.props.Tie as tie
 
 abbrev Inv-loop : tie.InvT-loop
 Inv-loop s at p₀ n₀ p n = (at + n ≤ p) × Passed s at n p

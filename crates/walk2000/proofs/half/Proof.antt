@@ -1,8 +1,8 @@
 use Rattle.rules.specs.Bytes.{halfAt, byteAt}
 use borrow.Author.Tests.{le-ltb, lt-ltb}
 use borrow.Author.Needs.{needs}
-use Rattle.count2000.proofs.half.Statement.{statement}
-use Rattle.count2000.proofs.half.Tie as tie
+use Rattle.walk2000.proofs.half.Statement.{statement}
+use Rattle.walk2000.proofs.half.Tie as tie
 
 returns : tie.Need-returns
 unfolding halfAt byteAt

@@ -1,7 +1,7 @@
-use Rattle.count2000.proofs.Extents.{extent-told, extent-stored}
+use Rattle.walk2000.proofs.Extents.{extent-told, extent-stored}
 use borrow.Author.Needs.{needs}
-use Rattle.count2000.proofs.extent.Statement.{statement}
-use Rattle.count2000.proofs.extent.Tie as tie
+use Rattle.walk2000.proofs.extent.Statement.{statement}
+use Rattle.walk2000.proofs.extent.Tie as tie
 
 returns : tie.Need-returns
 returns c = extent-stored _ _ _ _ (c .before .before .before .value-size .ensures) _ (c .before .enum-told .given .1) (c .length .ensures)

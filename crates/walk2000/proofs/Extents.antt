@@ -6,9 +6,9 @@ use mathlib.Core.List.{List}
 use mathlib.Core.Option.{Option, some}
 use lib.Dec.{leb}
 use Rattle.rules.specs.Access2000.{lengthAt, extentAt}
-use Rattle.count2000.specs.Told as told
-use Rattle.count2000.specs.declared.Size.{Size}
-use Rattle.count2000.specs.declared.Spot.{Spot}
+use Rattle.walk2000.specs.Told as told
+use Rattle.walk2000.specs.declared.Size.{Size}
+use Rattle.walk2000.specs.declared.Spot.{Spot}
 
 abbrev bySize : List ℕ → ℕ → Size → Option (ℕ × ℕ)
 bySize s p (Size.Told n) = some (p, n)

@@ -6,11 +6,11 @@ use mathlib.Core.List.{List}
 use mathlib.Core.Option.{Option, none, some}
 use lib.ListN.{length}
 use Rattle.rules.specs.Access2000.{Prop}
-use Rattle.count2000.specs.Told as told
-use Rattle.count2000.specs.declared.Word.{Word}
-use Rattle.count2000.specs.declared.Spot.{Spot}
-use Rattle.count2000.specs.declared.Run.{Run}
-use Rattle.count2000.specs.declared.Opens.{Opens}
+use Rattle.walk2000.specs.Told as told
+use Rattle.walk2000.specs.declared.Word.{Word}
+use Rattle.walk2000.specs.declared.Spot.{Spot}
+use Rattle.walk2000.specs.declared.Run.{Run}
+use Rattle.walk2000.specs.declared.Opens.{Opens}
 
 pub word-of : (o : Option ℕ) (r : Word) (n : ℕ) → r ≡ told.half o → r ≡ Word.Of n → o ≡ some n
 word-of none r n e k = cc

@@ -1,4 +1,4 @@
-use Rattle.count2000.proofs.Inverse.{extent-at, extent-bad}
+use Rattle.walk2000.proofs.Inverse.{extent-at, extent-bad}
 use Rattle.rules.specs.Access2000.{propertyAt, extentAt}
 use borrow.Author.Tests.{le-leb, lt-leb}
 use denote.Ref.{now}
@@ -6,8 +6,8 @@ use lib.ListN.{length}
 use Prim.Native.Nat.{_+_}
 use native.Mathlib.Omega.{arith}
 use borrow.Author.Needs.{needs}
-use Rattle.count2000.proofs.value.Statement.{statement}
-use Rattle.count2000.proofs.value.Tie as tie
+use Rattle.walk2000.proofs.value.Statement.{statement}
+use Rattle.walk2000.proofs.value.Tie as tie
 
 returns : tie.Need-returns
 unfolding propertyAt

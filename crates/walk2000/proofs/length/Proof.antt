@@ -1,10 +1,10 @@
-use Rattle.count2000.proofs.Inverse.{word-of, word-short}
+use Rattle.walk2000.proofs.Inverse.{word-of, word-short}
 use Rattle.rules.specs.Bytes.{byteAt, halfAt}
 use Rattle.rules.specs.Access2000.{lengthAt}
 use borrow.Author.Tests.{le-ltb, lt-ltb, eq-eqb, ne-eqb}
 use borrow.Author.Needs.{needs}
-use Rattle.count2000.proofs.length.Statement.{statement}
-use Rattle.count2000.proofs.length.Tie as tie
+use Rattle.walk2000.proofs.length.Statement.{statement}
+use Rattle.walk2000.proofs.length.Tie as tie
 
 returns : tie.Need-returns
 unfolding lengthAt byteAt

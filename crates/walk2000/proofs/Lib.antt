@@ -1,0 +1,6 @@
+-- What the proofs of several functions use.
+pub mod Inverse
+pub mod Extents
+pub mod Runs
+pub mod Grows
+pub mod Room
