@@ -124,19 +124,9 @@ fn put_entry(
             control: i,
             property: j,
         },
-        Opens::Listed { count, next } => put_list(
-            table,
-            hints,
-            starts,
-            s,
-            next,
-            count,
-            left,
-            controls,
-            i,
-            rows,
-            j,
-        ),
+        Opens::Listed { count: n, next: q } => {
+            put_list(table, hints, starts, s, q, n, left, controls, i, rows, j)
+        }
     }
 }
 
@@ -217,17 +207,16 @@ pub fn put_top(
     let mut i = c;
     let mut j = p;
     while 0 < k {
+        k = k - 1;
         match skip(s, pos) {
             Pass::Over(next) => {
                 pos = next;
-                k = k - 1;
             }
             Pass::Not => {
                 let e = put_entry(table, hints, starts, s, pos, 255, controls, i, rows, j);
                 pos = e.at;
                 i = e.control;
                 j = e.property;
-                k = k - 1;
             }
         }
     }

@@ -65,13 +65,13 @@ put-entry-enum-told t c = search needs
 put-entry-enum-known-next : (t : ℕ) → put-entry-lts.Need-enum-known-next (put-entry-calls t) (put-entry-at t) put-entry.Post
 put-entry-enum-known-next t c = search needs
 
-put-entry-enum-known-count : (t : ℕ) → put-entry-lts.Need-enum-known-count (put-entry-calls t) (put-entry-at t) put-entry.Post
-put-entry-enum-known-count t c = search needs
+put-entry-enum-known-n : (t : ℕ) → put-entry-lts.Need-enum-known-n (put-entry-calls t) (put-entry-at t) put-entry.Post
+put-entry-enum-known-n t c = search needs
 
 put-entry-put-list-requires : (t : ℕ) → put-entry-lts.Need-put-list-requires (put-entry-calls t) (put-entry-at t) put-entry.Post
 put-entry-put-list-requires t c κs =
     let b17 = c .before .before .before .before .before .before .before .before .before .before .before .before .before .before .before .before .before in
-    (omega (arith, b17 .pre .0), entry-listed _ _ _ (entriesAt (b17 .args .left) (b17 .args .s .now)) (b17 .args .at) _ (b17 .pre .1) _ _ (c .before .before .before .before .before .before .before .before .before .before .put-node .ensures) _ (c .before .before .before .before .before .head .ensures) _ _ (c .before .before .before .count .given .1) .ready)
+    (omega (arith, b17 .pre .0), entry-listed _ _ _ (entriesAt (b17 .args .left) (b17 .args .s .now)) (b17 .args .at) _ (b17 .pre .1) _ _ (c .before .before .before .before .before .before .before .before .before .before .put-node .ensures) _ (c .before .before .before .before .before .head .ensures) _ _ (c .before .before .before .n .given .1) .ready)
 
 put-entry-same-length : (t : ℕ) → put-entry-lts.Need-same-length (put-entry-calls t) (put-entry-at t) put-entry.Post
 put-entry-same-length t c = c .before .before .before .before .before .before .before .put-node .kept .1 .1 .1 .1 .1 .0
@@ -104,7 +104,7 @@ put-entry-same-length-6 t c = c .before .before .before .before .put-list .kept 
 put-entry-returns-3 : (t : ℕ) → put-entry-lts.Need-returns-3 (put-entry-calls t) (put-entry-at t) put-entry.Post
 put-entry-returns-3 t c =
     let b22 = c .before .before .before .before .before .before .before .before .before .before .before .before .before .before .before .before .before .before .before .before .before .before in
-    c .before .before .before .before .put-list .ensures ∙ entry-listed _ _ _ (entriesAt (b22 .args .left) (b22 .args .s .now)) (b22 .args .at) _ (b22 .pre .1) _ _ (c .before .before .before .before .before .before .before .before .before .before .before .before .before .before .before .put-node .ensures) _ (c .before .before .before .before .before .before .before .before .before .before .head .ensures) _ _ (c .before .before .before .before .before .before .before .before .count .given .1) .is
+    c .before .before .before .before .put-list .ensures ∙ entry-listed _ _ _ (entriesAt (b22 .args .left) (b22 .args .s .now)) (b22 .args .at) _ (b22 .pre .1) _ _ (c .before .before .before .before .before .before .before .before .before .before .before .before .before .before .before .put-node .ensures) _ (c .before .before .before .before .before .before .before .before .before .before .head .ensures) _ _ (c .before .before .before .before .before .before .before .before .n .given .1) .is
 
 -- ---- a list
 abbrev put-list-Inv-loop : put-list-lts.InvT-loop
@@ -158,7 +158,7 @@ pub +put-entry+put-list-spec : {M : Type 1} → statement M
     (put-entry-head-requires t)
     (put-entry-enum-told t)
     (put-entry-enum-known-next t)
-    (put-entry-enum-known-count t)
+    (put-entry-enum-known-n t)
     (put-entry-put-list-requires t)
     (put-entry-same-length t)
     (put-entry-same-length-2 t)

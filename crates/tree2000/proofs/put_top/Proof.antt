@@ -23,7 +23,7 @@ loop-holds : tie.Need-loop-holds Inv-loop μ-loop
 loop-holds c = (remain-start _ _ _ _ _ refl (c .before .before .before .before .pre), refl, refl)
 
 sub-k : tie.Need-sub-k Inv-loop μ-loop
-sub-k c = omega (arith, c .before .before .before .before .loop-test .taken)
+sub-k c = omega (arith, c .loop-test .taken)
 
 loop-less : tie.Need-loop-less Inv-loop μ-loop
 loop-less c = omega (arith, c .before .before .before .before .loop-test .taken)
@@ -39,9 +39,6 @@ unfolding entriesAt
 put-entry-requires c κs =
     let b6 = c .before .before .before .before .before .before in
     top-entry _ _ _ _ _ _ _ _ _ (b6 .loop .inv .0) (eqb-false 256 0 refl) (c .before .before .before .before .before .loop-test .taken) (c .before .before .before .before .skip .ensures .kept _ (c .before .before .enum-told .given .1))
-
-sub-k-2 : tie.Need-sub-k-2 Inv-loop μ-loop
-sub-k-2 c = omega (arith, c .before .before .before .before .before .before .before .before .before .before .loop-test .taken)
 
 loop-less-2 : tie.Need-loop-less-2 Inv-loop μ-loop
 loop-less-2 c = omega (arith, c .before .before .before .before .before .before .before .before .before .before .loop-test .taken)
@@ -70,13 +67,12 @@ put-top-spec =
     Inv-loop
     μ-loop
     loop-holds
-    (λ c κs. search needs) (λ c. search needs)
     sub-k
+    (λ c κs. search needs) (λ c. search needs)
     loop-less
     loop-again
     (λ c. search needs)
     put-entry-requires
-    sub-k-2
     loop-less-2
     loop-again-2
     same-length
