@@ -35,7 +35,7 @@ use Rattle.count2000.specs.declared.Counted.{Counted}
 use Rattle.walk2000.proofs.Inverse.{opens-plain, opens-listed, opens-bad}
 use Rattle.walk2000.proofs.Grows.{run-grows, head-grows, entries-grow}
 use Rattle.run2000.specs.Runs.{shownIn, ran, runAct, RunReady}
-use Rattle.tree2000.specs.Acts.{act, NodesReady}
+use Rattle.node2000.specs.Nodes.{act, NodesReady}
 use Rattle.form2000.specs.Acts.{answer, Roomy, StreamReady, StreamDone, exited, outcome}
 use Rattle.run2000.proofs.Written.{RunOf, run-written, shown-same}
 

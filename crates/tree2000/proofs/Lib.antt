@@ -1,5 +1,3 @@
 -- What the proofs of several functions use.
-pub mod Types
 pub mod Nodes
 pub mod Skipping
-pub mod NodeLaws

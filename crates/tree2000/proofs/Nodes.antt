@@ -15,7 +15,8 @@ use Rattle.rows.proofs.RemainLaws.{Remain, remain-start, ready-first, remain-st
 use Rattle.walk2000.specs.Told as told
 use Rattle.walk2000.specs.declared.Opens.{Opens}
 use Rattle.walk2000.proofs.Inverse.{opens-plain, opens-listed, opens-bad}
-use Rattle.tree2000.specs.Acts.{nodeAt, belowBy, belowAt, act, Given, NodesReady}
+use Rattle.node2000.specs.Nodes.{nodeAt, act, Given, NodesReady}
+use Rattle.tree2000.specs.Acts.{belowBy, belowAt}
 
 module _ (below : ℕ → ℕ → Option (Entries Prop × ℕ)) (type : ℕ) (ps : List Prop) where
   list-behind : (o : Option (Entries Prop × ℕ))

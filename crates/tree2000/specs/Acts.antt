@@ -1,47 +1,20 @@
--- What the functions that write the entries of an Access 2000 stream ask and do.
-use Prim.Native.Nat.{ℕ, _+_, _≤_}
+-- An entry's list, and which entries of the top list are passed over.
+use Prim.Native.Nat.{ℕ}
 use mathlib.Core.Path.{_≡_}
-use mathlib.Core.Bool.{true}
-use mathlib.Core.List.{List, [], _∷_}
+use mathlib.Core.List.{List, []}
 use mathlib.Core.Option.{Option, none, some}
-use lib.ListN.{length}
 use Rattle.rules.specs.Lists.{_>>=_}
-use Rattle.rules.specs.Bytes.{halfAt}
-use Rattle.rules.specs.Answer.{longest}
-use Rattle.rules.specs.CodeTable.{wellFormed}
-use Rattle.rules.specs.Tree.{Entries, node}
-use Rattle.rules.specs.Access2000.{Prop, runAt, headAt, entryAt}
-use Rattle.rules.specs.Read2000.{controlOf}
-use Rattle.rows.specs.Writing.{State}
-use Rattle.rows.specs.Acts.{Nodes, entryNodes, listNodes, keptNodes, Stood, actBy, Ready}
-use Rattle.codetable.specs.Look.{Placed}
+use Rattle.rules.specs.Tree.{Entries}
+use Rattle.rules.specs.Access2000.{Prop, headAt, entryAt}
+use Rattle.rows.specs.Acts.{Nodes, entryNodes, listNodes, keptNodes}
 use Rattle.tree2000.specs.declared.Pass.{Pass}
 
--- ---- entries and lists
--- an entry without its list; and its list, or none, from the place behind its run on
-unfoldable pub nodeAt : List ℕ → ℕ → Nodes Prop
-nodeAt s p = do
-  type ← halfAt s p
-  (props, q) ← runAt s (p + 2)
-  some (node type props ∷ [], q)
-
+-- an entry's list, or none, from the place behind its run on
 unfoldable pub belowBy : (ℕ → ℕ → Option (Entries Prop × ℕ)) → Option ℕ × ℕ → Nodes Prop
 belowBy below h = elim (h .0) [ none ↦ some ([], h .1) | some n ↦ listNodes (below n (h .1)) ]
 
 unfoldable pub belowAt : List ℕ → (ℕ → ℕ → Option (Entries Prop × ℕ)) → ℕ → Nodes Prop
 belowAt s below q = headAt s q >>= belowBy below
-
-abbrev pub act : List ℕ → List ℕ → Nodes Prop → State → Option Stood
-act t s o st = actBy (controlOf t s) o st
-
--- what is known of the table, the starts of its rows and the stream beforehand
-pub record Given (t starts s : List ℕ) : Type 0 where
-  pub formed : wellFormed t ≡ true
-  pub placed : Placed t starts
-  pub small : length s ≤ longest
-
-abbrev pub NodesReady : List ℕ → List ℕ → List ℕ → Nodes Prop → State → Type 0
-NodesReady t starts s o st = Ready (Given t starts s) (controlOf t s) o st
 
 -- ---- the top list
 pub record Skips (s : List ℕ) (at : ℕ) (r : Pass) : Type 0 where

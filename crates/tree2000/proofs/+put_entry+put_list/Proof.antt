@@ -8,7 +8,7 @@ use Rattle.rules.specs.Read2000.{controlOf}
 use Rattle.rows.specs.Writing.{state}
 use Rattle.rows.specs.Acts.{listNodes}
 use Rattle.rows.proofs.RemainLaws.{Remain, remain-start, list-all, list-some, list-entry, list-more}
-use Rattle.tree2000.specs.Acts.{Given}
+use Rattle.node2000.specs.Nodes.{Given}
 use Rattle.tree2000.proofs.Nodes.{node-ready, entry-bad, entry-plain, entry-listed}
 use borrow.Fn.Kinds.{In}
 use borrow.Fn.PlainCycle.{Measures, is, falls, and}
@@ -19,7 +19,7 @@ use Rattle.tree2000.proofs.put_list.Reads as put-list
 use Rattle.tree2000.proofs.put_list.Kinds as put-list-kinds
 use Rattle.tree2000.proofs.+put_entry+put_list.Lts-put_list as put-list-lts
 use Rattle.walk2000.proofs.head.Reads as head-reads
-use Rattle.tree2000.proofs.put_node.Reads as put-node-reads
+use Rattle.node2000.proofs.put_node.Reads as put-node-reads
 use Rattle.tree2000.proofs.+put_entry+put_list.{statement}
 use Rattle.tree2000.proofs.+put_entry+put_list.Tie.{close}
 

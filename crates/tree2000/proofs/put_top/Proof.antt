@@ -9,7 +9,7 @@ use Rattle.rules.specs.Read2000.{controlOf}
 use Rattle.rows.specs.Writing.{state}
 use Rattle.rows.specs.Acts.{topNodes}
 use Rattle.rows.proofs.RemainLaws.{Remain, remain-start, top-all, top-over, top-entry, top-more}
-use Rattle.tree2000.specs.Acts.{Given}
+use Rattle.node2000.specs.Nodes.{Given}
 use Rattle.tree2000.proofs.put_top.Statement.{statement}
 use Rattle.tree2000.proofs.put_top.Tie as tie
 

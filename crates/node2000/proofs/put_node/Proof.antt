@@ -2,9 +2,9 @@ use native.Mathlib.Omega.{arith}
 use borrow.Author.Needs.{needs}
 use denote.Ref.{now}
 use Rattle.codetable.specs.Look.{Finds}
-use Rattle.tree2000.proofs.NodeLaws.{node-inside, node-run-ready, node-small, node-rows, node-row-room, node-done}
-use Rattle.tree2000.proofs.put_node.Statement.{statement}
-use Rattle.tree2000.proofs.put_node.Tie as tie
+use Rattle.node2000.proofs.NodeLaws.{node-inside, node-run-ready, node-small, node-rows, node-row-room, node-done}
+use Rattle.node2000.proofs.put_node.Statement.{statement}
+use Rattle.node2000.proofs.put_node.Tie as tie
 
 -- the rows that were found are the scope's
 found : (c : tie.After-find-scope) → Finds (now (c .before .before .before .before .before .before .before .args .table)) 2 (c .before .before .u16-at .result) (c .find-scope .result)

@@ -28,7 +28,7 @@ use Rattle.codetable.specs.Look.{Finds, Formed, bodyRows}
 use Rattle.codetable.specs.declared.Found.{Found}
 use Rattle.run2000.specs.Runs.{shownIn, ran, runAct, RunReady, nameIn}
 use Rattle.run2000.proofs.Written.{RunOf, run-written, shown-same}
-use Rattle.tree2000.specs.Acts.{nodeAt, act, NodesReady}
+use Rattle.node2000.specs.Nodes.{nodeAt, act, NodesReady}
 
 -- ---- two bytes
 byte-is : (s : List ℕ) (p : ℕ) → Every (λ b. (b ≡ byte s p) × (p < length s)) (byteAt s p)

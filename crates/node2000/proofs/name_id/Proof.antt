@@ -1,8 +1,8 @@
 use mathlib.Core.Path.{sym, ap, _∙_}
 use mathlib.Core.Bool.{Bool, cond}
 use borrow.Author.Needs.{needs}
-use Rattle.tree2000.proofs.name_id.Statement.{statement}
-use Rattle.tree2000.proofs.name_id.Tie as tie
+use Rattle.node2000.proofs.name_id.Statement.{statement}
+use Rattle.node2000.proofs.name_id.Tie as tie
 
 returns : tie.Need-returns
 returns c = sym (ap (λ (b : Bool). cond b 0xDF 0xDC) (sym (c .before .is-section .ensures) ∙ c .if1 .taken))

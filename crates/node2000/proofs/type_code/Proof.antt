@@ -1,7 +1,7 @@
-use Rattle.tree2000.proofs.Types.{type-header, type-other}
+use Rattle.node2000.proofs.Types.{type-header, type-other}
 use borrow.Author.Needs.{needs}
-use Rattle.tree2000.proofs.type_code.Statement.{statement}
-use Rattle.tree2000.proofs.type_code.Tie as tie
+use Rattle.node2000.proofs.type_code.Statement.{statement}
+use Rattle.node2000.proofs.type_code.Tie as tie
 
 returns : tie.Need-returns
 returns c = type-header _ _ _ _ (c .before .before .before .is-header .ensures) _ _ (c .before .before .if1 .taken) (c .before .header-mark .ensures) (c .join .ensures)

@@ -3,8 +3,8 @@ use Prim.Native.Nat.{ℕ}
 use lib.Dec.{eqb}
 use Rattle.rules.specs.Read2000.{isReport}
 use borrow.Author.Needs.{needs}
-use Rattle.tree2000.proofs.is_report.Statement.{statement}
-use Rattle.tree2000.proofs.is_report.Tie as tie
+use Rattle.node2000.proofs.is_report.Statement.{statement}
+use Rattle.node2000.proofs.is_report.Tie as tie
 
 returns : tie.Need-returns
 unfolding isReport

@@ -1,0 +1,36 @@
+-- What the functions that write the entries of an Access 2000 stream ask and do, and an entry without its list.
+use Prim.Native.Nat.{ℕ, _+_, _≤_}
+use mathlib.Core.Path.{_≡_}
+use mathlib.Core.Bool.{true}
+use mathlib.Core.List.{List, [], _∷_}
+use mathlib.Core.Option.{Option, some}
+use lib.ListN.{length}
+use Rattle.rules.specs.Lists.{_>>=_}
+use Rattle.rules.specs.Bytes.{halfAt}
+use Rattle.rules.specs.Answer.{longest}
+use Rattle.rules.specs.CodeTable.{wellFormed}
+use Rattle.rules.specs.Tree.{node}
+use Rattle.rules.specs.Access2000.{Prop, runAt}
+use Rattle.rules.specs.Read2000.{controlOf}
+use Rattle.rows.specs.Writing.{State}
+use Rattle.rows.specs.Acts.{Nodes, Stood, actBy, Ready}
+use Rattle.codetable.specs.Look.{Placed}
+
+-- an entry without its list
+unfoldable pub nodeAt : List ℕ → ℕ → Nodes Prop
+nodeAt s p = do
+  type ← halfAt s p
+  (props, q) ← runAt s (p + 2)
+  some (node type props ∷ [], q)
+
+abbrev pub act : List ℕ → List ℕ → Nodes Prop → State → Option Stood
+act t s o st = actBy (controlOf t s) o st
+
+-- what is known of the table, the starts of its rows and the stream beforehand
+pub record Given (t starts s : List ℕ) : Type 0 where
+  pub formed : wellFormed t ≡ true
+  pub placed : Placed t starts
+  pub small : length s ≤ longest
+
+abbrev pub NodesReady : List ℕ → List ℕ → List ℕ → Nodes Prop → State → Type 0
+NodesReady t starts s o st = Ready (Given t starts s) (controlOf t s) o st
