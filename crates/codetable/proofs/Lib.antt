@@ -1,9 +1,3 @@
 -- Laws of the code table, and what the proofs of several functions use.
-pub mod Ascending
-pub mod Halves
-pub mod Lookup
-pub mod Rows
-pub mod Scopes
-pub mod Starts
 pub mod Steps
 pub mod WellFormed

@@ -14,7 +14,7 @@ use borrow.Author.Tests.{lt-ltb, le-ltb, le-leb, lt-leb, eq-eqb, ne-eqb}
 use Rattle.rules.specs.Lists.{all, has, ascends}
 use Rattle.rules.specs.Bytes.{byte, u16}
 use Rattle.rules.specs.CodeTable.{Tie, Scope, idOf, key, keyOf, codesAt, tieAt, tiesAt, scopesAt, tieOk, tiesOk, scopeOk, rowCount, scopesFit, wellFormed}
-use Rattle.codetable.specs.Look.{tiesFrom, scopesFrom}
+use Rattle.codetable.specs.Reads.{tiesFrom, scopesFrom}
 
 and-false : (a : Bool) → (a && false) ≡ false
 and-false true = refl

@@ -26,8 +26,8 @@ use Rattle.rows.specs.Acts.{topNodes, Held, Stood, stood}
 use Rattle.rows.proofs.LevelLaws.{EntriesGrow, fewer}
 use Rattle.rows.proofs.CountingLaws as counting
 use Rattle.rows.proofs.WritingLaws.{properties-length, reading-written}
-use Rattle.codetable.specs.Look.{Placed, Finds, bodyRows}
-use Rattle.codetable.specs.declared.Found.{Found}
+use Rattle.coderows.specs.Look.{Placed, Finds, bodyRows}
+use Rattle.coderows.specs.declared.Found.{Found}
 use Rattle.walk2000.specs.Told as walked
 use Rattle.count2000.specs.Told as told
 use Rattle.walk2000.specs.declared.Opens.{Opens}

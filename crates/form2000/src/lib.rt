@@ -1,7 +1,7 @@
 // Reads an Access 2000 stream with a code table: counts what the reading has, then writes its rows.
-use codetable::find_scope;
-use codetable::note_scopes;
-use codetable::scope_starts;
+use coderows::find_scope;
+use coderows::note_scopes;
+use coderows::scope_starts;
 use count2000::Counted;
 use count2000::count;
 use node2000::is_report;

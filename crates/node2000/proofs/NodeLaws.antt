@@ -24,8 +24,8 @@ use Rattle.rows.specs.Put.{put}
 use Rattle.rows.specs.Writing.{State, state, theirs, writeProperties}
 use Rattle.rows.specs.Acts.{Held, Fit, stood}
 use Rattle.rows.proofs.WritingLaws.{theirs-one, write-one}
-use Rattle.codetable.specs.Look.{Finds, Formed, bodyRows}
-use Rattle.codetable.specs.declared.Found.{Found}
+use Rattle.coderows.specs.Look.{Finds, Formed, bodyRows}
+use Rattle.coderows.specs.declared.Found.{Found}
 use Rattle.run2000.specs.Runs.{shownIn, ran, runAct, RunReady, nameIn}
 use Rattle.run2000.proofs.Written.{RunOf, run-written, shown-same}
 use Rattle.node2000.specs.Nodes.{nodeAt, act, NodesReady}

@@ -14,7 +14,7 @@ use Rattle.rules.specs.Access2000.{Prop, runAt}
 use Rattle.rules.specs.Read2000.{controlOf}
 use Rattle.rows.specs.Writing.{State}
 use Rattle.rows.specs.Acts.{Nodes, Stood, actBy, Ready}
-use Rattle.codetable.specs.Look.{Placed}
+use Rattle.coderows.specs.Look.{Placed}
 
 -- an entry without its list
 unfoldable pub nodeAt : List ℕ → ℕ → Nodes Prop

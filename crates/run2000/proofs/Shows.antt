@@ -17,8 +17,8 @@ use Rattle.rules.specs.Read2000.{property, shown, typeCode}
 use Rattle.rules.specs.declared.Name.{Name}
 use Rattle.rules.specs.declared.Property.{Property}
 use Rattle.rules.specs.declared.Value.{Value}
-use Rattle.codetable.specs.Look.{asRow}
-use Rattle.codetable.specs.declared.Row.{Row}
+use Rattle.coderows.specs.Look.{asRow}
+use Rattle.coderows.specs.declared.Row.{Row}
 use Rattle.run2000.specs.Runs.{prop, shownIn, nameAt}
 
 module _ (ties : List Tie) (s : List ℕ) (id st sz : ℕ) (row : Row) (re : row ≡ asRow (find (isTied id) ties)) (bytes : List ℕ) (be : bytes ≡ part s st sz) (v : Value) where

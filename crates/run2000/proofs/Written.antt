@@ -9,8 +9,8 @@ use Rattle.rules.specs.Access2000.{Prop}
 use Rattle.rules.specs.Read2000.{propertyIn}
 use Rattle.rules.specs.declared.Property.{Property}
 use Rattle.rows.specs.Writing.{writeProperties}
-use Rattle.codetable.specs.Look.{Finds, Formed, bodyRows}
-use Rattle.codetable.specs.declared.Found.{Found}
+use Rattle.coderows.specs.Look.{Finds, Formed, bodyRows}
+use Rattle.coderows.specs.declared.Found.{Found}
 use Rattle.run2000.specs.Runs.{shownIn, ran, runAct}
 
 pub record RunOf (f : Prop → Property) (x : List Prop × ℕ) (old : List ℕ) (first : ℕ) (new : List ℕ) (row next : ℕ) : Type 0 where

@@ -19,8 +19,8 @@ use Rattle.rules.specs.declared.Name.the-variants.{Text, Numbered}
 use Rattle.rules.specs.declared.Property.{Property}
 use Rattle.rows.specs.Writing.{writeProperties}
 use Rattle.rows.specs.Acts.{Held}
-use Rattle.codetable.specs.Look.{Sorted, bodyRows}
-use Rattle.codetable.specs.declared.Found.{Found}
+use Rattle.coderows.specs.Look.{Sorted, bodyRows}
+use Rattle.coderows.specs.declared.Found.{Found}
 use Rattle.run2000.specs.declared.Naming.{Naming}
 
 -- ---- a property, and a run of them

@@ -1,8 +1,8 @@
 // A run of an Access 2000 stream: its properties written as rows, and the name that it holds.
-use codetable::Found;
-use codetable::Row;
-use codetable::find_row;
-use codetable::row_hint;
+use coderows::Found;
+use coderows::Row;
+use coderows::find_row;
+use coderows::row_hint;
 use leaf::is_utf16;
 use propvalue::stored_value;
 use propvalue::value_as;
@@ -16,7 +16,7 @@ ghost use mathlib.Core.Option.{some};
 ghost use Prim.Native.Nat.{_+_, _≤_};
 ghost use lib.Bits.{bitOr};
 ghost use lib.ListN.{length};
-ghost use Rattle.codetable.specs.Look.{bodyRows};
+ghost use Rattle.coderows.specs.Look.{bodyRows};
 ghost use Rattle.rules.specs.Bytes.{part};
 ghost use Rattle.rules.specs.Access2000.{runAt};
 ghost use Rattle.run2000.specs.Runs as runs;

@@ -8,7 +8,7 @@ use denote.Ref.{now}
 use lib.Dec.{eqb}
 use borrow.Author.Tests.{not-true, not-false}
 use Rattle.rules.specs.CodeTable.{scopesFit}
-use Rattle.codetable.specs.Look.{scopesFrom}
+use Rattle.codetable.specs.Reads.{scopesFrom}
 use Rattle.codetable.proofs.Steps.{ScopeRead, scopes-at-zero, scopes-kind, scopes-code, code-ok, scopes-low, scopes-rows, scopes-step, scopes-done}
 use Rattle.codetable.proofs.scopes_fit.Statement.{statement}
 use Rattle.codetable.proofs.scopes_fit.Tie as tie

@@ -4,7 +4,7 @@ use Prim.Native.Nat.{_+_, _*_, _^_, _<_, _≤_}
 use mathlib.Core.Path.{_≡_, sym, _∙_}
 use denote.Ref.{now}
 use Rattle.rules.specs.CodeTable.{tiesAt, tiesOk}
-use Rattle.codetable.specs.Look.{tiesFrom}
+use Rattle.codetable.specs.Reads.{tiesFrom}
 use Rattle.codetable.proofs.Steps.{TieRead, ties-at-zero, ties-low, ties-id, ties-target, ties-kind, ties-step, ties-done}
 use Rattle.codetable.proofs.ties_ok.Statement.{statement}
 use Rattle.codetable.proofs.ties_ok.Tie as tie

@@ -1,6 +1,6 @@
 use borrow.Author.Needs.{needs}
 use denote.Ref.{now}
-use Rattle.codetable.specs.Look.{Finds}
+use Rattle.coderows.specs.Look.{Finds}
 use Rattle.form2000.proofs.Whole.{own-ready, top-ready, top-done, write-plain, write-bad}
 use Rattle.form2000.proofs.write.Statement.{statement}
 use Rattle.form2000.proofs.write.Tie as tie

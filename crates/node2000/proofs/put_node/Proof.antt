@@ -1,7 +1,7 @@
 use native.Mathlib.Omega.{arith}
 use borrow.Author.Needs.{needs}
 use denote.Ref.{now}
-use Rattle.codetable.specs.Look.{Finds}
+use Rattle.coderows.specs.Look.{Finds}
 use Rattle.node2000.proofs.NodeLaws.{node-inside, node-run-ready, node-small, node-rows, node-row-room, node-done}
 use Rattle.node2000.proofs.put_node.Statement.{statement}
 use Rattle.node2000.proofs.put_node.Tie as tie

@@ -7,7 +7,7 @@ use denote.Ref.{now}
 use lib.ListN.{length}
 use Rattle.rules.specs.Access2000.{goesOn}
 use Rattle.rules.proofs.Access2000Laws.{past-end}
-use Rattle.codetable.specs.Look.{bodyRows}
+use Rattle.coderows.specs.Look.{bodyRows}
 use Rattle.walk2000.proofs.Runs.{starts, stops, ends}
 use Rattle.run2000.specs.Runs.{shownIn, RunFits}
 use Rattle.run2000.proofs.Shows.{shown-six}

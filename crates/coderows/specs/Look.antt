@@ -1,42 +1,20 @@
--- The answers of the code, read in the terms of document 01's code table; and its tests and look-ups as they go on from the middle.
+-- The answers of the code, read in the terms of document 01's code table, and its look-ups as they go on from the middle.
 use Prim.Native.Nat.{ℕ, zero, suc, _+_, _*_, _<_}
 use mathlib.Core.Path.{_≡_}
 use mathlib.Core.List.{List, [], _∷_, map}
-use mathlib.Core.Bool.{Bool, true, _&&_}
+use mathlib.Core.Bool.{true}
 use mathlib.Core.Option.{Option, none, some}
 use lib.Dec.{eqb}
-use lib.ListN.{length, getD}
-use Rattle.rules.specs.Lists.{all, find, ascends}
+use lib.ListN.{getD}
+use Rattle.rules.specs.Lists.{find, ascends}
 use Rattle.rules.specs.Bytes.{byte, u16}
-use Rattle.rules.specs.CodeTable.{Tie, idOf, keyOf, key, tiesAt, scopesAt, scopeCount, contentsAt, bodiesAt, tieOk, scopeOk, rowCount, wellFormed, isTied, scopeRows}
-use Rattle.codetable.specs.declared.Found.{Found}
-use Rattle.codetable.specs.declared.Found.the-variants.{Body, Nowhere}
-use Rattle.codetable.specs.declared.Row.{Row}
-use Rattle.codetable.specs.declared.Row.the-variants.{Tied, Untied}
-use Rattle.codetable.specs.declared.RowRead.{RowRead}
-use Rattle.codetable.specs.declared.Place.{Place}
-use Rattle.codetable.specs.declared.Place.the-variants.{At, Missing}
-
--- what a read gives: the number, and that it is small
-pub record Small (x bound r : ℕ) : Type 0 where
-  pub is : r ≡ x
-  pub small : r < bound
-
--- the numbers of the row at a place
-pub record ReadsRow (t : List ℕ) (at : ℕ) (r : RowRead) : Type 0 where
-  pub id : Small (byte t at) 256 (r .id)
-  pub target : Small (u16 t (at + 1)) 65536 (r .target)
-  pub kind : Small (byte t (at + 3)) 256 (r .kind)
-
--- ---- well-formedness of what is left, from the least id or key that may come next
-unfoldable pub tiesFrom : ℕ → List Tie → Bool
-tiesFrom least rs = ascends least (map idOf rs) && all tieOk rs
-
-unfoldable pub scopesFrom : List ℕ → ℕ → ℕ → ℕ → ℕ → Bool
-scopesFrom t least at body n =
-    ascends least (map key (scopesAt t at body n))
-    && all scopeOk (scopesAt t at body n)
-    && eqb (body + 4 * rowCount (scopesAt t at body n)) (length t)
+use Rattle.rules.specs.CodeTable.{Tie, idOf, keyOf, tiesAt, scopeCount, contentsAt, bodiesAt, wellFormed, isTied, scopeRows}
+use Rattle.coderows.specs.declared.Found.{Found}
+use Rattle.coderows.specs.declared.Found.the-variants.{Body, Nowhere}
+use Rattle.coderows.specs.declared.Row.{Row}
+use Rattle.coderows.specs.declared.Row.the-variants.{Tied, Untied}
+use Rattle.coderows.specs.declared.Place.{Place}
+use Rattle.coderows.specs.declared.Place.the-variants.{At, Missing}
 
 abbrev pub Formed : List ℕ → Type 0
 Formed t = wellFormed t ≡ true

@@ -3,11 +3,11 @@ use borrow.Author.Needs.{needs}
 use Prim.Native.Nat.{_<_}
 use denote.Ref.{now}
 use Rattle.rules.proofs.CodeTableLaws.{formed}
-use Rattle.codetable.proofs.Scopes.{Sought, missing-rows, placed-rows}
-use Rattle.codetable.proofs.Lookup.{finds}
-use Rattle.codetable.proofs.Starts.{placed-start}
-use Rattle.codetable.proofs.find_scope.Statement.{statement}
-use Rattle.codetable.proofs.find_scope.Tie as tie
+use Rattle.coderows.proofs.Scopes.{Sought, missing-rows, placed-rows}
+use Rattle.coderows.proofs.Lookup.{finds}
+use Rattle.coderows.proofs.Starts.{placed-start}
+use Rattle.coderows.proofs.find_scope.Statement.{statement}
+use Rattle.coderows.proofs.find_scope.Tie as tie
 
 -- what the search for the scope gives
 sought : (c : tie.After-find-index)

@@ -4,10 +4,10 @@ use Prim.Native.Nat.{_-_, _≤_}
 use mathlib.Core.Path.{_≡_, refl}
 use mathlib.Core.Logic.{inl, inr}
 use denote.Ref.{now}
 use Rattle.codetable.proofs.Steps.{Counts}
-use Rattle.codetable.proofs.Starts.{Filled, filled-none, filled-next, all-placed}
-use Rattle.codetable.proofs.scope_starts.Statement.{statement}
-use Rattle.codetable.proofs.scope_starts.Tie as tie
+use Rattle.coderows.proofs.Starts.{Filled, filled-none, filled-next, all-placed}
+use Rattle.coderows.proofs.scope_starts.Statement.{statement}
+use Rattle.coderows.proofs.scope_starts.Tie as tie
 
 abbrev Inv-loop : tie.InvT-loop
 Inv-loop table scopes starts₀ at₀ body₀ i₀ starts at body i = Filled table starts at₀ body₀ at body i × (i ≤ 64)

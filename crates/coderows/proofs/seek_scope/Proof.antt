@@ -3,10 +3,10 @@ use borrow.Author.Needs.{needs}
 use Prim.Native.Nat.{ℕ, _+_, _*_, _/_, _≤_}
 use mathlib.Core.Path.{_≡_, sym, ap}
 use denote.Ref.{now}
-use Rattle.codetable.specs.Look.{keyAt, asPlace}
-use Rattle.codetable.proofs.Halves.{Narrowed, begin, not-there, Turn, hit, go-up, go-down}
-use Rattle.codetable.proofs.seek_scope.Statement.{statement}
-use Rattle.codetable.proofs.seek_scope.Tie as tie
+use Rattle.coderows.specs.Look.{keyAt, asPlace}
+use Rattle.coderows.proofs.Halves.{Narrowed, begin, not-there, Turn, hit, go-up, go-down}
+use Rattle.coderows.proofs.seek_scope.Statement.{statement}
+use Rattle.coderows.proofs.seek_scope.Tie as tie
 
 abbrev Inv-loop : tie.InvT-loop
 Inv-loop table contents n wanted first₀ scopes₀ first scopes =

@@ -8,9 +8,9 @@ use mathlib.Core.Option.{none, some}
 use native.Mathlib.Nat.{zero-add, add-zero, suc-add, mul-zero, mul-suc, not-suc-le-zero}
 use native.Mathlib.Omega.{arith}
 use Rattle.rules.specs.Lists.{find, ascends}
-use Rattle.codetable.specs.Look.{itemsAt, findBy}
+use Rattle.coderows.specs.Look.{itemsAt, findBy}
 use Rattle.rules.proofs.ListLaws.{ascends-head}
-use Rattle.codetable.proofs.Ascending.{ascends-from, front-ascends, back-ascends, by-number, find-back, find-front}
+use Rattle.coderows.proofs.Ascending.{ascends-from, front-ascends, back-ascends, by-number, find-back, find-front}
 
 next-at : (w at m : ℕ) → at + w + w * m ≡ at + w * suc m
 next-at w at m = rw (mul-suc w m) (omega arith)

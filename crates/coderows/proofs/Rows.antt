@@ -7,9 +7,9 @@ use native.Mathlib.Omega.{arith}
 use Rattle.rules.specs.Lists.{find}
 use Rattle.rules.specs.Bytes.{byte, u16}
 use Rattle.rules.specs.CodeTable.{idOf, tieAt, tiesAt, isTied}
-use Rattle.codetable.specs.declared.Row.the-variants.{Tied, Untied}
-use Rattle.codetable.specs.Look.{itemsAt, Sorted, asRow}
-use Rattle.codetable.proofs.Halves.{Narrowed, not-there, Turn, hit}
+use Rattle.coderows.specs.declared.Row.the-variants.{Tied, Untied}
+use Rattle.coderows.specs.Look.{itemsAt, Sorted, asRow}
+use Rattle.coderows.proofs.Halves.{Narrowed, not-there, Turn, hit}
 
 ties-as-items : (t : List ℕ) (at n : ℕ) → tiesAt t at n ≡ itemsAt (tieAt t) 4 at n
 unfolding tiesAt itemsAt

@@ -12,8 +12,8 @@ use borrow.Author.Tests.{ltb-true, ltb-false}
 use lib.ListN.{length, set, getD, length-set}
 use lib.Seq.{getD-set-same, getD-set-other}
 use Rattle.rules.specs.Bytes.{u16}
-use Rattle.codetable.specs.Look.{countsTo, Placed}
+use Rattle.coderows.specs.Look.{countsTo, Placed}
 use Rattle.codetable.proofs.Steps.{Counts}
 
 -- the starts of the first i scopes are written down
 pub record Filled (t starts : List ℕ) (contents bodies at body i : ℕ) : Type 0 where

@@ -2,9 +2,9 @@ use native.Mathlib.Omega.{arith}
 use borrow.Author.Needs.{needs}
 use mathlib.Core.Path.{sym, _∙_}
 use Rattle.rules.specs.Lists.{find}
-use Rattle.codetable.specs.Look.{bodyRows, asRow}
-use Rattle.codetable.proofs.find_row.Statement.{statement}
-use Rattle.codetable.proofs.find_row.Tie as tie
+use Rattle.coderows.specs.Look.{bodyRows, asRow}
+use Rattle.coderows.proofs.find_row.Statement.{statement}
+use Rattle.coderows.proofs.find_row.Tie as tie
 
 returns : tie.Need-returns
 unfolding bodyRows find asRow

@@ -4,10 +4,10 @@ use Prim.Native.Nat.{_+_, _*_, _^_, _<_}
 use mathlib.Core.Path.{refl}
 use denote.Ref.{now}
 use Rattle.rules.specs.CodeTable.{idOf, tieAt}
-use Rattle.codetable.proofs.Halves.{Narrowed, begin, Turn, go-up, go-down}
-use Rattle.codetable.proofs.Rows.{row-hit, row-none}
-use Rattle.codetable.proofs.seek_row.Statement.{statement}
-use Rattle.codetable.proofs.seek_row.Tie as tie
+use Rattle.coderows.proofs.Halves.{Narrowed, begin, Turn, go-up, go-down}
+use Rattle.coderows.proofs.Rows.{row-hit, row-none}
+use Rattle.coderows.proofs.seek_row.Statement.{statement}
+use Rattle.coderows.proofs.seek_row.Tie as tie
 
 abbrev Inv-loop : tie.InvT-loop
 Inv-loop table start n wanted near at₀ rows₀ half₀ at rows half =

@@ -9,7 +9,7 @@ use lib.Dec.{eqb}
 use borrow.Author.Tests.{le-leb, eq-eqb, ne-eqb, eqb-true}
 use Rattle.rules.specs.Lists.{find, ascends}
 use Rattle.rules.proofs.ListLaws.{ascends-head, ascends-least, there-found}
-use Rattle.codetable.specs.Look.{findBy}
+use Rattle.coderows.specs.Look.{findBy}
 
 module _ {A : Type 0} (f : A → ℕ) where
   pub ascends-cons : (least : ℕ) (y : A) (ys : List A) → least ≤ f y → ascends (f y + 1) (map f ys) ≡ true → ascends least (map f (y ∷ ys)) ≡ true

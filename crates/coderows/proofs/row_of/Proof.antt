@@ -1,9 +1,9 @@
 use borrow.Author.Needs.{needs}
 use mathlib.Core.Path.{_∙_}
 use denote.Ref.{now}
-use Rattle.codetable.proofs.Lookup.{body-answers}
-use Rattle.codetable.proofs.row_of.Statement.{statement}
-use Rattle.codetable.proofs.row_of.Tie as tie
+use Rattle.coderows.proofs.Lookup.{body-answers}
+use Rattle.coderows.proofs.row_of.Statement.{statement}
+use Rattle.coderows.proofs.row_of.Tie as tie
 
 returns : tie.Need-returns
 returns c =

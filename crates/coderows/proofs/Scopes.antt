@@ -12,12 +12,12 @@ use borrow.Author.Tests.{eqb-true, eqb-false, eq-eqb, ne-eqb}
 use Rattle.rules.specs.Lists.{find, ascends}
 use Rattle.rules.specs.Bytes.{Bytes, byte, u16}
 use Rattle.rules.specs.CodeTable.{Tie, Scope, key, keyOf, tiesAt, scopesAt, scopes, scopeCount, contentsAt, bodiesAt, isScope, rowsOf, scopeRows}
-use Rattle.codetable.specs.declared.Found.the-variants.{Body, Nowhere}
-use Rattle.codetable.specs.declared.Place.{Place}
-use Rattle.codetable.specs.declared.Place.the-variants.{At, Missing}
-use Rattle.codetable.specs.Look.{Formed, findBy, itemsAt, indexes, keyAt, countAt, countsTo, asPlace, KeysAscend, Seeks, bodyRows}
+use Rattle.coderows.specs.declared.Found.the-variants.{Body, Nowhere}
+use Rattle.coderows.specs.declared.Place.{Place}
+use Rattle.coderows.specs.declared.Place.the-variants.{At, Missing}
+use Rattle.coderows.specs.Look.{Formed, findBy, itemsAt, indexes, keyAt, countAt, countsTo, asPlace, KeysAscend, Seeks, bodyRows}
 use Rattle.rules.proofs.CodeTableLaws.{formed}
 use Rattle.codetable.proofs.Steps.{Counts}
 
 same-key : (k c kind code : ℕ) → c < 65536 → code < 65536 → (eqb k kind && eqb c code) ≡ eqb (keyOf k c) (keyOf kind code)
 same-key k c kind code p q = go (eqb k kind) refl (eqb c code) refl

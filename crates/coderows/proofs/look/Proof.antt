@@ -4,10 +4,10 @@ use Prim.Native.Nat.{_+_, _*_}
 use mathlib.Core.Path.{refl}
 use denote.Ref.{now}
 use Rattle.rules.specs.CodeTable.{idOf, tieAt}
-use Rattle.codetable.proofs.Halves.{begin}
-use Rattle.codetable.proofs.Rows.{row-hit, not-tied}
-use Rattle.codetable.proofs.look.Statement.{statement}
-use Rattle.codetable.proofs.look.Tie as tie
+use Rattle.coderows.proofs.Halves.{begin}
+use Rattle.coderows.proofs.Rows.{row-hit, not-tied}
+use Rattle.coderows.proofs.look.Statement.{statement}
+use Rattle.coderows.proofs.look.Tie as tie
 
 returns : tie.Need-returns
 returns c =

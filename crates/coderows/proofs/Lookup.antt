@@ -7,12 +7,12 @@ use mathlib.Core.Option.{Option, none, some}
 use native.Mathlib.Omega.{arith}
 use Rattle.rules.specs.Lists.{all, find, ascends}
 use Rattle.rules.specs.CodeTable.{Tie, Scope, scopes, tieOk, scopeOk, isScope, isTied, rowsOf, scopeRows, rowOf}
-use Rattle.codetable.specs.declared.Found.{Found}
-use Rattle.codetable.specs.declared.Row.the-variants.{Tied}
-use Rattle.codetable.specs.Look.{Formed, Sorted, Finds, bodyRows, asRow}
+use Rattle.coderows.specs.declared.Found.{Found}
+use Rattle.coderows.specs.declared.Row.the-variants.{Tied}
+use Rattle.coderows.specs.Look.{Formed, Sorted, Finds, bodyRows, asRow}
 use Rattle.rules.proofs.ListLaws.{all-there, found-there}
 use Rattle.rules.proofs.CodeTableLaws.{formed, rows-ascend}
 use Rattle.codetable.proofs.WellFormed.{rows-ok, Limits, limits}
 
 module _ (t : List ℕ) (kind code : ℕ) (F : Formed t) where
   -- a scope that is found is well formed

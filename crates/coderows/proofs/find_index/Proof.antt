@@ -3,10 +3,10 @@ use borrow.Author.Needs.{needs}
 use Prim.Native.Nat.{ℕ, _+_, _*_}
 use mathlib.Core.Path.{_≡_, sym, ap}
 use denote.Ref.{now}
-use Rattle.codetable.specs.Look.{keyAt, asPlace}
-use Rattle.codetable.proofs.Halves.{begin, Turn, hit}
-use Rattle.codetable.proofs.find_index.Statement.{statement}
-use Rattle.codetable.proofs.find_index.Tie as tie
+use Rattle.coderows.specs.Look.{keyAt, asPlace}
+use Rattle.coderows.proofs.Halves.{begin, Turn, hit}
+use Rattle.coderows.proofs.find_index.Statement.{statement}
+use Rattle.coderows.proofs.find_index.Tie as tie
 
 -- the scope that was told is looked at
 turn : (c : tie.After-word)
