@@ -9,6 +9,7 @@ ghost use Rattle.rules.specs.Utf16.{paired, isUtf16, isHigh, isLow};
 ghost use Rattle.rules.specs.Value.{signed, word32, integerValue, widened, widenedNan};
 ghost use Rattle.leaf.specs.Int.{intOf, shortOf};
 ghost use Rattle.leaf.specs.Wide.{wordsOf, bitsOf};
+ghost use Rattle.leaf.specs.Plain.{plainFour};
 
 // ---- bytes
 pub fn byte_at(s: &[u8], at: usize) -> u8
@@ -173,12 +174,45 @@ fn is_low(u: u16) -> bool
     if u < 0xdc00 { false } else { u < 0xe000 }
 }
 
+// None of the four units from `at` on is a surrogate or above.
+fn plain_four(bytes: &[u8], at: usize) -> bool
+    requires { ⌜ at + 8 ≤ length (now bytes) ⌝ }
+    ensures { λ r. ⌜ r ≡ plainFour (now (bytes .entry)) at ⌝ }
+{
+    if 0xd8 <= bytes[at + 1] {
+        return false;
+    }
+    if 0xd8 <= bytes[at + 3] {
+        return false;
+    }
+    if 0xd8 <= bytes[at + 5] {
+        return false;
+    }
+    bytes[at + 7] < 0xd8
+}
+
+// Passes over the units from `start` on, four at a time, as long as none of the four is a surrogate.
+fn past_fours(bytes: &[u8], start: usize) -> usize
+    requires { ⌜ start ≤ length (now bytes) ⌝ }
+    ensures { λ r. ⌜ (r ≤ length (now (bytes .entry))) × (paired false (drop start (now (bytes .entry))) ≡ paired false (drop r (now (bytes .entry)))) ⌝ }
+{
+    let mut i = start;
+    while 7 < bytes.len() - i {
+        if plain_four(bytes, i) {
+            i += 8;
+        } else {
+            return i;
+        }
+    }
+    i
+}
+
 // Passes over the units from `start` on that are no surrogates, most often all there are.
 fn past_plain(bytes: &[u8], start: usize) -> usize
     requires { ⌜ start ≤ length (now bytes) ⌝ }
     ensures { λ r. ⌜ (r ≤ length (now (bytes .entry))) × (paired false (drop start (now (bytes .entry))) ≡ paired false (drop r (now (bytes .entry)))) ⌝ }
 {
-    let mut i = start;
+    let mut i = past_fours(bytes, start);
     while 1 < bytes.len() - i {
         if 0xd800 <= u16_at(bytes, i) {
             return i;

@@ -18,7 +18,7 @@ abbrev μ-loop : tie.MeasureT-loop
 loop-again : tie.Need-loop-again Inv-loop μ-loop
 loop-again c =
     let l = c .before .before .before in
-    let b = c .before .before .before .before .before .args .bytes .now in
+    let b = c .before .before .before .before .before .before .args .bytes .now in
     (omega arith, l .loop .inv .1 ∙ plain b (l .loop .i) (omega arith) (omega (arith, c .before .u16-at .ensures, c .if1 .left)))
 
 pub past-plain-spec : {M : Type 1} → statement M
@@ -27,7 +27,8 @@ past-plain-spec =
     (tie.spec
     Inv-loop
     μ-loop
-    (λ c. (c .before .pre, refl))
+    (λ c κs. search needs)
+    (λ c. c .past-fours .ensures)
     (λ c. omega arith)
     (λ c κs. tt)
     (λ c. c .before .before .before .loop .inv)
