@@ -1,5 +1,6 @@
 -- Matches, one at a time: the bound on the number of steps does not matter.
 use Prim.Native.Nat.{ℕ, zero, suc, _+_, _-_, _≤_, _<_}
+use native.Mathlib.Numerals.{add-one}
 use native.Mathlib.Omega.{arith}
 use mathlib.Core.Path.{_≡_, refl, sym, ap, ap₂, _∙_}
 use mathlib.Core.Bool.{Bool, true, false, cond, not, _&&_}
@@ -12,7 +13,7 @@ use Rattle.rules.specs.Bytes.{byte, u16, u32}
 use Rattle.rules.specs.Tree.{Node, node}
 use Rattle.rules.specs.Later.{Prop, groupAt, matchAt, matchesOf, matchesFrom, groupsOf, isEmpty, scanFrom}
 use Rattle.rules.proofs.ListLaws.{and-l, and-r}
-use Rattle.countlater.specs.Count.{inMatch, NextMatch}
+use Rattle.countlater.specs.Count.{ruledOut, noneOf, NextMatch}
 
 pub match-past : (s : List ℕ) (p : ℕ) → length s < p + 6 → matchAt s p ≡ false
 unfolding matchAt
@@ -54,16 +55,8 @@ on-to (suc k) s p h =
 pub match-none : (s : List ℕ) (p : ℕ) → p ≤ length s → length s < p + 6 → matchesFrom s p ≡ matchesFrom s (length s)
 match-none s p h l = on-to (length s - p) s p (λ q a b. match-past s q (omega arith)) ∙ ap (matchesFrom s) (omega arith)
 
--- the bytes of a match
-pub record MatchBytes (s : List ℕ) (q : ℕ) : Type 0 where
-  pub first : byte s q ≡ 0x14
-  pub second : byte s (q + 1) ≡ 0
-  pub third : byte s (q + 2) ≡ 0x0A
-  pub fourth : byte s (q + 2 + 1) ≡ 0
-  pub fifth : byte s (q + 2 + 2) ≡ 0
-  pub sixth : byte s (q + 2 + 2 + 1) ≡ 0
-
-match-bytes : (s : List ℕ) (q : ℕ) → matchAt s q ≡ true → MatchBytes s q
+-- ---- places ruled out
+match-bytes : (s : List ℕ) (q : ℕ) → matchAt s q ≡ true → (byte s q ≡ 0x14) × (byte s (q + 2) ≡ 0x0A)
 unfolding matchAt u16 u32
 match-bytes s q t =
     let room = leb (q + 6) (length s) in
@@ -71,31 +64,31 @@ match-bytes s q t =
     let four = eqb (u32 s (q + 2)) 0x0A in
     let a : u16 s q ≡ 0x14 = eqb-true _ _ (and-r room two (and-l (room && two) four t)) in
     let b : u32 s (q + 2) ≡ 0x0A = eqb-true _ _ (and-r (room && two) four t) in
-    record { first = omega (arith, a); second = omega (arith, a); third = omega (arith, b); fourth = omega (arith, b); fifth = omega (arith, b); sixth = omega (arith, b) }
+    (omega (arith, a), omega (arith, b))
 
-in-by : (s : List ℕ) (r p b : ℕ) → r ≡ p → byte s p ≡ b → inMatch b ≡ true → inMatch (byte s r) ≡ true
-in-by s r p b e k h = ap (λ n. inMatch (byte s n)) e ∙ ap inMatch k ∙ h
-
-in-match : (s : List ℕ) (q r i : ℕ) → MatchBytes s q → r ≡ q + i → i ≤ 5 → inMatch (byte s r) ≡ true
-unfolding inMatch
-in-match s q r zero m e l = in-by s r q 0x14 (omega arith) (m .first) refl
-in-match s q r (suc zero) m e l = in-by s r (q + 1) 0 (omega arith) (m .second) refl
-in-match s q r (suc (suc zero)) m e l = in-by s r (q + 2) 0x0A (omega arith) (m .third) refl
-in-match s q r (suc (suc (suc zero))) m e l = in-by s r (q + 2 + 1) 0 (omega arith) (m .fourth) refl
-in-match s q r (suc (suc (suc (suc zero)))) m e l = in-by s r (q + 2 + 2) 0 (omega arith) (m .fifth) refl
-in-match s q r (suc (suc (suc (suc (suc zero))))) m e l = in-by s r (q + 2 + 2 + 1) 0 (omega arith) (m .sixth) refl
-in-match s q r (suc (suc (suc (suc (suc (suc i)))))) m e l = absurd (omega arith)
-
--- six places hold no match where the sixth byte is no match's
-pub match-leap : (s : List ℕ) (p : ℕ) → inMatch (byte s (p + 5)) ≡ false → matchesFrom s p ≡ matchesFrom s (p + 6)
-match-leap s p h = on-to 6 s p (λ q a b. go q a b (matchAt s q) refl)
+no-match : (s : List ℕ) (p : ℕ) → ruledOut (byte s p) (byte s (p + 2)) ≡ true → matchAt s p ≡ false
+no-match s p h = go (matchAt s p) refl
   where
-    go : (q : ℕ) → p ≤ q → q < p + 6 → (t : Bool) → matchAt s q ≡ t → t ≡ false
-    go q a b true e =
-        let k : true ≡ false = sym (in-match s q (p + 5) (p + 5 - q) (match-bytes s q e) (omega arith) (omega arith)) ∙ h in
-        let z : _≡_ {A = ℕ} 0 1 = cc in
-        absurd (omega arith)
-    go q a b false e = refl
+    go : (t : Bool) → matchAt s p ≡ t → t ≡ false
+    go true e =
+        let m = match-bytes s p e in
+        sym h ∙ ap₂ ruledOut (m .0) (m .1)
+    go false e = refl
+
+pub leap-one : (s : List ℕ) (p : ℕ) → ruledOut (byte s p) (byte s (p + 2)) ≡ true → matchesFrom s p ≡ matchesFrom s (p + 1)
+leap-one s p h = match-on s p (no-match s p h)
+
+pub none-more : (n : ℕ) (s : List ℕ) (p : ℕ) → (noneOf n s p && ruledOut (byte s (p + n)) (byte s (p + n + 2))) ≡ noneOf (n + 1) s p
+unfolding noneOf
+none-more n s p = ap (λ k. noneOf k s p) (sym (add-one n))
+
+pub leap : (n : ℕ) (s : List ℕ) (p : ℕ) → noneOf n s p ≡ true → matchesFrom s p ≡ matchesFrom s (p + n)
+unfolding noneOf
+leap zero s p h = ap (matchesFrom s) (omega arith)
+leap (suc n) s p h =
+    let a = noneOf n s p in
+    let b = ruledOut (byte s (p + n)) (byte s (p + n + 2)) in
+    leap n s p (and-l a b h) ∙ leap-one s (p + n) (and-r a b h) ∙ ap (matchesFrom s) (omega arith)
 
 -- ---- the groups of the matches: each reaches to the next match or the end
 groups-next : (s : List ℕ) (a b : ℕ) → b ≤ length s → (b < length s → matchAt s b ≡ true)

@@ -8,7 +8,7 @@ ghost use Prim.Native.Nat.{_+_, _≤_};
 ghost use lib.ListN.{length};
 ghost use Rattle.rules.specs.Later.{endsGroup, groupAt, childrenAt, nodesAt, matchAt};
 ghost use Rattle.rows.specs.Counting.{part1, part, partTop};
-ghost use Rattle.countlater.specs.Count.{item, group, children, head, oneNode, section, wholeTree, inMatch, NextMatch, ScanCounted, CountedBy, Counted};
+ghost use Rattle.countlater.specs.Count.{item, group, children, head, oneNode, section, wholeTree, ruledOut, noneOf, Leapt, NextMatch, ScanCounted, CountedBy, Counted};
 
 // ---- properties and groups
 // A property: its value's size, where the next one starts, and its trailer.
@@ -320,36 +320,72 @@ fn match_at(s: &[u8], at: usize) -> bool
     u16_at(s, at) == 0x14 && u32_at(s, at + 2) == 0x0A
 }
 
-// One of the bytes of a match.
-fn in_match(b: u8) -> bool
-    ensures { λ r. ⌜ r ≡ inMatch b ⌝ }
+// The first and the third byte from a place on are not both a match's.
+fn rules_out(first: u8, third: u8) -> bool
+    ensures { λ r. ⌜ r ≡ ruledOut first third ⌝ }
 {
-    if b == 0x00 {
-        return true;
-    }
-    if b == 0x0A {
-        return true;
-    }
-    b == 0x14
+    if first == 0x14 { third != 0x0A } else { true }
 }
 
-// The first match from `from` on, or the end. Six places hold none where the sixth byte is no match's.
+// A match is ruled out at each of the 32 places from `at` on. No branch and no early end, so that many places are tried at once.
+fn none_in_block(s: &[u8], at: usize) -> bool
+    requires { ⌜ at + 34 ≤ length (now s) ⌝ }
+    ensures { λ r. ⌜ r ≡ noneOf 32 (now (s .entry)) at ⌝ }
+{
+    let mut none = true;
+    let mut i: usize = 0;
+    while i < 32 {
+        none = none & rules_out(s[at + i], s[at + i + 2]);
+        i += 1;
+    }
+    none
+}
+
+// Passes over the places from `from` on, 32 at a time, as long as a match is ruled out at each.
+fn past_blocks(s: &[u8], from: usize) -> usize
+    requires { ⌜ from ≤ length (now s) ⌝ }
+    ensures { λ r. ⌜ Leapt (now (s .entry)) from r ⌝ }
+{
+    let mut p = from;
+    while 33 < s.len() - p {
+        if none_in_block(s, p) {
+            p = p + 32;
+        } else {
+            return p;
+        }
+    }
+    p
+}
+
+// The first place from `from` on where a match is not ruled out, or the end.
+fn next_likely(s: &[u8], from: usize) -> usize
+    requires { ⌜ from ≤ length (now s) ⌝ }
+    ensures { λ r. ⌜ Leapt (now (s .entry)) from r ⌝ }
+{
+    let mut p = past_blocks(s, from);
+    while 5 < s.len() - p {
+        if rules_out(s[p], s[p + 2]) {
+            p = p + 1;
+        } else {
+            return p;
+        }
+    }
+    s.len()
+}
+
+// The first match from `from` on, or the end.
 pub fn find_match(s: &[u8], from: usize) -> usize
     requires { ⌜ from ≤ length (now s) ⌝ }
     ensures { λ r. ⌜ NextMatch (now (s .entry)) from r ⌝ }
 {
-    let mut p = from;
-    while 5 < s.len() - p {
-        if in_match(s[p + 5]) {
-            if match_at(s, p) {
-                return p;
-            }
-            p = p + 1;
-        } else {
-            p = p + 6;
+    let mut p = next_likely(s, from);
+    while p < s.len() {
+        if match_at(s, p) {
+            return p;
         }
+        p = next_likely(s, p + 1);
     }
-    s.len()
+    p
 }
 
 // How many properties the group has that reaches from a match to the next one.

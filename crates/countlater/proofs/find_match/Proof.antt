@@ -1,38 +1,33 @@
 use native.Mathlib.Omega.{arith}
-use borrow.Author.Needs.{needs}
-use mathlib.Core.Path.{_≡_, refl, sym, _∙_}
-use Prim.Native.Nat.{_-_, _≤_}
+use mathlib.Core.Path.{sym, _∙_}
+use Prim.Native.Nat.{_-_}
 use lib.ListN.{length}
-use Rattle.rules.specs.Later.{matchesFrom}
-use Rattle.countlater.proofs.MatchLaws.{match-on, match-none, match-leap}
+use Rattle.countlater.specs.Count.{Leapt}
+use Rattle.countlater.proofs.MatchLaws.{match-on}
 use Rattle.countlater.proofs.find_match.Statement.{statement}
 use Rattle.countlater.proofs.find_match.Tie as tie
 
 abbrev Inv-loop : tie.InvT-loop
-Inv-loop s from p₀ p = (from ≤ p) × (p ≤ length s) × (matchesFrom s from ≡ matchesFrom s p)
+Inv-loop s from p₀ p = Leapt s from p
 
 abbrev μ-loop : tie.MeasureT-loop
 μ-loop s from p₀ p = length s - p
 
-loop-holds : tie.Need-loop-holds Inv-loop μ-loop
-loop-holds c = (omega arith, omega arith, refl)
-
 returns : tie.Need-returns Inv-loop μ-loop
-returns c = record { same = c .before .before .before .before .before .before .loop .inv .2; behind = omega arith; within = omega arith; here = λ _. sym (c .before .match-at .ensures) ∙ c .if2 .taken }
+returns c =
+    let l = c .before .before .before .loop .inv in
+    record { same = l .same; behind = l .behind; within = l .within; here = λ _. sym (c .before .match-at .ensures) ∙ c .if1 .taken }
 
 loop-again : tie.Need-loop-again Inv-loop μ-loop
-loop-again c = (omega arith, omega arith, c .before .before .before .before .before .before .loop .inv .2 ∙ match-on _ _ (sym (c .before .match-at .ensures) ∙ c .if2 .left))
-
-loop-again-2 : tie.Need-loop-again-2 Inv-loop μ-loop
-loop-again-2 c = (omega arith, omega arith, c .before .before .before .before .loop .inv .2 ∙ match-leap _ _ (sym (c .before .in-match .ensures) ∙ c .if1 .left))
+loop-again c =
+    let l = c .before .before .before .before .loop .inv in
+    let n = c .next-likely2 .ensures in
+    record { same = l .same ∙ match-on _ _ (sym (c .before .before .match-at .ensures) ∙ c .before .if1 .left) ∙ n .same; behind = omega (arith, l .behind, n .behind); within = n .within }
 
 returns-2 : tie.Need-returns-2 Inv-loop μ-loop
-returns-2 c = record {
-  same = c .before .loop .inv .2 ∙ match-none _ _ (omega arith) (omega arith);
-  behind = omega arith;
-  within = omega arith;
-  here = λ h. absurd (omega arith);
-}
+returns-2 c =
+    let l = c .before .loop .inv in
+    record { same = l .same; behind = l .behind; within = l .within; here = λ h. absurd (omega arith) }
 
 pub find-match-spec : {M : Type 1} → statement M
 find-match-spec =
@@ -40,11 +35,12 @@ find-match-spec =
     (tie.spec
     Inv-loop
     μ-loop
-    loop-holds
-    (λ c. omega arith) (λ c. omega arith) (λ c. omega arith) (λ c κs. search needs) (λ c κs. search needs)
+    (λ c κs. omega arith)
+    (λ c. c .next-likely .ensures)
+    (λ c κs. tt)
     returns
-    (λ c. omega arith) (λ c. omega arith)
+    (λ c. omega arith)
+    (λ c κs. omega arith)
+    (λ c. omega (arith, c .next-likely2 .ensures .behind))
     loop-again
-    (λ c. omega arith) (λ c. omega arith)
-    loop-again-2
     returns-2)

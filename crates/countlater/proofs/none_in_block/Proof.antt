@@ -1,0 +1,40 @@
+use native.Mathlib.Omega.{arith}
+use mathlib.Core.Path.{_≡_, refl, ap, ap₂, _∙_}
+use mathlib.Core.Bool.{_&&_}
+use Prim.Native.Nat.{_-_, _≤_}
+use Rattle.countlater.specs.Count.{noneOf}
+use Rattle.countlater.proofs.MatchLaws.{none-more}
+use Rattle.countlater.proofs.none_in_block.Statement.{statement}
+use Rattle.countlater.proofs.none_in_block.Tie as tie
+
+abbrev Inv-loop : tie.InvT-loop
+Inv-loop s at none₀ i₀ none i = (i ≤ 32) × (none ≡ noneOf i s at)
+
+abbrev μ-loop : tie.MeasureT-loop
+μ-loop s at none₀ i₀ none i = 32 - i
+
+loop-holds : tie.Need-loop-holds Inv-loop μ-loop
+unfolding noneOf
+loop-holds c = (omega arith, refl)
+
+loop-again : tie.Need-loop-again Inv-loop μ-loop
+loop-again c = (omega arith, ap₂ _&&_ (c .before .before .before .before .loop .inv .1) (c .rules-out .ensures) ∙ none-more _ _ _)
+
+returns : tie.Need-returns Inv-loop μ-loop
+returns c =
+    let a = c .before .before .before .args in
+    let e : c .before .loop .i ≡ 32 = omega arith in
+    c .before .loop .inv .1 ∙ ap (λ n. noneOf n (a .s .now) (a .at)) e
+
+pub none-in-block-spec : {M : Type 1} → statement M
+none-in-block-spec =
+    tie.close
+    (tie.spec
+    Inv-loop
+    μ-loop
+    loop-holds
+    (λ c. omega arith) (λ c. omega arith) (λ c. omega arith) (λ c. omega arith) (λ c. omega arith)
+    (λ c κs. tt)
+    (λ c. omega arith) (λ c. omega arith)
+    loop-again
+    returns)
