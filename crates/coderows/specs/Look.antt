@@ -13,6 +13,7 @@ use Rattle.coderows.specs.declared.Found.{Found}
 use Rattle.coderows.specs.declared.Found.the-variants.{Body, Nowhere}
 use Rattle.coderows.specs.declared.Row.{Row}
 use Rattle.coderows.specs.declared.Row.the-variants.{Tied, Untied}
+use Rattle.coderows.specs.declared.Glance.{Glance}
 use Rattle.coderows.specs.declared.Place.{Place}
 use Rattle.coderows.specs.declared.Place.the-variants.{At, Missing}
 
@@ -73,10 +74,10 @@ asRow (some r) = Tied (r .target) (r .kind)
 abbrev pub Sorted : List Tie → Type 0
 Sorted rs = ascends 0 (map idOf rs) ≡ true
 
--- a row that is told is what the rows say of the id
-abbrev pub Looks : List ℕ → ℕ → ℕ → ℕ → Row → Type 0
-Looks t start n wanted r =
-    (x k : ℕ) → r ≡ Tied x k → Sorted (tiesAt t start n) → r ≡ asRow (find (isTied wanted) (tiesAt t start n))
+-- what one row tells is what the rows say of the id
+pub record Glances (t : List ℕ) (start n wanted : ℕ) (r : Glance) : Type 0 where
+  pub tied : (x k : ℕ) → r ≡ Glance.Tied x k → Sorted (tiesAt t start n) → Tied x k ≡ asRow (find (isTied wanted) (tiesAt t start n))
+  pub untied : r ≡ Glance.Untied → Sorted (tiesAt t start n) → Untied ≡ asRow (find (isTied wanted) (tiesAt t start n))
 
 -- a body of a well-formed table holds the scope's rows, in the order of their ids
 pub record Finds (t : List ℕ) (kind code : ℕ) (body : Found) : Type 0 where

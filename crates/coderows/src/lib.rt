@@ -7,7 +7,7 @@ ghost use mathlib.Core.Path.{_≡_};
 ghost use Prim.Native.Nat.{_+_, _*_, _<_, _^_};
 ghost use Rattle.rules.specs.Lists.{find};
 ghost use Rattle.rules.specs.CodeTable as t;
-ghost use Rattle.coderows.specs.Look.{Placed, Seeks, Finds, Looks, Formed, Sorted, bodyRows, asRow};
+ghost use Rattle.coderows.specs.Look.{Placed, Seeks, Finds, Glances, Formed, Sorted, bodyRows, asRow};
 
 // Where the rows of a scope are.
 pub enum Found {
@@ -19,6 +19,13 @@ pub enum Found {
 pub enum Row {
     Tied { target: u16, kind: u8 },
     Untied,
+}
+
+// What one row tells of an id.
+enum Glance {
+    Tied { target: u16, kind: u8 },
+    Untied,
+    Unseen,
 }
 
 // Which scope of the contents is wanted, counted from 0.
@@ -148,27 +155,32 @@ fn seek_row(table: &[u8], start: usize, n: usize, wanted: usize, near: usize) ->
     Row::Untied
 }
 
-// What the row `near` of n rows says of an id, where it is tied there.
-fn look(table: &[u8], start: usize, n: usize, wanted: usize, near: usize) -> Row
+// What the row `near` of n rows tells of an id: it ties it, or it is the first and already above.
+fn look(table: &[u8], start: usize, n: usize, wanted: usize, near: usize) -> Glance
     requires { ⌜ start + 4 * n < 2 ^ 60 ⌝ }
-    ensures { λ r. ⌜ Looks (now (table .entry)) start n wanted r ⌝ }
+    ensures { λ r. ⌜ Glances (now (table .entry)) start n wanted r ⌝ }
 {
     if near < n {
         let row = read_row(table, start + 4 * near);
         if row.id == wanted {
-            return Row::Tied {
+            return Glance::Tied {
                 target: row.target as u16,
                 kind: row.kind as u8,
             };
         }
+        if near == 0 {
+            if wanted < row.id {
+                return Glance::Untied;
+            }
+        }
     }
-    Row::Untied
+    Glance::Unseen
 }
 
 // About where an id stands among n rows: flags come first, values with a length last.
 fn about(n: usize, id: u8) -> usize {
     if id < 0x30 {
-        return n / 16;
+        return n / 32;
     }
     if id < 0x80 {
         return n / 2;
@@ -187,8 +199,9 @@ pub fn find_row(table: &[u8], body: Found, id: u8, near: usize) -> Row
     let n = count as usize;
     let wanted = id as usize;
     match look(table, at, n, wanted, near) {
-        Row::Tied { target, kind } => Row::Tied { target, kind },
-        Row::Untied => seek_row(table, at, n, wanted, about(n, id)),
+        Glance::Tied { target, kind } => Row::Tied { target, kind },
+        Glance::Untied => Row::Untied,
+        Glance::Unseen => seek_row(table, at, n, wanted, about(n, id)),
     }
 }
 
