@@ -1,6 +1,6 @@
 // Reads an Access 2000 stream with a code table: counts what the reading has, then writes its rows.
+use codehints::note_scopes;
 use coderows::find_scope;
-use coderows::note_scopes;
 use coderows::scope_starts;
 use count2000::Counted;
 use count2000::count;

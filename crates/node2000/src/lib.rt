@@ -1,7 +1,7 @@
 // Writes an entry of an Access 2000 stream without its list: its control row, and its property rows.
+use codehints::scope_hint;
 use coderows::find_scope;
 use codetable::is_header;
-use coderows::scope_hint;
 use leaf::byte_at;
 use leaf::u16_at;
 use rows::Next;

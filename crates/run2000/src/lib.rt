@@ -1,8 +1,8 @@
 // A run of an Access 2000 stream: its properties written as rows, and the name that it holds.
+use codehints::row_hint;
 use coderows::Found;
 use coderows::Row;
 use coderows::find_row;
-use coderows::row_hint;
 use leaf::is_utf16;
 use propvalue::stored_value;
 use propvalue::value_as;

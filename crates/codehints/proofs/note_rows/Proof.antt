@@ -1,8 +1,8 @@
 use native.Mathlib.Omega.{arith}
 use borrow.Author.Needs.{needs}
 use Prim.Native.Nat.{_+_, _*_, _^_, _<_}
-use Rattle.coderows.proofs.note_rows.Statement.{statement}
-use Rattle.coderows.proofs.note_rows.Tie as tie
+use Rattle.codehints.proofs.note_rows.Statement.{statement}
+use Rattle.codehints.proofs.note_rows.Tie as tie
 
 abbrev Inv-loop : tie.InvT-loop
 Inv-loop table start n hints₀ at₀ left₀ row₀ hints at left row = at + 4 * left < 2 ^ 60

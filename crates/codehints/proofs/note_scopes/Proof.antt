@@ -1,8 +1,8 @@
 use native.Mathlib.Omega.{arith}
 use borrow.Author.Needs.{needs}
 use Prim.Native.Nat.{_+_, _*_, _^_, _<_}
-use Rattle.coderows.proofs.note_scopes.Statement.{statement}
-use Rattle.coderows.proofs.note_scopes.Tie as tie
+use Rattle.codehints.proofs.note_scopes.Statement.{statement}
+use Rattle.codehints.proofs.note_scopes.Tie as tie
 
 abbrev Inv-loop : tie.InvT-loop
 Inv-loop table scopes hints₀ at₀ body₀ left₀ scope₀ hints at body left scope = (at + 5 * left < 2 ^ 32) × (body + 262144 * left < 2 ^ 60)
