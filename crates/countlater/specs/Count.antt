@@ -87,6 +87,13 @@ pub record Leapt (s : List ℕ) (p r : ℕ) : Type 0 where
   pub behind : p ≤ r
   pub within : r ≤ length s
 
+-- r is the first match from p on before stop, or stop
+pub record MatchBefore (s : List ℕ) (p stop r : ℕ) : Type 0 where
+  pub same : matchesFrom s p ≡ matchesFrom s r
+  pub behind : p ≤ r
+  pub within : r ≤ stop
+  pub here : r < stop → matchAt s r ≡ true
+
 -- r is the first match from p on, or the end
 pub record NextMatch (s : List ℕ) (p r : ℕ) : Type 0 where
   pub same : matchesFrom s p ≡ matchesFrom s r

@@ -8,7 +8,7 @@ ghost use Prim.Native.Nat.{_+_, _≤_};
 ghost use lib.ListN.{length};
 ghost use Rattle.rules.specs.Later.{endsGroup, groupAt, childrenAt, nodesAt, matchAt};
 ghost use Rattle.rows.specs.Counting.{part1, part, partTop};
-ghost use Rattle.countlater.specs.Count.{item, group, children, head, oneNode, section, wholeTree, ruledOut, noneOf, Leapt, NextMatch, ScanCounted, CountedBy, Counted};
+ghost use Rattle.countlater.specs.Count.{item, group, children, head, oneNode, section, wholeTree, ruledOut, noneOf, Leapt, MatchBefore, NextMatch, ScanCounted, CountedBy, Counted};
 
 // ---- properties and groups
 // A property: its value's size, where the next one starts, and its trailer.
@@ -357,35 +357,46 @@ fn past_blocks(s: &[u8], from: usize) -> usize
     p
 }
 
-// The first place from `from` on where a match is not ruled out, or the end.
-fn next_likely(s: &[u8], from: usize) -> usize
-    requires { ⌜ from ≤ length (now s) ⌝ }
-    ensures { λ r. ⌜ Leapt (now (s .entry)) from r ⌝ }
+// The first match from `from` on before `stop`, or `stop`.
+fn match_before(s: &[u8], from: usize, stop: usize) -> usize
+    requires { ⌜ (from ≤ stop) × (stop + 2 ≤ length (now s)) ⌝ }
+    ensures { λ r. ⌜ MatchBefore (now (s .entry)) from stop r ⌝ }
 {
-    let mut p = past_blocks(s, from);
-    while 5 < s.len() - p {
+    let mut p = from;
+    while p < stop {
         if rules_out(s[p], s[p + 2]) {
             p = p + 1;
         } else {
-            return p;
+            if match_at(s, p) {
+                return p;
+            }
+            p = p + 1;
         }
     }
-    s.len()
+    stop
 }
 
-// The first match from `from` on, or the end.
+// The first match from `from` on, or the end. A block where a match isn't ruled out is gone through place by place, and so are the last places.
 pub fn find_match(s: &[u8], from: usize) -> usize
     requires { ⌜ from ≤ length (now s) ⌝ }
     ensures { λ r. ⌜ NextMatch (now (s .entry)) from r ⌝ }
 {
-    let mut p = next_likely(s, from);
-    while p < s.len() {
-        if match_at(s, p) {
-            return p;
+    let mut p = past_blocks(s, from);
+    while 33 < s.len() - p {
+        let q = match_before(s, p, p + 32);
+        if q < p + 32 {
+            return q;
         }
-        p = next_likely(s, p + 1);
+        p = past_blocks(s, q);
     }
-    p
+    if s.len() - p < 6 {
+        return s.len();
+    }
+    let q = match_before(s, p, s.len() - 5);
+    if q < s.len() - 5 {
+        return q;
+    }
+    s.len()
 }
 
 // How many properties the group has that reaches from a match to the next one.

@@ -1,33 +1,44 @@
 use native.Mathlib.Omega.{arith}
-use mathlib.Core.Path.{sym, _∙_}
-use Prim.Native.Nat.{_-_}
+use mathlib.Core.Path.{_≡_, _∙_}
+use Prim.Native.Nat.{_-_, _≤_}
 use lib.ListN.{length}
-use Rattle.countlater.specs.Count.{Leapt}
-use Rattle.countlater.proofs.MatchLaws.{match-on}
+use Rattle.rules.specs.Later.{matchesFrom}
+use Rattle.countlater.proofs.MatchLaws.{match-none}
 use Rattle.countlater.proofs.find_match.Statement.{statement}
 use Rattle.countlater.proofs.find_match.Tie as tie
 
 abbrev Inv-loop : tie.InvT-loop
-Inv-loop s from p₀ p = Leapt s from p
+Inv-loop s from p₀ p = (from ≤ p) × (p ≤ length s) × (matchesFrom s from ≡ matchesFrom s p)
 
 abbrev μ-loop : tie.MeasureT-loop
 μ-loop s from p₀ p = length s - p
 
+loop-holds : tie.Need-loop-holds Inv-loop μ-loop
+loop-holds c = let b = c .past-blocks .ensures in (b .behind, b .within, b .same)
+
 returns : tie.Need-returns Inv-loop μ-loop
 returns c =
-    let l = c .before .before .before .loop .inv in
-    record { same = l .same; behind = l .behind; within = l .within; here = λ _. sym (c .before .match-at .ensures) ∙ c .if1 .taken }
+    let m = c .before .match-before .ensures in
+    record { same = c .before .before .before .loop .inv .2 ∙ m .same; behind = omega (arith, m .behind); within = omega (arith, m .within); here = λ _. m .here (c .if1 .taken) }
 
 loop-again : tie.Need-loop-again Inv-loop μ-loop
 loop-again c =
-    let l = c .before .before .before .before .loop .inv in
-    let n = c .next-likely2 .ensures in
-    record { same = l .same ∙ match-on _ _ (sym (c .before .before .match-at .ensures) ∙ c .before .if1 .left) ∙ n .same; behind = omega (arith, l .behind, n .behind); within = n .within }
+    let m = c .before .before .match-before .ensures in
+    let b = c .past-blocks2 .ensures in
+    (omega (arith, m .behind, b .behind), b .within, c .before .before .before .before .loop .inv .2 ∙ m .same ∙ b .same)
 
 returns-2 : tie.Need-returns-2 Inv-loop μ-loop
-returns-2 c =
-    let l = c .before .loop .inv in
-    record { same = l .same; behind = l .behind; within = l .within; here = λ h. absurd (omega arith) }
+returns-2 c = record { same = c .before .before .loop .inv .2 ∙ match-none _ _ (omega arith) (omega arith); behind = omega arith; within = omega arith; here = λ h. absurd (omega arith) }
+
+returns-3 : tie.Need-returns-3 Inv-loop μ-loop
+returns-3 c =
+    let m = c .before .match-before2 .ensures in
+    record { same = c .before .before .before .before .loop .inv .2 ∙ m .same; behind = omega (arith, m .behind); within = omega (arith, m .within); here = λ _. m .here (c .if3 .taken) }
+
+returns-4 : tie.Need-returns-4 Inv-loop μ-loop
+returns-4 c =
+    let m = c .before .match-before2 .ensures in
+    record { same = c .before .before .before .before .loop .inv .2 ∙ m .same ∙ match-none _ _ (omega (arith, m .within)) (omega arith); behind = omega arith; within = omega arith; here = λ h. absurd (omega arith) }
 
 pub find-match-spec : {M : Type 1} → statement M
 find-match-spec =
@@ -36,11 +47,18 @@ find-match-spec =
     Inv-loop
     μ-loop
     (λ c κs. omega arith)
-    (λ c. c .next-likely .ensures)
-    (λ c κs. tt)
-    returns
+    loop-holds
+    (λ c. omega arith) (λ c. omega arith)
+    (λ c κs. (omega arith, omega arith))
     (λ c. omega arith)
-    (λ c κs. omega arith)
-    (λ c. omega (arith, c .next-likely2 .ensures .behind))
+    returns
+    (λ c κs. omega (arith, c .before .match-before .ensures .within))
+    (λ c. omega (arith, c .past-blocks2 .ensures .behind))
     loop-again
-    returns-2)
+    (λ c. omega arith)
+    returns-2
+    (λ c. omega arith)
+    (λ c κs. (omega arith, omega arith))
+    (λ c. omega arith)
+    returns-3
+    returns-4)
