@@ -2,5 +2,6 @@
 pub mod Inverse
 pub mod Extents
 pub mod Runs
+pub mod Heads
 pub mod Grows
 pub mod Room
