@@ -1,3 +1,4 @@
 -- What the proofs of several functions use.
 pub mod Entries
+pub mod Tops
 pub mod Streams

@@ -1,12 +1,11 @@
 use Prim.Native.Nat.{_+_, _≤_}
 use native.Mathlib.Omega.{arith}
 use borrow.Author.Needs.{needs}
-use borrow.Author.Tests.{eqb-false}
-use mathlib.Core.Path.{refl, sym, ap, _∙_}
 use mathlib.Core.Logic.{⊎-elim}
 use Rattle.rules.specs.Access2000.{entryAt, entriesAt}
-use Rattle.rows.proofs.TakenLaws.{Choosing, choosing-start, choosing-all, choosing-left, choosing-bad, choosing-more}
-use Rattle.count2000.proofs.Entries.{chosen, chosen-is, chosen-kept, chosen-left, one-room}
+use Rattle.rows.proofs.TakenLaws.{Choosing, choosing-start, choosing-all}
+use Rattle.count2000.proofs.Entries.{one-room}
+use Rattle.count2000.proofs.Tops.{top-refused, top-kept, top-left}
 use Rattle.count2000.proofs.top.Statement.{statement}
 use Rattle.count2000.proofs.top.Tie as tie
 
@@ -21,8 +20,7 @@ unfolding entriesAt
 loop-holds c = (omega arith, choosing-start _ _ _ _)
 
 returns : tie.Need-returns Inv-loop μ-loop
-unfolding entriesAt
-returns c = choosing-bad _ _ _ _ _ _ _ _ (c .before .before .before .before .loop .inv .1) (eqb-false 256 0 refl) (c .before .before .before .loop-test .taken) _ (chosen-is _ _ _ _ (c .before .before .entry .ensures)) (ap chosen (c .enum-told .given .1))
+returns c = top-refused _ _ _ _ _ _ _ (c .before .before .before .before .loop .inv .1) (c .before .before .before .loop-test .taken) _ (omega arith) _ (c .before .before .entry .ensures) (c .enum-told .given .1)
 
 add-all : tie.Need-add-all Inv-loop μ-loop
 add-all c = omega (arith, one-room _ _ _ _ _ _ _ _ (c .before .before .before .before .entry .ensures) (c .before .before .kept .given .1))
@@ -31,12 +29,15 @@ add-theirs : tie.Need-add-theirs Inv-loop μ-loop
 add-theirs c = omega (arith, one-room _ _ _ _ _ _ _ _ (c .before .before .before .before .entry .ensures) (c .before .before .kept .given .1))
 
 loop-again : tie.Need-loop-again Inv-loop μ-loop
-unfolding entriesAt
-loop-again c = let room = one-room _ _ _ _ _ _ _ _ (c .before .before .before .before .entry .ensures) (c .before .before .kept .given .1) in
-    let inv = c .before .before .before .before .before .before .loop .inv .1 in
+loop-again c =
+    let b4 = c .before .before .before .before in
+    let of = c .before .before .kept .given .1 in
+    let inv = b4 .before .before .loop .inv .1 in
+    let more = b4 .before .loop-test .taken in
+    let room = one-room _ _ _ _ _ _ _ _ (b4 .entry .ensures) of in
     ⊎-elim
-    (λ w. (omega (arith, room, w), rw (w .1, w .2) (choosing-more _ _ _ _ _ _ _ _ inv (eqb-false 256 0 refl) (c .before .before .before .before .before .loop-test .taken) _ (chosen-is _ _ _ _ (c .before .before .before .before .entry .ensures)) _ _ _ (chosen-kept _ _ _ _ _ (c .before .before .kept .given .1) (w .0 .taken)))))
-    (λ w. (omega (arith, room, w), rw (w .1, w .2) (choosing-left _ _ _ _ _ _ _ _ inv (eqb-false 256 0 refl) (c .before .before .before .before .before .loop-test .taken) _ (sym (chosen-is _ _ _ _ (c .before .before .before .before .entry .ensures)) ∙ chosen-left _ _ _ _ _ (c .before .before .kept .given .1) (w .0 .left)))))
+    (λ w. (omega (arith, room, w), rw (w .1, w .2) (top-kept _ _ _ _ _ _ _ inv more _ (omega arith) _ (b4 .entry .ensures) _ _ _ _ of (w .0 .taken))))
+    (λ w. (omega (arith, room, w), rw (w .1, w .2) (top-left _ _ _ _ _ _ _ inv more _ (omega arith) _ (b4 .entry .ensures) _ _ _ _ of (w .0 .left))))
     (c .if1 .came)
 
 returns-2 : tie.Need-returns-2 Inv-loop μ-loop
