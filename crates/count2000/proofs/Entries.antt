@@ -1,15 +1,12 @@
 -- An entry by its parts, as the code answers them, and the bytes that it takes.
-use Prim.Native.Nat.{ℕ, _+_, _≤_, _<_}
-use native.Mathlib.Omega.{arith}
+use Prim.Native.Nat.{ℕ, _+_, _≤_}
 use mathlib.Core.Path.{_≡_, refl, sym, ap, _∙_}
 use mathlib.Core.Bool.{Bool, true, false, cond}
 use mathlib.Core.List.{List}
 use mathlib.Core.Option.{Option, none, some}
-use lib.ListN.{length}
 use Rattle.rules.specs.Bytes.{halfAt}
 use Rattle.rules.specs.Tree.{Entry, Entries, isSection}
 use Rattle.rules.specs.Access2000.{Prop, runAt, headAt, closeAt, entryAt, entriesAt}
-use Rattle.rules.proofs.ListLaws.{every-at}
 use Rattle.rows.specs.Counting.{part1, part, partKept}
 use Rattle.rows.specs.declared.Part.{Part}
 use Rattle.rows.proofs.TakenLaws.{part-of, part-bad, part-room, part1-grows, part-grows}
@@ -20,7 +17,7 @@ use Rattle.walk2000.specs.declared.Run.{Run}
 use Rattle.walk2000.specs.declared.Opens.{Opens}
 use Rattle.count2000.specs.declared.One.{One}
 use Rattle.walk2000.proofs.Inverse.{word-of, word-short, run-of, run-bad, opens-plain, opens-listed, opens-bad}
-use Rattle.walk2000.proofs.Grows.{half-within, run-grows, head-grows, entry-grows, entries-grow}
+use Rattle.walk2000.proofs.Grows.{entry-grows, entries-grow}
 
 -- an entry's answer as a part, with all below it; and as a part of the top list
 abbrev pub whole : One → Part

@@ -154,7 +154,8 @@ module _ (t s controls rows : List ℕ) (h : StreamReady t s controls rows) wher
               let a : some n ≡ some (parts .many) = ap (λ v. v .0) w in
               let b : n ≡ parts .many = cc in
               let c : next ≡ parts .first = ap (λ v. v .1) w in
-              (λ i. entriesAt levels s (b i) (c i)) ∙ parts .list
+              let d : entriesAt levels s n next ≡ entriesAt levels s (parts .many) (parts .first) = λ i. entriesAt levels s (b i) (c i) in
+              d ∙ parts .list
 
           pub top-ready : (starts : List ℕ) → Placed t starts → NodesReady t starts s (topNodes (entriesAt levels s n next)) (state controls 0 rows′ row)
           unfolding read2000

@@ -11,20 +11,19 @@ use borrow.Author.Tests.{ltb-true}
 use Rattle.rules.specs.Lists.{_>>=_}
 use Rattle.rules.specs.Bytes.{byte, u16, byteAt, halfAt}
 use Rattle.rules.specs.Answer.{longest}
-use Rattle.rules.specs.CodeTable.{header, rowOf}
+use Rattle.rules.specs.CodeTable.{header}
 use Rattle.rules.specs.Tree.{Node, node}
 use Rattle.rules.specs.Access2000.{Prop, runAt}
 use Rattle.rules.specs.Reading.{nameWords, controlRow}
 use Rattle.rules.specs.Rows.{controlWidth}
 use Rattle.rules.specs.Read2000.{propertyIn, typeCode, isReport, nameId, nameOf, controlOf}
 use Rattle.rules.specs.declared.Name.{Name}
-use Rattle.rules.specs.declared.Property.{Property}
 use Rattle.rules.proofs.ListLaws.{Every, every-if, every-then}
 use Rattle.rows.specs.Put.{put}
 use Rattle.rows.specs.Writing.{State, state, theirs, writeProperties}
 use Rattle.rows.specs.Acts.{Held, Fit, stood}
 use Rattle.rows.proofs.WritingLaws.{theirs-one, write-one}
-use Rattle.coderows.specs.Look.{Finds, Formed, bodyRows}
+use Rattle.coderows.specs.Look.{Finds, bodyRows}
 use Rattle.coderows.specs.declared.Found.{Found}
 use Rattle.run2000.specs.Runs.{shownIn, ran, runAct, RunReady, nameIn}
 use Rattle.run2000.proofs.Written.{RunOf, run-written, shown-same}

@@ -8,12 +8,12 @@ use mathlib.Core.Option.{Option, none, some}
 use lib.Bits.{bitOr}
 use lib.Dec.{leb, ltb, eqb}
 use lib.ListN.{length}
-use Rattle.rules.specs.Lists.{find, has}
+use Rattle.rules.specs.Lists.{find}
 use Rattle.rules.specs.Bytes.{part, u32}
 use Rattle.rules.specs.Utf16.{isUtf16}
 use Rattle.rules.specs.Value.{value, guidValue, storedValue, valueAs}
 use Rattle.rules.specs.CodeTable.{Tie, isTied}
-use Rattle.rules.specs.Read2000.{property, shown, typeCode}
+use Rattle.rules.specs.Read2000.{property, shown}
 use Rattle.rules.specs.declared.Name.{Name}
 use Rattle.rules.specs.declared.Property.{Property}
 use Rattle.rules.specs.declared.Value.{Value}
