@@ -3,13 +3,13 @@ use coderows::Found;
 use codetable::byte;
 use codetable::wide;
 use codetable::word;
-ghost use Prim.Native.Nat.{_+_, _*_, _<_, _^_};
+ghost use Prim.Native.Nat.{_+_, _*_, _<_, _≤_, _^_};
 
 fn row_slot(start: usize, id: usize) -> usize
     requires { ⌜ (start < 2 ^ 60) × (id < 256) ⌝ }
     ensures { λ r. ⌜ r < 4096 ⌝ }
 {
-    (3 * start + id) % 4096
+    (11 * start + id) % 4096
 }
 
 fn scope_slot(code: usize) -> usize
@@ -31,22 +31,23 @@ pub fn row_hint(hints: &[u8; 4352], body: Found, id: u8) -> usize {
     }
 }
 
+// A hint is a byte.
+fn most(n: usize) -> usize
+    ensures { λ r. ⌜ (r ≤ 255) × (r ≤ n) ⌝ }
+{
+    if n < 255 { n } else { 255 }
+}
+
 // Notes the first 255 of n rows.
 fn note_rows(table: &[u8], start: usize, n: usize, hints: &mut [u8; 4352])
     requires { ⌜ start + 4 * n < 2 ^ 60 ⌝ }
 {
-    let mut at = start;
-    let mut left = n;
-    let mut row: u8 = 0;
-    while 0 < left {
-        if 254 < row {
-            return;
-        }
-        let k = row_slot(start, byte(table, at));
-        hints[k] = row;
+    let rows = most(n);
+    let mut row = 0;
+    while row < rows {
+        let k = row_slot(start, byte(table, start + 4 * row));
+        hints[k] = row as u8;
         row += 1;
-        at += 4;
-        left -= 1;
     }
 }
 
