@@ -1,13 +1,19 @@
-// Hints into a code table: which scope is looked at first for a code, and which row of a body for an id. A hint may be wrong; nothing but time rests on it.
-use coderows::Found;
-use codetable::byte;
+// Look-ups in a code table that go first where the last one for the same ended: the scope of a code, the row of an id. Such a hint may be wrong; nothing but time rests on it.
+use coderows::Body;
+use coderows::Glance;
+use coderows::Row;
+use coderows::look;
+use coderows::seek_row;
 use codetable::wide;
-use codetable::word;
-ghost use Prim.Native.Nat.{_+_, _*_, _<_, _≤_, _^_};
+ghost use mathlib.Core.Path.{_≡_};
+ghost use Prim.Native.Nat.{_+_, _*_, _<_, _^_};
+ghost use Rattle.rules.specs.Lists.{find};
+ghost use Rattle.rules.specs.CodeTable.{tiesAt, isTied};
+ghost use Rattle.coderows.specs.Look.{Placed, Finds, Sorted, bodyRows, asRow};
 
 fn row_slot(start: usize, id: usize) -> usize
     requires { ⌜ (start < 2 ^ 60) × (id < 256) ⌝ }
-    ensures { λ r. ⌜ r < 4096 ⌝ }
+    ensures { λ r. ⌜ r < 4352 ⌝ }
 {
     (11 * start + id) % 4096
 }
@@ -18,57 +24,57 @@ fn scope_slot(code: usize) -> usize
     4096 + code % 256
 }
 
-// The scope at which to look first for a code.
-pub fn scope_hint(hints: &[u8; 4352], code: u16) -> usize {
-    wide(hints[scope_slot(code as usize)])
-}
-
-// The row at which to look first for an id.
-pub fn row_hint(hints: &[u8; 4352], body: Found, id: u8) -> usize {
-    match body {
-        Found::Body { start, count: _ } => wide(hints[row_slot(start as usize, id as usize)]),
-        Found::Nowhere => 0,
-    }
-}
-
 // A hint is a byte.
-fn most(n: usize) -> usize
-    ensures { λ r. ⌜ (r ≤ 255) × (r ≤ n) ⌝ }
-{
-    if n < 255 { n } else { 255 }
+fn low_byte(n: usize) -> u8 {
+    (n % 256) as u8
 }
 
-// Notes the first 255 of n rows.
-fn note_rows(table: &[u8], start: usize, n: usize, hints: &mut [u8; 4352])
-    requires { ⌜ start + 4 * n < 2 ^ 60 ⌝ }
+// Where the rows of a scope are, in a well-formed table whose rows start at `starts`.
+pub fn find_scope(
+    table: &[u8],
+    hints: &mut [u8; 4352],
+    starts: &[u32; 64],
+    kind: u8,
+    code: u16,
+) -> Body
+    ensures { λ r. ⌜ (Placed (now (table .entry)) (now (starts .entry)) → Finds (now (table .entry)) kind code r) ⌝ }
 {
-    let rows = most(n);
-    let mut row = 0;
-    while row < rows {
-        let k = row_slot(start, byte(table, start + 4 * row));
-        hints[k] = row as u8;
-        row += 1;
-    }
+    let slot = scope_slot(code as usize);
+    let scope = coderows::find_scope(table, starts, kind, code, wide(hints[slot]));
+    hints[slot] = low_byte(scope.near);
+    let body = scope.body;
+    body
 }
 
-// Notes the first 255 scopes and their rows.
-pub fn note_scopes(table: &[u8], hints: &mut [u8; 4352]) {
-    let scopes = word(table, 2);
-    let mut at = 4 + 2 * byte(table, 1);
-    let mut body = at + 5 * scopes;
-    let mut left = scopes;
-    let mut scope: u8 = 0;
-    while 0 < left {
-        if 254 < scope {
-            return;
-        }
-        let k = scope_slot(byte(table, at + 1));
-        hints[k] = scope;
-        let count = word(table, at + 3);
-        note_rows(table, body, count, hints);
-        scope += 1;
-        at += 5;
-        body += 4 * count;
-        left -= 1;
+// What n rows say of an id, where the ids ascend; the row at which the search ends is noted.
+fn learn_row(
+    table: &[u8],
+    hints: &mut [u8; 4352],
+    slot: usize,
+    start: usize,
+    n: usize,
+    wanted: usize,
+) -> Row
+    requires { ⌜ (slot < 4352) × (start + 4 * n < 2 ^ 60) ⌝ }
+    ensures { λ r. ⌜ (Sorted (tiesAt (now (table .entry)) start n) → r ≡ asRow (find (isTied wanted) (tiesAt (now (table .entry)) start n))) ⌝ }
+{
+    let sought = seek_row(table, start, n, wanted);
+    hints[slot] = low_byte(sought.near);
+    let row = sought.row;
+    row
+}
+
+// What the rows that were found say of an id, where their ids ascend.
+pub fn find_row(table: &[u8], hints: &mut [u8; 4352], body: Body, id: u8) -> Row
+    ensures { λ r. ⌜ (Sorted (bodyRows (now (table .entry)) body) → r ≡ asRow (find (isTied id) (bodyRows (now (table .entry)) body))) ⌝ }
+{
+    let start = body.start as usize;
+    let n = body.count as usize;
+    let wanted = id as usize;
+    let slot = row_slot(start, wanted);
+    match look(table, start, n, wanted, wide(hints[slot])) {
+        Glance::Tied { target, kind } => Row::Tied { target, kind },
+        Glance::Untied => Row::Untied,
+        Glance::Unseen => learn_row(table, hints, slot, start, n, wanted),
     }
 }

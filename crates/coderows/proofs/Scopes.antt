@@ -12,10 +12,9 @@ use borrow.Author.Tests.{eqb-true, eqb-false, eq-eqb, ne-eqb}
 use Rattle.rules.specs.Lists.{find, ascends}
 use Rattle.rules.specs.Bytes.{Bytes, byte, u16}
 use Rattle.rules.specs.CodeTable.{Tie, Scope, key, keyOf, tiesAt, scopesAt, scopes, scopeCount, contentsAt, bodiesAt, isScope, rowsOf, scopeRows}
-use Rattle.coderows.specs.declared.Found.the-variants.{Body, Nowhere}
 use Rattle.coderows.specs.declared.Place.{Place}
 use Rattle.coderows.specs.declared.Place.the-variants.{At, Missing}
-use Rattle.coderows.specs.Look.{Formed, findBy, itemsAt, indexes, keyAt, countAt, countsTo, asPlace, KeysAscend, Seeks, bodyRows}
+use Rattle.coderows.specs.Look.{Formed, findBy, itemsAt, indexes, keyAt, countAt, countsTo, asPlace, KeysAscend, Seeks, rowsFrom, noRows, bodyRows}
 use Rattle.rules.proofs.CodeTableLaws.{formed}
 use Rattle.codetable.proofs.Steps.{Counts}
 
@@ -131,10 +130,10 @@ module _ {t : List ℕ} {kind code h n : ℕ} {p : Place} (S : Sought t kind cod
       rw (S .counts .headers-is, S .counts .scopes-is) (rows-by-key t (S .bytes) kind code (S .code-fits)) in
       sym (e ∙ rw (scopes-placed t contents bodies n) (rows-of-place t contents bodies (keyOf kind code) (indexes 0 n)))
 
-  pub missing-rows : p ≡ Missing → bodyRows t Nowhere ≡ scopeRows t kind code
-  unfolding bodyRows
+  pub missing-rows : p ≡ Missing → bodyRows t noRows ≡ scopeRows t kind code
+  unfolding bodyRows tiesAt
   missing-rows e = ap (rowsAt t contents bodies) (sym (place-none index (sym (S .place .is keys-ascend) ∙ e))) ∙ rows-there
 
-  pub placed-rows : (i : ℕ) → p ≡ At i → bodyRows t (Body (bodies + 4 * countsTo t contents i) (countAt t contents i)) ≡ scopeRows t kind code
+  pub placed-rows : (i : ℕ) → p ≡ At i → bodyRows t (rowsFrom (bodies + 4 * countsTo t contents i) (countAt t contents i)) ≡ scopeRows t kind code
   unfolding bodyRows
   placed-rows i e = ap (rowsAt t contents bodies) (sym (place-some index i (sym (S .place .is keys-ascend) ∙ e))) ∙ rows-there

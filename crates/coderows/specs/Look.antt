@@ -9,8 +9,7 @@ use lib.ListN.{getD}
 use Rattle.rules.specs.Lists.{find, ascends}
 use Rattle.rules.specs.Bytes.{byte, u16}
 use Rattle.rules.specs.CodeTable.{Tie, idOf, keyOf, tiesAt, scopeCount, contentsAt, bodiesAt, wellFormed, isTied, scopeRows}
-use Rattle.coderows.specs.declared.Found.{Found}
-use Rattle.coderows.specs.declared.Found.the-variants.{Body, Nowhere}
+use Rattle.coderows.specs.declared.Body.{Body}
 use Rattle.coderows.specs.declared.Row.{Row}
 use Rattle.coderows.specs.declared.Row.the-variants.{Tied, Untied}
 use Rattle.coderows.specs.declared.Glance.{Glance}
@@ -62,9 +61,14 @@ pub record Seeks (t : List ℕ) (contents n wanted : ℕ) (r : Place) : Type 0 w
   pub inside : (i : ℕ) → r ≡ At i → i < n
 
 -- the rows of a body that was found
-unfoldable pub bodyRows : List ℕ → Found → List Tie
-bodyRows t (Body start count) = tiesAt t start count
-bodyRows t Nowhere = []
+abbrev pub rowsFrom : ℕ → ℕ → Body
+rowsFrom start count = record { start = start; count = count }
+
+abbrev pub noRows : Body
+noRows = rowsFrom 0 0
+
+unfoldable pub bodyRows : List ℕ → Body → List Tie
+bodyRows t body = tiesAt t (body .start) (body .count)
 
 unfoldable pub asRow : Option Tie → Row
 asRow none = Untied
@@ -74,12 +78,12 @@ asRow (some r) = Tied (r .target) (r .kind)
 abbrev pub Sorted : List Tie → Type 0
 Sorted rs = ascends 0 (map idOf rs) ≡ true
 
--- what one row tells is what the rows say of the id
+-- what a row tells is what the rows say of the id
 pub record Glances (t : List ℕ) (start n wanted : ℕ) (r : Glance) : Type 0 where
   pub tied : (x k : ℕ) → r ≡ Glance.Tied x k → Sorted (tiesAt t start n) → Tied x k ≡ asRow (find (isTied wanted) (tiesAt t start n))
   pub untied : r ≡ Glance.Untied → Sorted (tiesAt t start n) → Untied ≡ asRow (find (isTied wanted) (tiesAt t start n))
 
 -- a body of a well-formed table holds the scope's rows, in the order of their ids
-pub record Finds (t : List ℕ) (kind code : ℕ) (body : Found) : Type 0 where
+pub record Finds (t : List ℕ) (kind code : ℕ) (body : Body) : Type 0 where
   pub rows : Formed t → bodyRows t body ≡ scopeRows t kind code
   pub sorted : Formed t → Sorted (bodyRows t body)

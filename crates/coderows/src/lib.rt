@@ -6,12 +6,18 @@ ghost use mathlib.Core.Path.{_≡_};
 ghost use Prim.Native.Nat.{_+_, _*_, _<_, _^_};
 ghost use Rattle.rules.specs.Lists.{find};
 ghost use Rattle.rules.specs.CodeTable as t;
-ghost use Rattle.coderows.specs.Look.{Placed, Seeks, Finds, Glances, Formed, Sorted, bodyRows, asRow};
+ghost use Rattle.coderows.specs.Look.{Placed, Seeks, Finds, Glances, Sorted, noRows, asRow};
 
-// Where the rows of a scope are.
-pub enum Found {
-    Body { start: u32, count: u16 },
-    Nowhere,
+// Where the rows of a scope are, and how many. A scope that is missing has none.
+pub struct Body {
+    pub start: u32,
+    pub count: u16,
+}
+
+// A scope's rows, and the scope at which to look first for them the next time.
+pub struct Scope {
+    pub body: Body,
+    pub near: usize,
 }
 
 // What a scope says of an id.
@@ -20,8 +26,14 @@ pub enum Row {
     Untied,
 }
 
+// What rows say of an id, and the row at which to look first for it the next time.
+pub struct Sought {
+    pub row: Row,
+    pub near: usize,
+}
+
 // What one row tells of an id.
-enum Glance {
+pub enum Glance {
     Tied { target: u16, kind: u8 },
     Untied,
     Unseen,
@@ -93,121 +105,97 @@ pub fn scope_starts(table: &[u8]) -> [u32; 64]
     starts
 }
 
+fn missing(near: usize) -> Scope
+    ensures { λ r. ⌜ r .body ≡ noRows ⌝ }
+{
+    Scope {
+        body: Body { start: 0, count: 0 },
+        near,
+    }
+}
+
 // Where the rows of a scope are, in a well-formed table whose rows start at `starts`. Any scope may be told as near: it is looked at first.
-pub fn find_scope(table: &[u8], starts: &[u32; 64], kind: u8, code: u16, near: usize) -> Found
-    ensures { λ r. ⌜ (Placed (now (table .entry)) (now (starts .entry)) → Finds (now (table .entry)) kind code r) ⌝ }
+pub fn find_scope(table: &[u8], starts: &[u32; 64], kind: u8, code: u16, near: usize) -> Scope
+    ensures { λ r. ⌜ (Placed (now (table .entry)) (now (starts .entry)) → Finds (now (table .entry)) kind code (r .body)) ⌝ }
 {
     let headers = byte(table, 1);
     let listed = word(table, 2);
     if 64 < listed {
-        return Found::Nowhere;
+        return missing(near);
     }
     let contents = 4 + 2 * headers;
     let wanted = kind as usize * 65536 + code as usize;
     let Place::At(index) = find_index(table, contents, listed, wanted, near) else {
-        return Found::Nowhere;
+        return missing(near);
     };
     let count = word(table, contents + 5 * index + 3);
-    Found::Body {
-        start: starts[index],
-        count: count as u16,
+    Scope {
+        body: Body {
+            start: starts[index],
+            count: count as u16,
+        },
+        near: index,
     }
 }
 
-// Which of n rows to look at first: the one that was told, where it is one of them.
-fn first_look(near: usize, n: usize) -> usize
-    ensures { λ r. ⌜ (0 < n → r < n) ⌝ }
-{
-    if near < n {
-        return near;
-    }
-    n / 2
-}
-
-// What n rows say of an id, where the ids ascend: by halves, where one row is looked at first.
-fn seek_row(table: &[u8], start: usize, n: usize, wanted: usize, near: usize) -> Row
+// What n rows say of an id, where the ids ascend: by halves.
+pub fn seek_row(table: &[u8], start: usize, n: usize, wanted: usize) -> Sought
     requires { ⌜ start + 4 * n < 2 ^ 60 ⌝ }
-    ensures { λ r. ⌜ (Sorted (t.tiesAt (now (table .entry)) start n) → r ≡ asRow (find (t.isTied wanted) (t.tiesAt (now (table .entry)) start n))) ⌝ }
+    ensures { λ r. ⌜ (Sorted (t.tiesAt (now (table .entry)) start n) → r .row ≡ asRow (find (t.isTied wanted) (t.tiesAt (now (table .entry)) start n))) ⌝ }
 {
     let mut at = start;
     let mut rows = n;
-    let mut half = first_look(near, n);
     while 0 < rows {
+        let half = rows / 2;
         let mid = at + 4 * half;
         let row = read_row(table, mid);
         let id = row.id;
         if id == wanted {
-            return Row::Tied {
-                target: row.target as u16,
-                kind: row.kind as u8,
+            return Sought {
+                row: Row::Tied {
+                    target: row.target as u16,
+                    kind: row.kind as u8,
+                },
+                near: (mid - start) / 4,
             };
         }
         if id < wanted {
             at = mid + 4;
             rows = rows - half - 1;
-            half = rows / 2;
         } else {
             rows = half;
-            half = rows / 2;
         }
     }
-    Row::Untied
+    Sought {
+        row: Row::Untied,
+        near: (at - start) / 4,
+    }
 }
 
-// What the row `near` of n rows tells of an id: it ties it, or it is the first and already above.
-fn look(table: &[u8], start: usize, n: usize, wanted: usize, near: usize) -> Glance
+// What the row `near` of n rows tells of an id: it ties it, or it is above and the one before it below.
+pub fn look(table: &[u8], start: usize, n: usize, wanted: usize, near: usize) -> Glance
     requires { ⌜ start + 4 * n < 2 ^ 60 ⌝ }
     ensures { λ r. ⌜ Glances (now (table .entry)) start n wanted r ⌝ }
 {
-    if near < n {
-        let row = read_row(table, start + 4 * near);
-        if row.id == wanted {
-            return Glance::Tied {
-                target: row.target as u16,
-                kind: row.kind as u8,
-            };
-        }
-        if near == 0 {
-            if wanted < row.id {
-                return Glance::Untied;
-            }
-        }
+    if n <= near {
+        return Glance::Unseen;
+    }
+    let mid = start + 4 * near;
+    let row = read_row(table, mid);
+    if row.id == wanted {
+        return Glance::Tied {
+            target: row.target as u16,
+            kind: row.kind as u8,
+        };
+    }
+    if row.id < wanted {
+        return Glance::Unseen;
+    }
+    if near == 0 {
+        return Glance::Untied;
+    }
+    if byte(table, mid - 4) < wanted {
+        return Glance::Untied;
     }
     Glance::Unseen
-}
-
-// About where an id stands among n rows: flags come first, values with a length last.
-fn about(n: usize, id: u8) -> usize {
-    if id < 0x30 {
-        return n / 32;
-    }
-    if id < 0x80 {
-        return n / 2;
-    }
-    n - n / 4
-}
-
-// What the rows that were found say of an id, where their ids ascend. Any row may be told as near: it is looked at first.
-pub fn find_row(table: &[u8], body: Found, id: u8, near: usize) -> Row
-    ensures { λ r. ⌜ (Sorted (bodyRows (now (table .entry)) body) → r ≡ asRow (find (t.isTied id) (bodyRows (now (table .entry)) body))) ⌝ }
-{
-    let Found::Body { start, count } = body else {
-        return Row::Untied;
-    };
-    let at = start as usize;
-    let n = count as usize;
-    let wanted = id as usize;
-    match look(table, at, n, wanted, near) {
-        Glance::Tied { target, kind } => Row::Tied { target, kind },
-        Glance::Untied => Row::Untied,
-        Glance::Unseen => seek_row(table, at, n, wanted, about(n, id)),
-    }
-}
-
-// What a well-formed table says of an id in a scope.
-pub fn row_of(table: &[u8], kind: u8, code: u16, id: u8) -> Row
-    ensures { λ r. ⌜ (Formed (now (table .entry)) → r ≡ asRow (t.rowOf (now (table .entry)) kind code id)) ⌝ }
-{
-    let starts = scope_starts(table);
-    find_row(table, find_scope(table, &starts, kind, code, 0), id, 0)
 }

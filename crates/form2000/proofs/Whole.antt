@@ -27,7 +27,7 @@ use Rattle.rows.proofs.LevelLaws.{EntriesGrow, fewer}
 use Rattle.rows.proofs.CountingLaws as counting
 use Rattle.rows.proofs.WritingLaws.{properties-length, reading-written}
 use Rattle.coderows.specs.Look.{Placed, Finds, bodyRows}
-use Rattle.coderows.specs.declared.Found.{Found}
+use Rattle.coderows.specs.declared.Body.{Body}
 use Rattle.walk2000.specs.Told as walked
 use Rattle.count2000.specs.Told as told
 use Rattle.walk2000.specs.declared.Opens.{Opens}
@@ -113,7 +113,7 @@ module _ (t s controls rows : List ℕ) (h : StreamReady t s controls rows) wher
   parts : StreamParts s (is .tree)
   parts = every-at (StreamParts s) (streamOf s) (is .tree) (stream-parts s) (is .reads)
 
-  module _ (kind : ℕ) (ke : kind ≡ objectPlace s .kind) (body : Found) (be : Finds t kind 0 body) where
+  module _ (kind : ℕ) (ke : kind ≡ objectPlace s .kind) (body : Body) (be : Finds t kind 0 body) where
     pub own-ready : RunReady t body s 10 rows 0
     own-ready = record {
       small = h .small;

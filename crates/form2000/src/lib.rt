@@ -1,6 +1,5 @@
 // Reads an Access 2000 stream with a code table: counts what the reading has, then writes its rows.
-use codehints::note_scopes;
-use coderows::find_scope;
+use codehints::find_scope;
 use coderows::scope_starts;
 use count2000::Counted;
 use count2000::count;
@@ -33,17 +32,16 @@ fn write(table: &[u8], s: &[u8], controls: &mut [u32], rows: &mut [u32])
     ensures { λ _. ⌜ acts.StreamDone (now (table .entry)) (now (s .entry)) (now (controls .entry)) (now (rows .entry)) (now (controls .exit)) (now (rows .exit)) ⌝ }
 {
     let mut hints = [0; 4352];
-    note_scopes(table, &mut hints);
     let starts = scope_starts(table);
-    let body = find_scope(table, &starts, object_kind(s), 0, 0);
-    let own = properties(table, &hints, body, s, 10, rows, 0, 0xFF);
+    let body = find_scope(table, &mut hints, &starts, object_kind(s), 0);
+    let own = properties(table, &mut hints, body, s, 10, rows, 0, 0xFF);
     let behind = own.at;
     let first = own.row;
     match head(s, behind) {
         Opens::Listed { count, next } => {
             put_top(
                 table,
-                &hints,
+                &mut hints,
                 &starts,
                 s,
                 next,

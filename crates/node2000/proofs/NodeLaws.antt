@@ -24,7 +24,7 @@ use Rattle.rows.specs.Writing.{State, state, theirs, writeProperties}
 use Rattle.rows.specs.Acts.{Held, Fit, stood}
 use Rattle.rows.proofs.WritingLaws.{theirs-one, write-one}
 use Rattle.coderows.specs.Look.{Finds, bodyRows}
-use Rattle.coderows.specs.declared.Found.{Found}
+use Rattle.coderows.specs.declared.Body.{Body}
 use Rattle.run2000.specs.Runs.{shownIn, ran, runAct, RunReady, nameIn}
 use Rattle.run2000.proofs.Written.{RunOf, run-written, shown-same}
 use Rattle.node2000.specs.Nodes.{nodeAt, act, NodesReady}
@@ -85,7 +85,7 @@ module _ (t starts s : List ℕ) (at : ℕ) (cs : List ℕ) (ci : ℕ) (ps : Lis
   pub node-small : (ci ≤ longest) × (pi ≤ longest)
   node-small = omega (arith, parts .fit .few)
 
-  module _ (kind : ℕ) (ke : kind ≡ u16 s at) (body : Found) (be : Finds t 2 kind body) where
+  module _ (kind : ℕ) (ke : kind ≡ u16 s at) (body : Body) (be : Finds t 2 kind body) where
     pub node-run-ready : RunReady t body s (at + 2) ps pi
     node-run-ready = record {
       small = h .known .small;

@@ -1,6 +1,5 @@
 // Writes an entry of an Access 2000 stream without its list: its control row, and its property rows.
-use codehints::scope_hint;
-use coderows::find_scope;
+use codehints::find_scope;
 use codetable::is_header;
 use leaf::byte_at;
 use leaf::u16_at;
@@ -53,7 +52,7 @@ fn type_code(table: &[u8], report: bool, kind: u16) -> u32
 // Writes the entry at `at` without its list: its property rows, and its control row.
 pub fn put_node(
     table: &[u8],
-    hints: &[u8; 4352],
+    hints: &mut [u8; 4352],
     starts: &[u32; 64],
     s: &[u8],
     at: usize,
@@ -67,7 +66,7 @@ pub fn put_node(
 {
     let kind = u16_at(s, at);
     let run = at + 2;
-    let body = find_scope(table, starts, 2, kind, scope_hint(hints, kind));
+    let body = find_scope(table, hints, starts, 2, kind);
     let own = properties(table, hints, body, s, run, rows, p, name_id(kind));
     let next = own.row;
     let named = own.name;

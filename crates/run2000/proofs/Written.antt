@@ -10,7 +10,7 @@ use Rattle.rules.specs.Read2000.{propertyIn}
 use Rattle.rules.specs.declared.Property.{Property}
 use Rattle.rows.specs.Writing.{writeProperties}
 use Rattle.coderows.specs.Look.{Finds, Formed, bodyRows}
-use Rattle.coderows.specs.declared.Found.{Found}
+use Rattle.coderows.specs.declared.Body.{Body}
 use Rattle.run2000.specs.Runs.{shownIn, ran, runAct}
 
 pub record RunOf (f : Prop → Property) (x : List Prop × ℕ) (old : List ℕ) (first : ℕ) (new : List ℕ) (row next : ℕ) : Type 0 where
@@ -26,7 +26,7 @@ run-written f o x old first new row next oe e =
     record { rows = ap (λ r. r .rows) z; row-is = ap (λ r. r .row) z; next-is = ap (λ r. r .next) z }
 
 -- the rows of a scope's body show what the table says in that scope
-pub shown-same : (t s : List ℕ) (kind code : ℕ) (body : Found) → Formed t → Finds t kind code body
+pub shown-same : (t s : List ℕ) (kind code : ℕ) (body : Body) → Formed t → Finds t kind code body
     → shownIn (bodyRows t body) s ≡ propertyIn t s (record { kind = kind; code = code })
 unfolding shownIn propertyIn rowOf
 shown-same t s kind code body h f = ap (λ ties. shownIn ties s) (f .rows h)

@@ -20,7 +20,7 @@ use Rattle.rules.specs.declared.Property.{Property}
 use Rattle.rows.specs.Writing.{writeProperties}
 use Rattle.rows.specs.Acts.{Held}
 use Rattle.coderows.specs.Look.{Sorted, bodyRows}
-use Rattle.coderows.specs.declared.Found.{Found}
+use Rattle.coderows.specs.declared.Body.{Body}
 use Rattle.run2000.specs.declared.Naming.{Naming}
 
 -- ---- a property, and a run of them
@@ -32,7 +32,7 @@ unfoldable pub shownIn : List Tie → List ℕ → Prop → Property
 shownIn ties s q = shown s q (find (isTied (q .id)) ties)
 
 -- a value within a stream that isn't too long, and the rows that tie its id
-pub record Inside (t : List ℕ) (body : Found) (s : List ℕ) (start size : ℕ) : Type 0 where
+pub record Inside (t : List ℕ) (body : Body) (s : List ℕ) (start size : ℕ) : Type 0 where
   pub small : length s ≤ longest
   pub sorted : Sorted (bodyRows t body)
   pub inside : start + size ≤ length s
@@ -53,7 +53,7 @@ runAct f (some x) rows first = some (ran (writeProperties (map f (x .0)) rows fi
 abbrev pub RunFits : List ℕ → ℕ → List Prop × ℕ → Type 0
 RunFits rows first x = (first + length (x .0)) * propertyWidth ≤ length rows
 
-pub record RunReady (t : List ℕ) (body : Found) (s : List ℕ) (at : ℕ) (rows : List ℕ) (first : ℕ) : Type 0 where
+pub record RunReady (t : List ℕ) (body : Body) (s : List ℕ) (at : ℕ) (rows : List ℕ) (first : ℕ) : Type 0 where
   pub small : length s ≤ longest
   pub sorted : Sorted (bodyRows t body)
   pub fits : Held (RunFits rows first) (runAt s at)

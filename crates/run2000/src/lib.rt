@@ -1,8 +1,7 @@
 // A run of an Access 2000 stream: its properties written as rows, and the name that it holds.
-use codehints::row_hint;
-use coderows::Found;
+use codehints::find_row;
+use coderows::Body;
 use coderows::Row;
-use coderows::find_row;
 use leaf::is_utf16;
 use propvalue::stored_value;
 use propvalue::value_as;
@@ -52,8 +51,8 @@ pub fn join(mark: u32, code: u32) -> u32
 // A property with this id and value, by the rows of its scope.
 fn property(
     table: &[u8],
-    hints: &[u8; 4352],
-    body: Found,
+    hints: &mut [u8; 4352],
+    body: Body,
     s: &[u8],
     id: u8,
     start: usize,
@@ -63,7 +62,7 @@ fn property(
     ensures { λ r. ⌜ r ≡ runs.shownIn (bodyRows (now (table .entry)) body) (now (s .entry)) (runs.prop id start size) ⌝ }
 {
     let bytes = part(s, start, size);
-    match find_row(table, body, id, row_hint(hints, body, id)) {
+    match find_row(table, hints, body, id) {
         Row::Tied { target, kind } => Property {
             id: target as u32,
             value: value_as(kind, id, bytes),
@@ -124,8 +123,8 @@ fn run_rows(at: usize, row: usize, naming: Naming) -> Rows
 // Writes a row for each property of the run at `at`, from row `first` on; the name is that of the first property with the id `wanted`.
 pub fn properties(
     table: &[u8],
-    hints: &[u8; 4352],
-    body: Found,
+    hints: &mut [u8; 4352],
+    body: Body,
     s: &[u8],
     at: usize,
     rows: &mut [u32],

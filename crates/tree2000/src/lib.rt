@@ -26,7 +26,7 @@ enum Pass {
 // Writes the entry at `at` and all below it; `left` levels are left below it.
 fn put_entry(
     table: &[u8],
-    hints: &[u8; 4352],
+    hints: &mut [u8; 4352],
     starts: &[u32; 64],
     s: &[u8],
     at: usize,
@@ -59,7 +59,7 @@ fn put_entry(
 // Writes `n` entries from `at` on and all below them, with `left` levels left.
 fn put_list(
     table: &[u8],
-    hints: &[u8; 4352],
+    hints: &mut [u8; 4352],
     starts: &[u32; 64],
     s: &[u8],
     at: usize,
@@ -115,7 +115,7 @@ fn skip(s: &[u8], at: usize) -> Pass
 // Writes what is reported of the top list: `n` entries from `at` on.
 pub fn put_top(
     table: &[u8],
-    hints: &[u8; 4352],
+    hints: &mut [u8; 4352],
     starts: &[u32; 64],
     s: &[u8],
     at: usize,

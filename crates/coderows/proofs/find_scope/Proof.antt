@@ -24,10 +24,10 @@ within : (c : tie.After-index) → c .index .given .0 .0 < c .before .before .be
 within c = c .before .before .find-index .ensures .inside (c .index .given .0 .0) (c .index .given .1)
 
 returns : tie.Need-returns
-returns c = λ P. finds _ _ _ _ (λ F. absurd (omega (arith, formed (now (c .before .before .before .before .args .table)) F .few-scopes)))
+returns c = λ P. finds _ _ _ _ (λ F. absurd (omega (arith, formed (now (c .before .before .before .before .before .args .table)) F .few-scopes)))
 
 returns-2 : tie.Need-returns-2
-returns-2 c = λ P. finds _ _ _ _ (λ F. missing-rows (sought (c .before .before)) F (c .enum-told .given .1))
+returns-2 c = λ P. finds _ _ _ _ (λ F. rw (c .missing2 .ensures) (missing-rows (sought (c .before .before .before)) F (c .before .enum-told .given .1)))
 
 returns-3 : tie.Need-returns-3
 returns-3 c =
@@ -41,10 +41,10 @@ pub find-scope-spec : {M : Type 1} → statement M
 find-scope-spec =
     tie.close
     (tie.spec
-    (λ c κs. search needs) (λ c κs. search needs)
+    (λ c κs. search needs) (λ c κs. search needs) (λ c κs. search needs)
     returns
     (λ c. search needs) (λ c. search needs) (λ c. search needs) (λ c. search needs) (λ c κs. search needs) (λ c. search needs)
-    (λ c. search needs)
+    (λ c. search needs) (λ c κs. search needs)
     returns-2
     (λ c. omega (arith, within (c .before))) (λ c. omega (arith, within (c .before))) (λ c. omega (arith, within (c .before)))
     (λ c κs. omega (arith, within (c .before)))

@@ -1,10 +1,10 @@
 use native.Mathlib.Omega.{arith}
 use borrow.Author.Needs.{needs}
-use Prim.Native.Nat.{_+_, _*_}
+use Prim.Native.Nat.{_+_, _-_, _*_}
 use mathlib.Core.Path.{refl}
 use denote.Ref.{now}
 use Rattle.rules.specs.CodeTable.{idOf, tieAt}
-use Rattle.coderows.proofs.Halves.{begin, Turn, go-down}
+use Rattle.coderows.proofs.Halves.{begin, Turn, go-up, go-down}
 use Rattle.coderows.proofs.Rows.{glance-tied, glance-untied, glance-unseen}
 use Rattle.coderows.proofs.look.Statement.{statement}
 use Rattle.coderows.proofs.look.Tie as tie
@@ -13,23 +13,40 @@ use Rattle.coderows.proofs.look.Tie as tie
 turn : (c : tie.After-read-row)
     → Turn (tieAt (now (c .before .before .before .args .table))) idOf 4 (c .before .before .before .args .start) (c .before .before .before .args .n) (c .before .before .before .args .wanted)
     (c .before .before .before .args .start) (c .before .before .before .args .n) (c .before .before .before .args .near) (c .before .before .before .args .start + 4 * c .before .before .before .args .near) (c .read-row .result .id)
-turn c = record { so-far = begin _ _ 4 _ _ _; fits = c .before .if1 .taken; middle = refl; reads = c .read-row .ensures .id .is }
+turn c = record { so-far = begin _ _ 4 _ _ _; fits = omega (arith, c .before .if1 .left); middle = refl; reads = c .read-row .ensures .id .is }
 
-returns : tie.Need-returns
-returns c =
+-- the row before it, among those before it
+turn-before : (c : tie.After-byte)
+    → Turn (tieAt (now (c .before .before .before .before .before .before .before .before .before .args .table))) idOf 4 (c .before .before .before .before .before .before .before .before .before .args .start) (c .before .before .before .before .before .before .before .before .before .args .n) (c .before .before .before .before .before .before .before .before .before .args .wanted)
+    (c .before .before .before .before .before .before .before .before .before .args .start) (c .before .before .before .before .before .before .before .before .before .args .near) (c .before .before .before .before .before .before .before .before .before .args .near - 1) (c .before .before .before .before .before .before .before .before .before .args .start + 4 * c .before .before .before .before .before .before .before .before .before .args .near - 4) (c .byte .result)
+turn-before c = record {
+  so-far = go-down (turn (c .before .before .before .before .before .before)) (omega (arith, c .before .before .before .before .if2 .left, c .before .before .if3 .left));
+  fits = omega (arith, c .before .if4 .left);
+  middle = omega (arith, c .before .if4 .left);
+  reads = c .byte .ensures .is;
+}
+
+returns-2 : tie.Need-returns-2
+returns-2 c =
     let r = c .before .before .before .before .read-row .ensures in
     glance-tied (now (c .before .before .before .before .before .before .before .args .table)) (turn (c .before .before .before .before)) _ _ (c .before .before .if2 .taken) (r .target .is) (r .kind .is)
 
-returns-2 : tie.Need-returns-2
-returns-2 c = glance-untied (now (c .before .before .before .before .before .before .before .before .args .table)) (go-down (turn (c .before .before .before .before .before)) (omega (arith, c .if4 .taken))) (omega (arith, c .before .before .if3 .taken))
+returns-4 : tie.Need-returns-4
+returns-4 c = glance-untied (now (c .before .before .before .before .before .before .before .before .args .table)) (go-down (turn (c .before .before .before .before .before)) (omega (arith, c .before .before .before .if2 .left, c .before .if3 .left))) (omega (arith, c .if4 .taken))
+
+returns-5 : tie.Need-returns-5
+returns-5 c = glance-untied (now (c .before .before .before .before .before .before .before .before .before .before .args .table)) (go-up (turn-before (c .before)) (omega (arith, c .if5 .taken))) (omega arith)
 
 pub look-spec : {M : Type 1} → statement M
 look-spec =
     tie.close
     (tie.spec
-    (λ c. search needs) (λ c. search needs) (λ c κs. omega arith) (λ c. search needs) (λ c. search needs)
-    returns
+    (λ c. glance-unseen _ _ _ _)
+    (λ c. omega (arith, c .if1 .left)) (λ c. omega (arith, c .if1 .left)) (λ c κs. omega (arith, c .if1 .left))
+    (λ c. search needs) (λ c. search needs)
     returns-2
     (λ c. glance-unseen _ _ _ _)
-    (λ c. glance-unseen _ _ _ _)
+    returns-4
+    (λ c. omega (arith, c .if4 .left)) (λ c κs. search needs)
+    returns-5
     (λ c. glance-unseen _ _ _ _))

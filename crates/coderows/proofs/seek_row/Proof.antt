@@ -1,6 +1,6 @@
 use native.Mathlib.Omega.{arith}
 use borrow.Author.Needs.{needs}
-use Prim.Native.Nat.{_+_, _*_, _^_, _<_}
+use Prim.Native.Nat.{_+_, _*_, _^_, _/_, _<_, _≤_}
 use mathlib.Core.Path.{refl}
 use denote.Ref.{now}
 use Rattle.rules.specs.CodeTable.{idOf, tieAt}
@@ -10,42 +10,35 @@ use Rattle.coderows.proofs.seek_row.Statement.{statement}
 use Rattle.coderows.proofs.seek_row.Tie as tie
 
 abbrev Inv-loop : tie.InvT-loop
-Inv-loop table start n wanted near at₀ rows₀ half₀ at rows half =
-    Narrowed (tieAt table) idOf 4 start n wanted at rows × (at + 4 * rows < 2 ^ 60) × (0 < rows → half < rows)
+Inv-loop table start n wanted at₀ rows₀ at rows =
+    Narrowed (tieAt table) idOf 4 start n wanted at rows × (at + 4 * rows < 2 ^ 60) × (start ≤ at)
 
 abbrev μ-loop : tie.MeasureT-loop
-μ-loop table start n wanted near at₀ rows₀ half₀ at rows half = rows
+μ-loop table start n wanted at₀ rows₀ at rows = rows
 
 -- the loop's head, from where the last thing is read
 abbrev head : tie.After-read-row Inv-loop μ-loop → tie.At-loop Inv-loop μ-loop
 head c = c .before .before
 
--- the row that is looked at is one of those left
-inside : (c : tie.In-loop Inv-loop μ-loop) → c .before .loop .half < c .before .loop .rows
-inside c = c .before .loop .inv .2 (omega arith)
-
 -- what a turn has read
 turn : (c : tie.After-read-row Inv-loop μ-loop)
-    → Turn (tieAt (now (head c .before .before .before .args .table))) idOf 4 (head c .before .before .before .args .start) (head c .before .before .before .args .n)
-    (head c .before .before .before .args .wanted) (head c .loop .at) (head c .loop .rows) (head c .loop .half) (head c .loop .at + 4 * head c .loop .half) (c .read-row .result .id)
-turn c = record { so-far = head c .loop .inv .0; fits = inside (c .before); middle = refl; reads = c .read-row .ensures .id .is }
-
-loop-holds : tie.Need-loop-holds Inv-loop μ-loop
-loop-holds c = (begin _ _ 4 _ _ _, omega arith, c .first-look .ensures)
+    → Turn (tieAt (now (head c .before .before .args .table))) idOf 4 (head c .before .before .args .start) (head c .before .before .args .n)
+    (head c .before .before .args .wanted) (head c .loop .at) (head c .loop .rows) (head c .loop .rows / 2) (head c .loop .at + 4 * (head c .loop .rows / 2)) (c .read-row .result .id)
+turn c = record { so-far = head c .loop .inv .0; fits = omega (arith, c .before .loop-test .taken); middle = refl; reads = c .read-row .ensures .id .is }
 
 returns : tie.Need-returns Inv-loop μ-loop
 returns c =
     let r = c .before .before .before .read-row .ensures in
-    row-hit (now (c .before .before .before .before .before .before .before .before .args .table)) (turn (c .before .before .before)) _ _ (c .before .before .if1 .taken) (r .target .is) (r .kind .is)
+    row-hit (now (c .before .before .before .before .before .before .before .args .table)) (turn (c .before .before .before)) _ _ (c .before .before .if1 .taken) (r .target .is) (r .kind .is)
 
 loop-again : tie.Need-loop-again Inv-loop μ-loop
-loop-again c = (go-up (turn (c .before .before)) (omega arith), omega (arith, inside (c .before .before .before)), λ h. omega arith)
+loop-again c = (go-up (turn (c .before .before)) (omega arith), omega arith, omega arith)
 
 loop-again-2 : tie.Need-loop-again-2 Inv-loop μ-loop
-loop-again-2 c = (go-down (turn (c .before .before)) (omega arith), omega (arith, inside (c .before .before .before)), λ h. omega arith)
+loop-again-2 c = (go-down (turn (c .before .before)) (omega arith), omega arith, omega arith)
 
 returns-2 : tie.Need-returns-2 Inv-loop μ-loop
-returns-2 c = row-none (now (c .before .before .before .before .args .table)) (c .before .loop .inv .0) (omega arith)
+returns-2 c = row-none (now (c .before .before .before .args .table)) (c .before .loop .inv .0) (omega arith)
 
 pub seek-row-spec : {M : Type 1} → statement M
 seek-row-spec =
@@ -53,14 +46,13 @@ seek-row-spec =
     (tie.spec
     Inv-loop
     μ-loop
-    (λ c κs. search needs)
-    loop-holds
-    (λ c. omega (arith, inside c)) (λ c. omega (arith, inside c)) (λ c κs. omega (arith, inside c))
-    (λ c. search needs) (λ c. search needs)
+    (λ c. (begin _ _ 4 _ _ _, omega arith, omega arith))
+    (λ c. omega arith) (λ c. omega arith) (λ c κs. omega arith)
+    (λ c. search needs) (λ c. search needs) (λ c. omega arith)
     returns
-    (λ c. omega (arith, inside (c .before .before .before))) (λ c. omega (arith, inside (c .before .before .before))) (λ c. omega (arith, inside (c .before .before .before)))
-    (λ c. omega (arith, inside (c .before .before .before)))
+    (λ c. omega arith) (λ c. omega arith) (λ c. omega arith) (λ c. omega arith)
     loop-again
-    (λ c. omega (arith, inside (c .before .before .before)))
+    (λ c. omega arith)
     loop-again-2
+    (λ c. omega arith)
     returns-2)

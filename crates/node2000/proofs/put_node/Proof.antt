@@ -11,18 +11,18 @@ found : (c : tie.After-find-scope) → Finds (now (c .before .before .before .be
 found c = c .find-scope .ensures (c .before .before .before .before .before .before .before .pre .known .placed)
 
 properties-requires : tie.Need-properties-requires
-properties-requires c κs = node-run-ready _ _ _ _ _ _ _ _ (c .before .before .before .before .before .before .before .before .before .pre) _ (c .before .before .before .before .u16-at .ensures) _ (found (c .before .before))
+properties-requires c κs = node-run-ready _ _ _ _ _ _ _ _ (c .before .before .before .before .before .before .before .before .before .before .pre) _ (c .before .before .before .before .before .u16-at .ensures) _ (found (c .before .before .before))
 
 sub-control-row : tie.Need-sub-control-row
-sub-control-row c = omega (arith, node-rows _ _ _ _ _ _ _ _ (c .before .before .before .before .before .before .before .before .before .before .before .before .before .before .pre) _ (c .before .before .before .before .before .before .before .before .before .u16-at .ensures) _ (found (c .before .before .before .before .before .before .before)) _ _ _ (c .before .before .before .before .properties .ensures .0))
+sub-control-row c = omega (arith, node-rows _ _ _ _ _ _ _ _ (c .before .before .before .before .before .before .before .before .before .before .before .before .before .before .before .pre) _ (c .before .before .before .before .before .before .before .before .before .before .u16-at .ensures) _ (found (c .before .before .before .before .before .before .before .before)) _ _ _ (c .before .before .before .before .properties .ensures .0))
 
 cast-control-row-3 : tie.Need-cast-control-row-3
-cast-control-row-3 c = omega (arith, node-rows _ _ _ _ _ _ _ _ (c .before .before .before .before .before .before .before .before .before .before .before .before .before .before .pre) _ (c .before .before .before .before .before .before .before .before .before .u16-at .ensures) _ (found (c .before .before .before .before .before .before .before)) _ _ _ (c .before .before .before .before .properties .ensures .0))
+cast-control-row-3 c = omega (arith, node-rows _ _ _ _ _ _ _ _ (c .before .before .before .before .before .before .before .before .before .before .before .before .before .before .before .pre) _ (c .before .before .before .before .before .before .before .before .before .before .u16-at .ensures) _ (found (c .before .before .before .before .before .before .before .before)) _ _ _ (c .before .before .before .before .properties .ensures .0))
 
 returns : tie.Need-returns
 returns c =
     let run = c .before .before .before .before .before .before .before .before .before .properties .ensures in
-    node-done _ _ _ _ _ _ _ _ (c .before .before .before .before .before .before .before .before .before .before .before .before .before .before .before .before .before .before .before .pre) _ (c .before .before .before .before .before .before .before .before .before .before .before .before .before .before .u16-at .ensures) _ (found (c .before .before .before .before .before .before .before .before .before .before .before .before)) _ _ _ (run .0) _ _ _ _ _ _ (c .before .before .before .before .before .before .before .before .before .before .name-id .ensures) (run .1)
+    node-done _ _ _ _ _ _ _ _ (c .before .before .before .before .before .before .before .before .before .before .before .before .before .before .before .before .before .before .before .before .pre) _ (c .before .before .before .before .before .before .before .before .before .before .before .before .before .before .before .u16-at .ensures) _ (found (c .before .before .before .before .before .before .before .before .before .before .before .before .before)) _ _ _ (run .0) _ _ _ _ _ _ (c .before .before .before .before .before .before .before .before .before .before .name-id .ensures) (run .1)
     (c .before .before .before .before .before .before .is-report .ensures) (c .before .before .before .before .before .type-code .ensures) (c .before .before .before .before .control-row .ensures) (c .before .before .put-control .ensures)
 
 pub put-node-spec : {M : Type 1} → statement M
@@ -31,14 +31,14 @@ put-node-spec =
     (tie.spec
     (λ c κs. search needs)
     (λ c. omega (arith, node-inside _ _ _ _ _ _ _ _ (c .before .before .before .before .before .pre)))
-    (λ c κs. search needs) (λ c κs. search needs) (λ c κs. search needs)
+    (λ c κs. search needs) (λ c κs. search needs)
     properties-requires
     (λ c κs. search needs) (λ c κs. search needs)
-    (λ c. omega (arith, node-small _ _ _ _ _ _ _ _ (c .before .before .before .before .before .before .before .before .before .before .before .before .before .before .pre))) (λ c. omega (arith, node-small _ _ _ _ _ _ _ _ (c .before .before .before .before .before .before .before .before .before .before .before .before .before .before .pre)))
+    (λ c. omega (arith, node-small _ _ _ _ _ _ _ _ (c .before .before .before .before .before .before .before .before .before .before .before .before .before .before .before .pre))) (λ c. omega (arith, node-small _ _ _ _ _ _ _ _ (c .before .before .before .before .before .before .before .before .before .before .before .before .before .before .before .pre)))
     sub-control-row
     cast-control-row-3
     (λ c κs. search needs)
-    (λ c. omega (arith, node-small _ _ _ _ _ _ _ _ (c .before .before .before .before .before .before .before .before .before .before .before .before .before .before .before .pre)))
-    (λ c κs. omega (arith, node-row-room _ _ _ _ _ _ _ _ (c .before .before .before .before .before .before .before .before .before .before .before .before .before .before .before .before .pre)))
+    (λ c. omega (arith, node-small _ _ _ _ _ _ _ _ (c .before .before .before .before .before .before .before .before .before .before .before .before .before .before .before .before .pre)))
+    (λ c κs. omega (arith, node-row-room _ _ _ _ _ _ _ _ (c .before .before .before .before .before .before .before .before .before .before .before .before .before .before .before .before .before .pre)))
     (λ c. search needs) (λ c. search needs)
     returns)

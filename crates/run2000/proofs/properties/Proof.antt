@@ -16,11 +16,11 @@ use Rattle.run2000.proofs.properties.Statement.{statement}
 use Rattle.run2000.proofs.properties.Tie as tie
 
 abbrev Inv-loop : tie.InvT-loop
-Inv-loop table hints body s at rows₀ first wanted p₀ n₀ naming₀ rows p n naming =
+Inv-loop table hints₀ body s at rows₀ first wanted p₀ n₀ naming₀ hints rows p n naming =
     Left (shownIn (bodyRows table body) s) s at rows₀ first rows p n × Named s wanted at naming p
 
 abbrev μ-loop : tie.MeasureT-loop
-μ-loop table hints body s at rows₀ first wanted p₀ n₀ naming₀ rows p n naming = length s - p
+μ-loop table hints₀ body s at rows₀ first wanted p₀ n₀ naming₀ hints rows p n naming = length s - p
 
 -- a property starts here
 goes : (c : tie.Else1 Inv-loop μ-loop) → goesOn (now (c .before .before .before .before .before .before .before .args .s)) (c .before .before .before .loop .p) ≡ true
@@ -43,37 +43,37 @@ returns-2 c = absurd (left-bad _ _ _ _ _ _ _ _ (c .before .before .before .befor
 
 property-requires : tie.Need-property-requires Inv-loop μ-loop
 property-requires c κs =
-    let b = c .before .before .before .before .before .before .before .before .before .before .before in
-    let e = ends _ _ _ _ _ (c .before .before .before .value .ensures) (c .before .start .given .1) in
+    let b = c .before .before .before .before .before .before .before .before .before .before .before .before in
+    let e = ends _ _ _ _ _ (c .before .before .before .before .value .ensures) (c .before .before .start .given .1) in
     record { small = b .pre .small; sorted = b .pre .sorted; inside = e .1 }
 
 next-name-requires : tie.Need-next-name-requires Inv-loop μ-loop
 next-name-requires c κs =
-    let e = ends _ _ _ _ _ (c .before .before .before .before .before .value .ensures) (c .before .before .before .start .given .1) in
-    record { small = c .before .before .before .before .before .before .before .before .before .before .before .before .before .pre .small; inside = e .1; text = shown-six _ _ _ _ _ _ (c .before .property .ensures) }
+    let e = ends _ _ _ _ _ (c .before .before .before .before .before .before .value .ensures) (c .before .before .before .before .start .given .1) in
+    record { small = c .before .before .before .before .before .before .before .before .before .before .before .before .before .before .pre .small; inside = e .1; text = shown-six _ _ _ _ _ _ (c .before .property .ensures) }
 
 put-property-requires : tie.Need-put-property-requires Inv-loop μ-loop
-put-property-requires c κs = left-room _ _ _ _ _ _ _ _ (c .before .before .before .before .before .before .before .before .before .before .before .loop .inv .0) _ (goes (c .before .before .before .before .before .before .before .before)) (c .before .before .before .before .before .before .before .value .ensures) _ _ (c .before .before .before .before .before .start .given .1)
+put-property-requires c κs = left-room _ _ _ _ _ _ _ _ (c .before .before .before .before .before .before .before .before .before .before .before .before .loop .inv .0) _ (goes (c .before .before .before .before .before .before .before .before .before)) (c .before .before .before .before .before .before .before .before .value .ensures) _ _ (c .before .before .before .before .before .before .start .given .1)
 
 add-p : tie.Need-add-p Inv-loop μ-loop
-add-p c = omega (arith, ends _ _ _ _ _ (c .before .before .before .before .before .before .before .before .before .before .value .ensures) (c .before .before .before .before .before .before .before .before .start .given .1), c .before .before .before .before .before .before .before .before .before .before .before .before .before .before .before .before .before .before .pre .small)
+add-p c = omega (arith, ends _ _ _ _ _ (c .before .before .before .before .before .before .before .before .before .before .before .value .ensures) (c .before .before .before .before .before .before .before .before .before .start .given .1), c .before .before .before .before .before .before .before .before .before .before .before .before .before .before .before .before .before .before .before .pre .small)
 
 loop-less : tie.Need-loop-less Inv-loop μ-loop
-loop-less c = omega (arith, ends _ _ _ _ _ (c .before .before .before .before .before .before .before .before .before .before .value .ensures) (c .before .before .before .before .before .before .before .before .start .given .1))
+loop-less c = omega (arith, ends _ _ _ _ _ (c .before .before .before .before .before .before .before .before .before .before .before .value .ensures) (c .before .before .before .before .before .before .before .before .before .start .given .1))
 
 add-n : tie.Need-add-n Inv-loop μ-loop
 add-n c =
-    let i = c .before .before .before .before .before .before .before .before .before .before .before .before .before .before .loop .inv .0 in
-    omega (arith, left-room _ _ _ _ _ _ _ _ i _ (goes (c .before .before .before .before .before .before .before .before .before .before .before)) (c .before .before .before .before .before .before .before .before .before .before .value .ensures) _ _ (c .before .before .before .before .before .before .before .before .start .given .1), i .same, c .before .before .before .before .before .before .before .before .before .before .before .before .before .before .before .before .before .before .good)
+    let i = c .before .before .before .before .before .before .before .before .before .before .before .before .before .before .before .loop .inv .0 in
+    omega (arith, left-room _ _ _ _ _ _ _ _ i _ (goes (c .before .before .before .before .before .before .before .before .before .before .before .before)) (c .before .before .before .before .before .before .before .before .before .before .before .value .ensures) _ _ (c .before .before .before .before .before .before .before .before .before .start .given .1), i .same, c .before .before .before .before .before .before .before .before .before .before .before .before .before .before .before .before .before .before .before .good)
 
 loop-again : tie.Need-loop-again Inv-loop μ-loop
 loop-again c =
-    let i = c .before .before .before .before .before .before .before .before .before .before .before .before .before .before .loop .inv in
-    let g = goes (c .before .before .before .before .before .before .before .before .before .before .before) in
-    let v = c .before .before .before .before .before .before .before .before .before .before .value .ensures in
-    let k = c .before .before .before .before .before .before .before .before .start .given .1 in (
+    let i = c .before .before .before .before .before .before .before .before .before .before .before .before .before .before .before .loop .inv in
+    let g = goes (c .before .before .before .before .before .before .before .before .before .before .before .before) in
+    let v = c .before .before .before .before .before .before .before .before .before .before .before .value .ensures in
+    let k = c .before .before .before .before .before .before .before .before .before .start .given .1 in (
       left-more _ _ _ _ _ _ _ _ (i .0) _ g v _ _ k _ _ (c .before .before .before .before .before .before .property .ensures) (c .before .before .put-property .ensures),
-      named-more _ _ _ _ _ g v _ _ k (omega (arith, c .before .before .before .before .before .before .before .before .before .before .before .if1 .left)) _ _ (i .1) (c .before .before .before .before .next-name .ensures),
+      named-more _ _ _ _ _ g v _ _ k (omega (arith, c .before .before .before .before .before .before .before .before .before .before .before .before .if1 .left)) _ _ (i .1) (c .before .before .before .before .next-name .ensures),
     )
 
 returns-3 : tie.Need-returns-3 Inv-loop μ-loop

@@ -14,7 +14,7 @@ pub property-spec : {M : Type 1} → statement M
 property-spec =
     tie.close
     (tie.spec
-    (λ c κs. search needs) (λ c κs. search needs) (λ c κs. search needs) (λ c. search needs) (λ c. search needs) (λ c κs. search needs)
+    (λ c κs. search needs) (λ c κs. search needs) (λ c. search needs) (λ c. search needs) (λ c κs. search needs)
     (λ c. omega (arith, c .before .before .before .before .before .before .before .before .before .pre .small, c .before .before .before .before .before .before .before .before .before .pre .inside)) (λ c. omega (arith, c .before .before .before .before .before .before .before .before .before .pre .small, c .before .before .before .before .before .before .before .before .before .pre .inside))
     (λ c. search needs) (λ c κs. search needs) (λ c κs. search needs)
     (λ c. omega (arith, c .before .before .before .before .before .before .before .before .before .pre .small, c .before .before .before .before .before .before .before .before .before .pre .inside)) (λ c. omega (arith, c .before .before .before .before .before .before .before .before .before .pre .small, c .before .before .before .before .before .before .before .before .before .pre .inside))

@@ -53,8 +53,8 @@ put-list-calls t = (put-entry-below t, put-entry.Post)
 -- ---- an entry
 put-entry-put-node-requires : (t : ℕ) → put-entry-lts.Need-put-node-requires (put-entry-calls t) (put-entry-at t) put-entry.Post
 put-entry-put-node-requires t c κs =
-    let b6 = c .before .before .before .before .before .before in
-    node-ready _ _ _ (entriesAt (b6 .args .left) (b6 .args .s .now)) (b6 .args .at) _ (b6 .pre .1)
+    let b7 = c .before .before .before .before .before .before .before in
+    node-ready _ _ _ (entriesAt (b7 .args .left) (b7 .args .s .now)) (b7 .args .at) _ (b7 .pre .1)
 
 put-entry-head-requires : (t : ℕ) → put-entry-lts.Need-head-requires (put-entry-calls t) (put-entry-at t) put-entry.Post
 put-entry-head-requires t c κs = search needs
@@ -70,8 +70,8 @@ put-entry-enum-known-n t c = search needs
 
 put-entry-put-list-requires : (t : ℕ) → put-entry-lts.Need-put-list-requires (put-entry-calls t) (put-entry-at t) put-entry.Post
 put-entry-put-list-requires t c κs =
-    let b17 = c .before .before .before .before .before .before .before .before .before .before .before .before .before .before .before .before .before in
-    (omega (arith, b17 .pre .0), entry-listed _ _ _ (entriesAt (b17 .args .left) (b17 .args .s .now)) (b17 .args .at) _ (b17 .pre .1) _ _ (c .before .before .before .before .before .before .before .before .before .before .put-node .ensures) _ (c .before .before .before .before .before .head .ensures) _ _ (c .before .before .before .n .given .1) .ready)
+    let b19 = c .before .before .before .before .before .before .before .before .before .before .before .before .before .before .before .before .before .before .before in
+    (omega (arith, b19 .pre .0), entry-listed _ _ _ (entriesAt (b19 .args .left) (b19 .args .s .now)) (b19 .args .at) _ (b19 .pre .1) _ _ (c .before .before .before .before .before .before .before .before .before .before .before .put-node .ensures) _ (c .before .before .before .before .before .before .head .ensures) _ _ (c .before .before .before .before .n .given .1) .ready)
 
 put-entry-same-length : (t : ℕ) → put-entry-lts.Need-same-length (put-entry-calls t) (put-entry-at t) put-entry.Post
 put-entry-same-length t c = c .before .before .before .before .before .before .before .put-node .kept .1 .1 .1 .1 .1 .0
@@ -81,8 +81,8 @@ put-entry-same-length-2 t c = c .before .before .before .before .before .before 
 
 put-entry-returns : (t : ℕ) → put-entry-lts.Need-returns (put-entry-calls t) (put-entry-at t) put-entry.Post
 put-entry-returns t c =
-    let b14 = c .before .before .before .before .before .before .before .before .before .before .before .before .before .before in
-    absurd (entry-bad _ _ _ (entriesAt (b14 .args .left) (b14 .args .s .now)) (b14 .args .at) _ (b14 .pre .1) _ _ (c .before .before .before .before .before .before .before .put-node .ensures) _ (c .before .before .head .ensures) (c .enum-told .given .1))
+    let b15 = c .before .before .before .before .before .before .before .before .before .before .before .before .before .before .before in
+    absurd (entry-bad _ _ _ (entriesAt (b15 .args .left) (b15 .args .s .now)) (b15 .args .at) _ (b15 .pre .1) _ _ (c .before .before .before .before .before .before .before .put-node .ensures) _ (c .before .before .head .ensures) (c .enum-told .given .1))
 
 put-entry-same-length-3 : (t : ℕ) → put-entry-lts.Need-same-length-3 (put-entry-calls t) (put-entry-at t) put-entry.Post
 put-entry-same-length-3 t c = c .before .before .before .before .before .before .before .before .put-node .kept .1 .1 .1 .1 .1 .0
@@ -92,53 +92,53 @@ put-entry-same-length-4 t c = c .before .before .before .before .before .before 
 
 put-entry-returns-2 : (t : ℕ) → put-entry-lts.Need-returns-2 (put-entry-calls t) (put-entry-at t) put-entry.Post
 put-entry-returns-2 t c =
-    let b15 = c .before .before .before .before .before .before .before .before .before .before .before .before .before .before .before in
-    entry-plain _ _ _ (entriesAt (b15 .args .left) (b15 .args .s .now)) (b15 .args .at) _ (b15 .pre .1) _ _ (c .before .before .before .before .before .before .before .before .put-node .ensures) _ (c .before .before .before .head .ensures) _ (c .before .next .given .1)
+    let b16 = c .before .before .before .before .before .before .before .before .before .before .before .before .before .before .before .before in
+    entry-plain _ _ _ (entriesAt (b16 .args .left) (b16 .args .s .now)) (b16 .args .at) _ (b16 .pre .1) _ _ (c .before .before .before .before .before .before .before .before .put-node .ensures) _ (c .before .before .before .head .ensures) _ (c .before .next .given .1)
 
 put-entry-same-length-5 : (t : ℕ) → put-entry-lts.Need-same-length-5 (put-entry-calls t) (put-entry-at t) put-entry.Post
-put-entry-same-length-5 t c = c .before .before .before .before .put-list .kept .1 .1 .1 .1 .1 .1 .1 .0 ∙ c .before .before .before .before .before .before .before .before .before .before .before .before .before .before .before .put-node .kept .1 .1 .1 .1 .1 .0
+put-entry-same-length-5 t c = c .before .before .before .before .put-list .kept .1 .1 .1 .1 .1 .1 .1 .0 ∙ c .before .before .before .before .before .before .before .before .before .before .before .before .before .before .before .before .put-node .kept .1 .1 .1 .1 .1 .0
 
 put-entry-same-length-6 : (t : ℕ) → put-entry-lts.Need-same-length-6 (put-entry-calls t) (put-entry-at t) put-entry.Post
-put-entry-same-length-6 t c = c .before .before .before .before .put-list .kept .1 .1 .1 .1 .1 .1 .1 .1 .1 .0 ∙ c .before .before .before .before .before .before .before .before .before .before .before .before .before .before .before .put-node .kept .1 .1 .1 .1 .1 .1 .1 .0
+put-entry-same-length-6 t c = c .before .before .before .before .put-list .kept .1 .1 .1 .1 .1 .1 .1 .1 .1 .0 ∙ c .before .before .before .before .before .before .before .before .before .before .before .before .before .before .before .before .put-node .kept .1 .1 .1 .1 .1 .1 .1 .0
 
 put-entry-returns-3 : (t : ℕ) → put-entry-lts.Need-returns-3 (put-entry-calls t) (put-entry-at t) put-entry.Post
 put-entry-returns-3 t c =
-    let b22 = c .before .before .before .before .before .before .before .before .before .before .before .before .before .before .before .before .before .before .before .before .before .before in
-    c .before .before .before .before .put-list .ensures ∙ entry-listed _ _ _ (entriesAt (b22 .args .left) (b22 .args .s .now)) (b22 .args .at) _ (b22 .pre .1) _ _ (c .before .before .before .before .before .before .before .before .before .before .before .before .before .before .before .put-node .ensures) _ (c .before .before .before .before .before .before .before .before .before .before .head .ensures) _ _ (c .before .before .before .before .before .before .before .before .n .given .1) .is
+    let b24 = c .before .before .before .before .before .before .before .before .before .before .before .before .before .before .before .before .before .before .before .before .before .before .before .before in
+    c .before .before .before .before .put-list .ensures ∙ entry-listed _ _ _ (entriesAt (b24 .args .left) (b24 .args .s .now)) (b24 .args .at) _ (b24 .pre .1) _ _ (c .before .before .before .before .before .before .before .before .before .before .before .before .before .before .before .before .put-node .ensures) _ (c .before .before .before .before .before .before .before .before .before .before .before .head .ensures) _ _ (c .before .before .before .before .before .before .before .before .before .n .given .1) .is
 
 -- ---- a list
 abbrev put-list-Inv-loop : put-list-lts.InvT-loop
-put-list-Inv-loop table hints starts s at n left controls₀ c rows₀ p pos₀ k₀ i₀ j₀ controls rows pos k i j = Remain (Given table starts s) (controlOf table s) (listNodes (entriesAt left s k pos)) (listNodes (entriesAt left s n at)) (state controls₀ c rows₀ p) (state controls i rows j) × (length controls ≡ length controls₀) × (length rows ≡ length rows₀)
+put-list-Inv-loop table hints₀ starts s at n left controls₀ c rows₀ p pos₀ k₀ i₀ j₀ hints controls rows pos k i j = Remain (Given table starts s) (controlOf table s) (listNodes (entriesAt left s k pos)) (listNodes (entriesAt left s n at)) (state controls₀ c rows₀ p) (state controls i rows j) × (length controls ≡ length controls₀) × (length rows ≡ length rows₀)
 
 abbrev put-list-μ-loop : put-list-lts.MeasureT-loop
-put-list-μ-loop table hints starts s at n left controls₀ c rows₀ p pos₀ k₀ i₀ j₀ controls rows pos k i j = k
+put-list-μ-loop table hints₀ starts s at n left controls₀ c rows₀ p pos₀ k₀ i₀ j₀ hints controls rows pos k i j = k
 
 put-list-loop-holds : (t : ℕ) → put-list-lts.Need-loop-holds (put-list-calls t) (put-list-at t) put-list.Post put-list-Inv-loop put-list-μ-loop
 put-list-loop-holds t c = (remain-start _ _ _ _ _ refl (c .before .before .before .before .pre .1), refl, refl)
 
 put-list-sub-put-entry : (t : ℕ) → put-list-lts.Need-sub-put-entry (put-list-calls t) (put-list-at t) put-list.Post put-list-Inv-loop put-list-μ-loop
 unfolding entriesAt
-put-list-sub-put-entry t c = omega (arith, list-some _ _ _ _ _ _ _ _ _ (c .before .loop .inv .0) (c .loop-test .taken))
+put-list-sub-put-entry t c = omega (arith, list-some _ _ _ _ _ _ _ _ _ (c .before .before .loop .inv .0) (c .before .loop-test .taken))
 
 put-list-put-entry-requires : (t : ℕ) → put-list-lts.Need-put-entry-requires (put-list-calls t) (put-list-at t) put-list.Post put-list-Inv-loop put-list-μ-loop
 unfolding entriesAt
 put-list-put-entry-requires t c κs =
-    let b3 = c .before .before .before in
-    let b8 = c .before .before .before .before .before .before .before .before in
-    (omega (arith, list-some _ _ _ _ _ _ _ _ _ (b3 .loop .inv .0) (c .before .before .loop-test .taken), b8 .pre .0), list-entry _ _ _ _ _ _ _ _ _ (b3 .loop .inv .0) (c .before .before .loop-test .taken))
+    let b4 = c .before .before .before .before in
+    let b9 = c .before .before .before .before .before .before .before .before .before in
+    (omega (arith, list-some _ _ _ _ _ _ _ _ _ (b4 .loop .inv .0) (c .before .before .before .loop-test .taken), b9 .pre .0), list-entry _ _ _ _ _ _ _ _ _ (b4 .loop .inv .0) (c .before .before .before .loop-test .taken))
 
 put-list-sub-k : (t : ℕ) → put-list-lts.Need-sub-k (put-list-calls t) (put-list-at t) put-list.Post put-list-Inv-loop put-list-μ-loop
-put-list-sub-k t c = omega (arith, c .before .before .before .before .before .before .before .loop-test .taken)
+put-list-sub-k t c = omega (arith, c .before .before .before .before .before .before .before .before .loop-test .taken)
 
 put-list-loop-less : (t : ℕ) → put-list-lts.Need-loop-less (put-list-calls t) (put-list-at t) put-list.Post put-list-Inv-loop put-list-μ-loop
-put-list-loop-less t c = omega (arith, c .before .before .before .before .before .before .before .loop-test .taken)
+put-list-loop-less t c = omega (arith, c .before .before .before .before .before .before .before .before .loop-test .taken)
 
 put-list-loop-again : (t : ℕ) → put-list-lts.Need-loop-again (put-list-calls t) (put-list-at t) put-list.Post put-list-Inv-loop put-list-μ-loop
 unfolding entriesAt
 put-list-loop-again t c =
     let b4 = c .before .before .before .before in
-    let b8 = c .before .before .before .before .before .before .before .before in
-    (list-more _ _ _ _ _ _ _ _ _ (b8 .loop .inv .0) (c .before .before .before .before .before .before .before .loop-test .taken) _ _ (b4 .put-entry .ensures), b4 .put-entry .kept .1 .1 .1 .1 .1 .1 .0 ∙ b8 .loop .inv .1, b4 .put-entry .kept .1 .1 .1 .1 .1 .1 .1 .1 .0 ∙ b8 .loop .inv .2)
+    let b9 = c .before .before .before .before .before .before .before .before .before in
+    (list-more _ _ _ _ _ _ _ _ _ (b9 .loop .inv .0) (c .before .before .before .before .before .before .before .before .loop-test .taken) _ _ (b4 .put-entry .ensures), b4 .put-entry .kept .1 .1 .1 .1 .1 .1 .0 ∙ b9 .loop .inv .1, b4 .put-entry .kept .1 .1 .1 .1 .1 .1 .1 .1 .0 ∙ b9 .loop .inv .2)
 
 put-list-same-length : (t : ℕ) → put-list-lts.Need-same-length (put-list-calls t) (put-list-at t) put-list.Post put-list-Inv-loop put-list-μ-loop
 put-list-same-length t c = c .before .loop .inv .1

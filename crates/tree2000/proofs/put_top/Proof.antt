@@ -14,10 +14,10 @@ use Rattle.tree2000.proofs.put_top.Statement.{statement}
 use Rattle.tree2000.proofs.put_top.Tie as tie
 
 abbrev Inv-loop : tie.InvT-loop
-Inv-loop table hints starts s at n controls₀ c rows₀ p pos₀ k₀ i₀ j₀ controls rows pos k i j = Remain (Given table starts s) (controlOf table s) (topNodes (entriesAt levels s k pos)) (topNodes (entriesAt levels s n at)) (state controls₀ c rows₀ p) (state controls i rows j) × (length controls ≡ length controls₀) × (length rows ≡ length rows₀)
+Inv-loop table hints₀ starts s at n controls₀ c rows₀ p pos₀ k₀ i₀ j₀ hints controls rows pos k i j = Remain (Given table starts s) (controlOf table s) (topNodes (entriesAt levels s k pos)) (topNodes (entriesAt levels s n at)) (state controls₀ c rows₀ p) (state controls i rows j) × (length controls ≡ length controls₀) × (length rows ≡ length rows₀)
 
 abbrev μ-loop : tie.MeasureT-loop
-μ-loop table hints starts s at n controls₀ c rows₀ p pos₀ k₀ i₀ j₀ controls rows pos k i j = k
+μ-loop table hints₀ starts s at n controls₀ c rows₀ p pos₀ k₀ i₀ j₀ hints controls rows pos k i j = k
 
 loop-holds : tie.Need-loop-holds Inv-loop μ-loop
 loop-holds c = (remain-start _ _ _ _ _ refl (c .before .before .before .before .pre), refl, refl)
@@ -37,18 +37,18 @@ loop-again c =
 put-entry-requires : tie.Need-put-entry-requires Inv-loop μ-loop
 unfolding entriesAt
 put-entry-requires c κs =
-    let b6 = c .before .before .before .before .before .before in
-    top-entry _ _ _ _ _ _ _ _ _ (b6 .loop .inv .0) (eqb-false 256 0 refl) (c .before .before .before .before .before .loop-test .taken) (c .before .before .before .before .skip .ensures .kept _ (c .before .before .enum-told .given .1))
+    let b7 = c .before .before .before .before .before .before .before in
+    top-entry _ _ _ _ _ _ _ _ _ (b7 .loop .inv .0) (eqb-false 256 0 refl) (c .before .before .before .before .before .before .loop-test .taken) (c .before .before .before .before .before .skip .ensures .kept _ (c .before .before .before .enum-told .given .1))
 
 loop-less-2 : tie.Need-loop-less-2 Inv-loop μ-loop
-loop-less-2 c = omega (arith, c .before .before .before .before .before .before .before .before .before .before .loop-test .taken)
+loop-less-2 c = omega (arith, c .before .before .before .before .before .before .before .before .before .before .before .loop-test .taken)
 
 loop-again-2 : tie.Need-loop-again-2 Inv-loop μ-loop
 unfolding entriesAt
 loop-again-2 c =
     let b4 = c .before .before .before .before in
-    let b11 = c .before .before .before .before .before .before .before .before .before .before .before in
-    (top-more _ _ _ _ _ _ _ _ _ (b11 .loop .inv .0) (eqb-false 256 0 refl) (c .before .before .before .before .before .before .before .before .before .before .loop-test .taken) (c .before .before .before .before .before .before .before .before .before .skip .ensures .kept _ (c .before .before .before .before .before .before .before .enum-told .given .1)) _ _ (b4 .put-entry .ensures), b4 .put-entry .kept .1 .1 .1 .1 .1 .1 .0 ∙ b11 .loop .inv .1, b4 .put-entry .kept .1 .1 .1 .1 .1 .1 .1 .1 .0 ∙ b11 .loop .inv .2)
+    let b12 = c .before .before .before .before .before .before .before .before .before .before .before .before in
+    (top-more _ _ _ _ _ _ _ _ _ (b12 .loop .inv .0) (eqb-false 256 0 refl) (c .before .before .before .before .before .before .before .before .before .before .before .loop-test .taken) (c .before .before .before .before .before .before .before .before .before .before .skip .ensures .kept _ (c .before .before .before .before .before .before .before .before .enum-told .given .1)) _ _ (b4 .put-entry .ensures), b4 .put-entry .kept .1 .1 .1 .1 .1 .1 .0 ∙ b12 .loop .inv .1, b4 .put-entry .kept .1 .1 .1 .1 .1 .1 .1 .1 .0 ∙ b12 .loop .inv .2)
 
 same-length : tie.Need-same-length Inv-loop μ-loop
 same-length c = c .before .loop .inv .1
