@@ -1,7 +1,7 @@
 -- One turn of each loop, said of the definitions: what is left to decide after a test, and what is left at the end.
 -- Assumes nothing.
 use Prim.Native.Nat.{ℕ, zero, suc, _+_, _-_, _*_, _≤_, _<_}
-use mathlib.Core.Path.{_≡_, refl, ap}
+use mathlib.Core.Path.{_≡_, refl, ap, _∙_}
 use mathlib.Core.Logic.{_⊎_, inl, inr}
 use mathlib.Core.List.{List, _∷_, map}
 use mathlib.Core.Bool.{Bool, true, false, _&&_, _||_}
@@ -10,11 +10,15 @@ use native.Mathlib.Numerals.{sub-one}
 use native.Mathlib.Omega.{arith}
 use lib.ListN.{length}
 use lib.Dec.{leb, ltb, eqb}
-use borrow.Author.Tests.{lt-ltb, le-ltb, le-leb, lt-leb, eq-eqb, ne-eqb}
+use borrow.Author.Tests.{lt-ltb, le-ltb, le-leb, lt-leb, leb-true, leb-false, eq-eqb, ne-eqb}
 use Rattle.rules.specs.Lists.{all, has, ascends}
 use Rattle.rules.specs.Bytes.{byte, u16}
 use Rattle.rules.specs.CodeTable.{Tie, Scope, idOf, key, keyOf, codesAt, tieAt, tiesAt, scopesAt, tieOk, tiesOk, scopeOk, rowCount, scopesFit, wellFormed}
 use Rattle.codetable.specs.Reads.{tiesFrom, scopesFrom}
+
+and-true : (a : Bool) → (a && true) ≡ a
+and-true true = refl
+and-true false = refl
 
 and-false : (a : Bool) → (a && false) ≡ false
 and-false true = refl
@@ -72,39 +76,53 @@ unfolding tiesAt
 ties-next t at zero h = absurd (not-suc-le-zero h)
 ties-next t at (suc k) h = rw sub-one
 
--- one row is read
-pub record TieRead (t : List ℕ) (at left i x k : ℕ) : Type 0 where
+-- an id from `least` on is at most 0xFC exactly when what may come next is below 0xFE, and then `least` was too
+ids-last : (least i : ℕ) → least ≤ i → (b : Bool) → leb i 0xFC ≡ b → (p q : Bool) → (ltb least 0xFE && p && (b && q)) ≡ (ltb (i + 1) 0xFE && p && q)
+ids-last least i h true e p q = rw (lt-ltb least 0xFE (omega (arith, leb-true i 0xFC e)), lt-ltb (i + 1) 0xFE (omega (arith, leb-true i 0xFC e)))
+ids-last least i h false e p q = rw (le-ltb (i + 1) 0xFE (omega (arith, leb-false i 0xFC e)), and-false)
+
+-- a row's id is read, and the low byte of its target is a byte
+pub record TieRead (t : List ℕ) (at left i : ℕ) : Type 0 where
   pub more : 0 < left
   pub id-is : i ≡ byte t at
-  pub target-is : x ≡ u16 t (at + 1)
-  pub kind-is : k ≡ byte t (at + 3)
+  pub low-small : byte t (at + 1) < 256
 
-module _ {t : List ℕ} {at left i x k : ℕ} (R : TieRead t at left i x k) (least : ℕ) where
+module _ {t : List ℕ} {at left i : ℕ} (R : TieRead t at left i) (least : ℕ) where
+  abbrev later : List Tie
+  later = tiesAt t (at + 4) (left - 1)
+
   ties-split : tiesFrom least (tiesAt t at left)
-      ≡ ((leb least i && ascends (i + 1) (map idOf (tiesAt t (at + 4) (left - 1))))
-      && ((leb i 0xFC && ltb x 0x8000 && leb k 4) && all tieOk (tiesAt t (at + 4) (left - 1))))
+      ≡ (ltb least 0xFE
+      && (leb least i && ascends (i + 1) (map idOf later))
+      && ((leb i 0xFC && ltb (u16 t (at + 1)) 0x8000 && leb (byte t (at + 3)) 4) && all tieOk later))
   unfolding tiesFrom ascends all
-  ties-split = rw (ties-next t at left (R .more), ← (R .id-is), ← (R .target-is), ← (R .kind-is))
+  ties-split = rw (ties-next t at left (R .more), ← (R .id-is))
+
+  target-is : u16 t (at + 1) ≡ byte t (at + 1) + 256 * byte t (at + 2)
+  unfolding u16
+  target-is =
+      let e : at + 1 + 1 ≡ at + 2 = omega arith in
+      rw e
 
   pub ties-low : i < least → tiesFrom least (tiesAt t at left) ≡ false
-  ties-low h = rw (ties-split, lt-leb least i h)
+  ties-low h = rw (ties-split, lt-leb least i h, and-false)
 
-  pub ties-id : 0xFC < i → tiesFrom least (tiesAt t at left) ≡ false
-  ties-id h = rw (ties-split, lt-leb i 0xFC h, and-false)
+  pub ties-target : 0x7F < byte t (at + 2) → tiesFrom least (tiesAt t at left) ≡ false
+  ties-target h = rw (ties-split, le-ltb (u16 t (at + 1)) 0x8000 (omega (arith, target-is)), and-false, and-false)
 
-  pub ties-target : i ≤ 0xFC → 0x8000 ≤ x → tiesFrom least (tiesAt t at left) ≡ false
-  ties-target hi h = rw (ties-split, le-leb i 0xFC hi, le-ltb x 0x8000 h, and-false)
+  pub ties-kind : 4 < byte t (at + 3) → tiesFrom least (tiesAt t at left) ≡ false
+  ties-kind h = rw (ties-split, lt-leb (byte t (at + 3)) 4 h, and-false, and-false)
 
-  pub ties-kind : i ≤ 0xFC → x < 0x8000 → 4 < k → tiesFrom least (tiesAt t at left) ≡ false
-  ties-kind hi hx h = rw (ties-split, le-leb i 0xFC hi, lt-ltb x 0x8000 hx, lt-leb k 4 h, and-false)
-
-  pub ties-step : least ≤ i → i ≤ 0xFC → x < 0x8000 → k ≤ 4 → tiesFrom least (tiesAt t at left) ≡ tiesFrom (i + 1) (tiesAt t (at + 4) (left - 1))
+  -- a row that is let through leaves it to the rows after it, and to what may come next
+  pub ties-step : least ≤ i → byte t (at + 2) ≤ 0x7F → byte t (at + 3) ≤ 4 → tiesFrom least (tiesAt t at left) ≡ tiesFrom (i + 1) later
   unfolding tiesFrom
-  ties-step hl hi hx hk = rw (ties-split, le-leb least i hl, le-leb i 0xFC hi, lt-ltb x 0x8000 hx, le-leb k 4 hk)
+  ties-step hl hx hk =
+      rw (ties-split, le-leb least i hl, lt-ltb (u16 t (at + 1)) 0x8000 (omega (arith, target-is, R .low-small)), le-leb (byte t (at + 3)) 4 hk, and-true (leb i 0xFC && true), and-true (leb i 0xFC))
+      (ids-last least i hl (leb i 0xFC) refl _ _)
 
-pub ties-done : (t : List ℕ) (at left least : ℕ) → left ≤ 0 → tiesFrom least (tiesAt t at left) ≡ true
+pub ties-done : (t : List ℕ) (at left least : ℕ) → left ≤ 0 → tiesFrom least (tiesAt t at left) ≡ ltb least 0xFE
 unfolding tiesFrom tiesAt ascends all
-ties-done t at zero least h = refl
+ties-done t at zero least h = and-true (ltb least 0xFE && true) ∙ and-true (ltb least 0xFE)
 ties-done t at (suc k) least h = absurd (not-suc-le-zero h)
 
 length-ties : (t : List ℕ) (at n : ℕ) → length (tiesAt t at n) ≡ n
@@ -151,6 +169,14 @@ module _ {t : List ℕ} {at left k c n : ℕ} (R : ScopeRead t at left k c n) (b
 
   pub scopes-low : keyOf k c < least → scopesFrom t least at body left ≡ false
   scopes-low h = rw (scopes-split, lt-leb least (keyOf k c) h)
+
+  pub scopes-past : length t < body + 4 * n → scopesFrom t least at body left ≡ false
+  scopes-past h =
+      rw (
+        scopes-split,
+        ne-eqb (body + 4 * (length (tiesAt t body n) + rowCount rest)) (length t) (λ e. omega (arith, length-ties t body n)),
+        and-false,
+      )
 
   pub scopes-rows : k ≤ 2 → (eqb k 2 || eqb c 0) ≡ true → tiesOk (tiesAt t body n) ≡ false → scopesFrom t least at body left ≡ false
   scopes-rows hk hc h = rw (scopes-split, le-leb k 2 hk, hc, h, and-false)

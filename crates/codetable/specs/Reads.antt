@@ -3,7 +3,7 @@ use Prim.Native.Nat.{ℕ, _+_, _*_, _<_}
 use mathlib.Core.Path.{_≡_}
 use mathlib.Core.List.{List, map}
 use mathlib.Core.Bool.{Bool, _&&_}
-use lib.Dec.{eqb}
+use lib.Dec.{ltb, eqb}
 use lib.ListN.{length}
 use Rattle.rules.specs.Lists.{all, ascends}
 use Rattle.rules.specs.Bytes.{byte, u16}
@@ -22,8 +22,9 @@ pub record ReadsRow (t : List ℕ) (at : ℕ) (r : RowRead) : Type 0 where
   pub kind : Small (byte t (at + 3)) 256 (r .kind)
 
 -- ---- well-formedness of what is left, from the least id or key that may come next
+-- `least` is one more than the id before it, which is at most 0xFC
 unfoldable pub tiesFrom : ℕ → List Tie → Bool
-tiesFrom least rs = ascends least (map idOf rs) && all tieOk rs
+tiesFrom least rs = ltb least 0xFE && ascends least (map idOf rs) && all tieOk rs
 
 unfoldable pub scopesFrom : List ℕ → ℕ → ℕ → ℕ → ℕ → Bool
 scopesFrom t least at body n =

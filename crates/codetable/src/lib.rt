@@ -1,6 +1,7 @@
 // The code table that a caller lends, as bytes: its numbers, whether it is well formed, its layout and header codes.
 ghost use mathlib.Core.Path.{_≡_};
-ghost use Prim.Native.Nat.{_+_, _*_, _<_, _^_};
+ghost use Prim.Native.Nat.{_+_, _*_, _≤_, _<_, _^_};
+ghost use lib.ListN.{length};
 ghost use Rattle.rules.specs.Bytes.{byte, u16};
 ghost use Rattle.rules.specs.Lists.{has, ascends};
 ghost use Rattle.rules.specs.CodeTable as t;
@@ -75,36 +76,30 @@ fn codes_ascend(table: &[u8], start: usize, n: usize) -> bool
     true
 }
 
-// The n rows from start on are well formed.
+// The n rows from start on, all inside the table, are well formed. Their ids ascend, so the last tells whether all are at most 0xFC.
 fn ties_ok(table: &[u8], start: usize, n: usize) -> bool
-    requires { ⌜ start + 4 * n < 2 ^ 60 ⌝ }
+    requires { ⌜ start + 4 * n ≤ length (now table) ⌝ }
     ensures { λ r. ⌜ r ≡ t.tiesOk (t.tiesAt (now (table .entry)) start n) ⌝ }
 {
+    let end = start + 4 * n;
     let mut at = start;
-    let mut left = n;
     let mut least = 0;
-    while 0 < left {
-        let row = read_row(table, at);
-        let id = row.id;
-        let target = row.target;
-        let kind = row.kind;
+    while at < end {
+        let id = wide(table[at]);
         if id < least {
             return false;
         }
-        if 0xFC < id {
+        // the target's high byte
+        if 0x7F < table[at + 2] {
             return false;
         }
-        if 0x8000 <= target {
-            return false;
-        }
-        if 4 < kind {
+        if 4 < table[at + 3] {
             return false;
         }
         least = id + 1;
         at += 4;
-        left -= 1;
     }
-    true
+    least < 0xFE
 }
 
 // The n scopes whose contents start at start and whose bodies at bodies are well formed, and the last body ends where the table does.
@@ -130,6 +125,10 @@ fn scopes_fit(table: &[u8], start: usize, bodies: usize, n: usize) -> bool
         }
         let key = kind * 65536 + code;
         if key < least {
+            return false;
+        }
+        // bodies only grow, and the last ends where the table does
+        if table.len() < body + 4 * count {
             return false;
         }
         if !ties_ok(table, body, count) {

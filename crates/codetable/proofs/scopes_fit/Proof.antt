@@ -9,7 +9,7 @@ use lib.Dec.{eqb}
 use borrow.Author.Tests.{not-true, not-false}
 use Rattle.rules.specs.CodeTable.{scopesFit}
 use Rattle.codetable.specs.Reads.{scopesFrom}
-use Rattle.codetable.proofs.Steps.{ScopeRead, scopes-at-zero, scopes-kind, scopes-code, code-ok, scopes-low, scopes-rows, scopes-step, scopes-done}
+use Rattle.codetable.proofs.Steps.{ScopeRead, scopes-at-zero, scopes-kind, scopes-code, code-ok, scopes-low, scopes-past, scopes-rows, scopes-step, scopes-done}
 use Rattle.codetable.proofs.scopes_fit.Statement.{statement}
 use Rattle.codetable.proofs.scopes_fit.Tie as tie
 
@@ -66,16 +66,21 @@ returns-3 c =
 
 returns-4 : tie.Need-returns-4 Inv-loop μ-loop
 returns-4 c =
-    let l = c .before .before .before .before .before .before .before .before .before .loop in
-    sym (l .inv .0 ∙ scopes-rows (read (c .before .before .before .before .before)) (l .body) (l .least) (omega arith) (code-known (c .before .before .before)) (sym (c .before .ties-ok .ensures) ∙ not-true _ (c .if5 .taken)))
+    let l = c .before .before .before .before .before .before .before .before .loop in
+    sym (l .inv .0 ∙ scopes-past (read (c .before .before .before .before)) (l .body) (l .least) (omega arith))
+
+returns-5 : tie.Need-returns-5 Inv-loop μ-loop
+returns-5 c =
+    let l = c .before .before .before .before .before .before .before .before .before .before .loop in
+    sym (l .inv .0 ∙ scopes-rows (read (c .before .before .before .before .before .before)) (l .body) (l .least) (omega arith) (code-known (c .before .before .before .before)) (sym (c .before .ties-ok .ensures) ∙ not-true _ (c .if6 .taken)))
 
 loop-again : tie.Need-loop-again Inv-loop μ-loop
 loop-again c =
-    let l = c .before .before .before .before .before .before .before .before .before .loop in
-    (l .inv .0 ∙ scopes-step (read (c .before .before .before .before .before)) (l .body) (l .least) (omega arith) (omega arith) (code-known (c .before .before .before)) (sym (c .before .ties-ok .ensures) ∙ not-false _ (c .if5 .left)), omega arith, omega arith, omega arith)
+    let l = c .before .before .before .before .before .before .before .before .before .before .loop in
+    (l .inv .0 ∙ scopes-step (read (c .before .before .before .before .before .before)) (l .body) (l .least) (omega arith) (omega arith) (code-known (c .before .before .before .before)) (sym (c .before .ties-ok .ensures) ∙ not-false _ (c .if6 .left)), omega arith, omega arith, omega arith)
 
-returns-5 : tie.Need-returns-5 Inv-loop μ-loop
-returns-5 c = sym (c .before .loop .inv .0 ∙ scopes-done _ _ _ (c .before .loop .left) _ (omega arith))
+returns-6 : tie.Need-returns-6 Inv-loop μ-loop
+returns-6 c = sym (c .before .loop .inv .0 ∙ scopes-done _ _ _ (c .before .loop .left) _ (omega arith))
 
 pub scopes-fit-spec : {M : Type 1} → statement M
 scopes-fit-spec =
@@ -89,8 +94,10 @@ scopes-fit-spec =
     returns-2
     (λ c. omega arith) (λ c. omega arith)
     returns-3
-    (λ c κs. search needs)
+    (λ c. omega arith) (λ c. omega arith)
     returns-4
+    (λ c κs. omega arith)
+    returns-5
     (λ c. omega arith) (λ c. omega arith) (λ c. omega arith) (λ c. omega arith) (λ c. omega arith) (λ c. omega arith)
     loop-again
-    returns-5)
+    returns-6)
