@@ -1,3 +1,2 @@
 -- Laws of the code table, and what the proofs of several functions use.
 pub mod Steps
-pub mod WellFormed

@@ -123,10 +123,7 @@ pub fn value(s: &[u8], at: usize) -> Spot
 {
     match extent(s, s[at], at + 1) {
         Spot::At { start, size } => {
-            if s.len() < start {
-                return Spot::Bad;
-            }
-            if s.len() - start < size {
+            if s.len() < start + size {
                 return Spot::Bad;
             }
             Spot::At { start, size }
