@@ -30,10 +30,14 @@ pub fn byte(table: &[u8], at: usize) -> usize
     0
 }
 
+// The two bytes at a place, low byte first. Where both are inside the table, one test serves them.
 pub fn word(table: &[u8], at: usize) -> usize
     requires { ⌜ at < 2 ^ 60 ⌝ }
     ensures { λ r. ⌜ Small (u16 (now (table .entry)) at) 65536 r ⌝ }
 {
+    if at + 1 < table.len() {
+        return wide(table[at]) + 256 * wide(table[at + 1]);
+    }
     byte(table, at) + 256 * byte(table, at + 1)
 }
 
