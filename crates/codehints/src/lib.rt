@@ -9,7 +9,7 @@ ghost use mathlib.Core.Path.{_≡_};
 ghost use Prim.Native.Nat.{_+_, _*_, _<_, _^_};
 ghost use Rattle.rules.specs.Lists.{find};
 ghost use Rattle.rules.specs.CodeTable.{tiesAt, isTied};
-ghost use Rattle.coderows.specs.Look.{Placed, Finds, Sorted, bodyRows, asRow};
+ghost use Rattle.coderows.specs.Look.{Listed, Finds, Sorted, bodyRows, asRow};
 
 fn row_slot(start: usize, id: usize) -> usize
     requires { ⌜ (start < 2 ^ 60) × (id < 256) ⌝ }
@@ -29,18 +29,18 @@ fn low_byte(n: usize) -> u8 {
     (n % 256) as u8
 }
 
-// Where the rows of a scope are, in a well-formed table whose rows start at `starts`.
+// Where the rows of a scope are, in a well-formed table with these scopes.
 pub fn find_scope(
     table: &[u8],
     hints: &mut [u8; 4352],
-    starts: &[u32; 64],
+    scopes: &[u32; 192],
     kind: u8,
     code: u16,
 ) -> Body
-    ensures { λ r. ⌜ (Placed (now (table .entry)) (now (starts .entry)) → Finds (now (table .entry)) kind code r) ⌝ }
+    ensures { λ r. ⌜ (Listed (now (table .entry)) (now (scopes .entry)) → Finds (now (table .entry)) kind code r) ⌝ }
 {
     let slot = scope_slot(code as usize);
-    let scope = coderows::find_scope(table, starts, kind, code, wide(hints[slot]));
+    let scope = coderows::find_scope(table, scopes, kind, code, wide(hints[slot]));
     hints[slot] = low_byte(scope.near);
     let body = scope.body;
     body

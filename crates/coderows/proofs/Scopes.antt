@@ -14,9 +14,8 @@ use Rattle.rules.specs.Bytes.{Bytes, byte, u16}
 use Rattle.rules.specs.CodeTable.{Tie, Scope, key, keyOf, tiesAt, scopesAt, scopes, scopeCount, contentsAt, bodiesAt, isScope, rowsOf, scopeRows}
 use Rattle.coderows.specs.declared.Place.{Place}
 use Rattle.coderows.specs.declared.Place.the-variants.{At, Missing}
-use Rattle.coderows.specs.Look.{Formed, findBy, itemsAt, indexes, keyAt, countAt, countsTo, asPlace, KeysAscend, Seeks, rowsFrom, noRows, bodyRows}
+use Rattle.coderows.specs.Look.{Formed, findBy, itemsAt, indexes, keyAt, countAt, countsTo, asPlace, KeysAscend, rowsFrom, noRows, bodyRows}
 use Rattle.rules.proofs.CodeTableLaws.{formed}
-use Rattle.codetable.proofs.Steps.{Counts}
 
 same-key : (k c kind code : ℕ) → c < 65536 → code < 65536 → (eqb k kind && eqb c code) ≡ eqb (keyOf k c) (keyOf kind code)
 same-key k c kind code p q = go (eqb k kind) refl (eqb c code) refl
@@ -103,37 +102,37 @@ place-some none i e = absurd (let z : _≡_ {A = ℕ} 0 1 = cc in omega arith)
 place-some (some j) i e = cc
 
 -- a scope was sought
-pub record Sought (t : List ℕ) (kind code h n : ℕ) (p : Place) : Type 0 where
+pub record Sought (t : List ℕ) (kind code n : ℕ) (p : Place) : Type 0 where
   pub bytes : Bytes t
   pub code-fits : code < 65536
-  pub counts : Counts t h n
-  pub place : Seeks t (4 + 2 * h) n (keyOf kind code) p
+  pub scopes-is : n ≡ scopeCount t
+  pub place : KeysAscend t (contentsAt t) 0 n → p ≡ asPlace (findBy (keyAt t (contentsAt t)) (keyOf kind code) (indexes 0 n))
 
-module _ {t : List ℕ} {kind code h n : ℕ} {p : Place} (S : Sought t kind code h n p) (F : Formed t) where
+module _ {t : List ℕ} {kind code n : ℕ} {p : Place} (S : Sought t kind code n p) (F : Formed t) where
   abbrev contents : ℕ
-  contents = 4 + 2 * h
+  contents = contentsAt t
 
   abbrev bodies : ℕ
-  bodies = 4 + 2 * h + 5 * n
+  bodies = contentsAt t + 5 * n
 
   abbrev index : Option ℕ
   index = findBy (keyAt t contents) (keyOf kind code) (indexes 0 n)
 
   keys-ascend : KeysAscend t contents 0 n
   keys-ascend =
-      let e : ascends 0 (map key (scopesAt t contents bodies n)) ≡ true = rw (S .counts .headers-is, S .counts .scopes-is) (formed t F .keys-ascend) in
+      let e : ascends 0 (map key (scopesAt t contents bodies n)) ≡ true = rw (S .scopes-is) (formed t F .keys-ascend) in
       rw (← (keys-of-places t contents bodies (indexes 0 n)), ← (scopes-placed t contents bodies n)) e
 
   rows-there : rowsAt t contents bodies index ≡ scopeRows t kind code
   rows-there =
       let e : scopeRows t kind code ≡ rowsOf (findBy key (keyOf kind code) (scopesAt t contents bodies n)) =
-      rw (S .counts .headers-is, S .counts .scopes-is) (rows-by-key t (S .bytes) kind code (S .code-fits)) in
+      rw (S .scopes-is) (rows-by-key t (S .bytes) kind code (S .code-fits)) in
       sym (e ∙ rw (scopes-placed t contents bodies n) (rows-of-place t contents bodies (keyOf kind code) (indexes 0 n)))
 
   pub missing-rows : p ≡ Missing → bodyRows t noRows ≡ scopeRows t kind code
   unfolding bodyRows tiesAt
-  missing-rows e = ap (rowsAt t contents bodies) (sym (place-none index (sym (S .place .is keys-ascend) ∙ e))) ∙ rows-there
+  missing-rows e = ap (rowsAt t contents bodies) (sym (place-none index (sym (S .place keys-ascend) ∙ e))) ∙ rows-there
 
-  pub placed-rows : (i : ℕ) → p ≡ At i → bodyRows t (rowsFrom (bodies + 4 * countsTo t contents i) (countAt t contents i)) ≡ scopeRows t kind code
+  pub listed-rows : (i : ℕ) → p ≡ At i → bodyRows t (rowsFrom (bodies + 4 * countsTo t contents i) (countAt t contents i)) ≡ scopeRows t kind code
   unfolding bodyRows
-  placed-rows i e = ap (rowsAt t contents bodies) (sym (place-some index i (sym (S .place .is keys-ascend) ∙ e))) ∙ rows-there
+  listed-rows i e = ap (rowsAt t contents bodies) (sym (place-some index i (sym (S .place keys-ascend) ∙ e))) ∙ rows-there

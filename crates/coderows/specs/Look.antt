@@ -44,9 +44,15 @@ unfoldable pub countsTo : List ℕ → ℕ → ℕ → ℕ
 countsTo t contents zero = 0
 countsTo t contents (suc i) = countsTo t contents i + countAt t contents i
 
--- where the rows of each scope start
-abbrev pub Placed : List ℕ → List ℕ → Type 0
-Placed t starts = (i : ℕ) → i < scopeCount t → i < 64 → getD starts i 0 ≡ bodiesAt t + 4 * countsTo t (contentsAt t) i
+-- the three words of scope i in a list of scopes whose bodies start at `bodies`
+pub record Words (t xs : List ℕ) (contents bodies i : ℕ) : Type 0 where
+  pub key : getD xs (3 * i) 0 ≡ keyAt t contents i
+  pub start : getD xs (3 * i + 1) 0 ≡ bodies + 4 * countsTo t contents i
+  pub count : getD xs (3 * i + 2) 0 ≡ countAt t contents i
+
+-- a list of the scopes of a table, 64 at most
+abbrev pub Listed : List ℕ → List ℕ → Type 0
+Listed t xs = (i : ℕ) → i < scopeCount t → i < 64 → Words t xs (contentsAt t) (bodiesAt t) i
 
 unfoldable pub asPlace : Option ℕ → Place
 asPlace none = Missing
@@ -58,6 +64,11 @@ KeysAscend t contents first n = ascends 0 (map (keyAt t contents) (indexes first
 
 pub record Seeks (t : List ℕ) (contents n wanted : ℕ) (r : Place) : Type 0 where
   pub is : KeysAscend t contents 0 n → r ≡ asPlace (findBy (keyAt t contents) wanted (indexes 0 n))
+  pub inside : (i : ℕ) → r ≡ At i → i < n
+
+-- where the scopes are listed too
+pub record SeeksListed (t xs : List ℕ) (n wanted : ℕ) (r : Place) : Type 0 where
+  pub is : Listed t xs → n ≡ scopeCount t → KeysAscend t (contentsAt t) 0 n → r ≡ asPlace (findBy (keyAt t (contentsAt t)) wanted (indexes 0 n))
   pub inside : (i : ℕ) → r ≡ At i → i < n
 
 -- the rows of a body that was found

@@ -3,15 +3,15 @@ use codetable::byte;
 use codetable::read_row;
 use codetable::word;
 ghost use mathlib.Core.Path.{_≡_};
-ghost use Prim.Native.Nat.{_+_, _*_, _<_, _^_};
+ghost use Prim.Native.Nat.{_+_, _*_, _≤_, _<_, _^_};
 ghost use Rattle.rules.specs.Lists.{find};
 ghost use Rattle.rules.specs.CodeTable as t;
-ghost use Rattle.coderows.specs.Look.{Placed, Seeks, Finds, Glances, Sorted, noRows, asRow};
+ghost use Rattle.coderows.specs.Look.{Listed, Seeks, SeeksListed, Finds, Glances, Sorted, noRows, asRow};
 
 // Where the rows of a scope are, and how many. A scope that is missing has none.
 pub struct Body {
     pub start: u32,
-    pub count: u16,
+    pub count: u32,
 }
 
 // A scope's rows, and the scope at which to look first for them the next time.
@@ -70,39 +70,43 @@ fn seek_scope(table: &[u8], contents: usize, n: usize, wanted: usize) -> Place
     Place::Missing
 }
 
-// Which of n scopes has the wanted kind and code: one is looked at first.
-fn find_index(table: &[u8], contents: usize, n: usize, wanted: usize, near: usize) -> Place
-    requires { ⌜ contents + 5 * n < 2 ^ 32 ⌝ }
-    ensures { λ r. ⌜ Seeks (now (table .entry)) contents n wanted r ⌝ }
+// What the contents say of each scope, 64 at most, in three words: its kind and code as one number, where its rows start, and how many they are.
+pub fn list_scopes(table: &[u8]) -> [u32; 192]
+    ensures { λ r. ⌜ Listed (now (table .entry)) r ⌝ }
 {
-    if near < n {
-        let at = contents + 5 * near;
-        if byte(table, at) * 65536 + word(table, at + 1) == wanted {
-            return Place::At(near);
-        }
-    }
-    seek_scope(table, contents, n, wanted)
-}
-
-// Where the rows of each scope start, 64 scopes at most.
-pub fn scope_starts(table: &[u8]) -> [u32; 64]
-    ensures { λ r. ⌜ Placed (now (table .entry)) r ⌝ }
-{
-    let scopes = word(table, 2);
-    let mut starts = [0; 64];
+    let listed = word(table, 2);
+    let mut scopes = [0; 192];
     let mut at = 4 + 2 * byte(table, 1);
-    let mut body = at + 5 * scopes;
+    let mut body = at + 5 * listed;
     let mut i = 0;
-    while i < scopes {
+    while i < listed {
         if 63 < i {
-            return starts;
+            return scopes;
         }
-        starts[i] = body as u32;
-        body += 4 * word(table, at + 3);
+        let key = byte(table, at) * 65536 + word(table, at + 1);
+        let count = word(table, at + 3);
+        let k = 3 * i;
+        scopes[k] = key as u32;
+        scopes[k + 1] = body as u32;
+        scopes[k + 2] = count as u32;
+        body += 4 * count;
         at += 5;
         i += 1;
     }
-    starts
+    scopes
+}
+
+// Which of n listed scopes has the wanted kind and code: one is looked at first.
+fn find_index(table: &[u8], scopes: &[u32; 192], n: usize, wanted: usize, near: usize) -> Place
+    requires { ⌜ (n ≤ 64) × (wanted < 2 ^ 32) ⌝ }
+    ensures { λ r. ⌜ SeeksListed (now (table .entry)) (now (scopes .entry)) n wanted r ⌝ }
+{
+    if near < n {
+        if scopes[3 * near] == wanted as u32 {
+            return Place::At(near);
+        }
+    }
+    seek_scope(table, 4 + 2 * byte(table, 1), n, wanted)
 }
 
 fn missing(near: usize) -> Scope
@@ -114,25 +118,23 @@ fn missing(near: usize) -> Scope
     }
 }
 
-// Where the rows of a scope are, in a well-formed table whose rows start at `starts`. Any scope may be told as near: it is looked at first.
-pub fn find_scope(table: &[u8], starts: &[u32; 64], kind: u8, code: u16, near: usize) -> Scope
-    ensures { λ r. ⌜ (Placed (now (table .entry)) (now (starts .entry)) → Finds (now (table .entry)) kind code (r .body)) ⌝ }
+// Where the rows of a scope are, in a well-formed table with these scopes. Any scope may be told as near: it is looked at first.
+pub fn find_scope(table: &[u8], scopes: &[u32; 192], kind: u8, code: u16, near: usize) -> Scope
+    ensures { λ r. ⌜ (Listed (now (table .entry)) (now (scopes .entry)) → Finds (now (table .entry)) kind code (r .body)) ⌝ }
 {
-    let headers = byte(table, 1);
     let listed = word(table, 2);
     if 64 < listed {
         return missing(near);
     }
-    let contents = 4 + 2 * headers;
     let wanted = kind as usize * 65536 + code as usize;
-    let Place::At(index) = find_index(table, contents, listed, wanted, near) else {
+    let Place::At(index) = find_index(table, scopes, listed, wanted, near) else {
         return missing(near);
     };
-    let count = word(table, contents + 5 * index + 3);
+    let k = 3 * index;
     Scope {
         body: Body {
-            start: starts[index],
-            count: count as u16,
+            start: scopes[k + 1],
+            count: scopes[k + 2],
         },
         near: index,
     }

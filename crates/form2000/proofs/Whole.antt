@@ -26,7 +26,7 @@ use Rattle.rows.specs.Acts.{topNodes, Held, Stood, stood}
 use Rattle.rows.proofs.LevelLaws.{EntriesGrow, fewer}
 use Rattle.rows.proofs.CountingLaws as counting
 use Rattle.rows.proofs.WritingLaws.{properties-length, reading-written}
-use Rattle.coderows.specs.Look.{Placed, Finds, bodyRows}
+use Rattle.coderows.specs.Look.{Listed, Finds, bodyRows}
 use Rattle.coderows.specs.declared.Body.{Body}
 use Rattle.walk2000.specs.Told as walked
 use Rattle.count2000.specs.Told as told
@@ -157,14 +157,14 @@ module _ (t s controls rows : List ℕ) (h : StreamReady t s controls rows) wher
               let d : entriesAt levels s n next ≡ entriesAt levels s (parts .many) (parts .first) = λ i. entriesAt levels s (b i) (c i) in
               d ∙ parts .list
 
-          pub top-ready : (starts : List ℕ) → Placed t starts → NodesReady t starts s (topNodes (entriesAt levels s n next)) (state controls 0 rows′ row)
+          pub top-ready : (scopes : List ℕ) → Listed t scopes → NodesReady t scopes s (topNodes (entriesAt levels s n next)) (state controls 0 rows′ row)
           unfolding read2000
-          top-ready starts placed =
+          top-ready scopes listed =
               let l : length rows′ ≡ length rows = ap length own-rows ∙ properties-length (read2000 t s (is .tree) .own) rows 0 in
               let m = theirs-are t s (is .tree) in
               let c = controls-are t s (is .tree) in
               record {
-                known = record { formed = h .formed; placed = placed; small = h .small };
+                known = record { formed = h .formed; listed = listed; small = h .small };
                 fits = rw list-is (record {
                   room = record { controls = omega (arith, is .fits .0); properties = omega (arith, is .fits .1, l, own-run .row-is, properties-are t s (is .tree), m) };
                   few = omega (arith, few t s (is .tree) (is .reads), h .small, own-run .row-is, m, c);

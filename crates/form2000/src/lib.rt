@@ -1,6 +1,6 @@
 // Reads an Access 2000 stream with a code table: counts what the reading has, then writes its rows.
 use codehints::find_scope;
-use coderows::scope_starts;
+use coderows::list_scopes;
 use count2000::Counted;
 use count2000::count;
 use node2000::is_report;
@@ -32,8 +32,8 @@ fn write(table: &[u8], s: &[u8], controls: &mut [u32], rows: &mut [u32])
     ensures { λ _. ⌜ acts.StreamDone (now (table .entry)) (now (s .entry)) (now (controls .entry)) (now (rows .entry)) (now (controls .exit)) (now (rows .exit)) ⌝ }
 {
     let mut hints = [0; 4352];
-    let starts = scope_starts(table);
-    let body = find_scope(table, &mut hints, &starts, object_kind(s), 0);
+    let scopes = list_scopes(table);
+    let body = find_scope(table, &mut hints, &scopes, object_kind(s), 0);
     let own = properties(table, &mut hints, body, s, 10, rows, 0, 0xFF);
     let behind = own.at;
     let first = own.row;
@@ -42,7 +42,7 @@ fn write(table: &[u8], s: &[u8], controls: &mut [u32], rows: &mut [u32])
             put_top(
                 table,
                 &mut hints,
-                &starts,
+                &scopes,
                 s,
                 next,
                 count,

@@ -50,9 +50,9 @@ pub record NodeParts (t s : List ℕ) (p : ℕ) (st : State) : Type 0 where
   pub is : nodeAt s p ≡ some (node (u16 s p) props ∷ [], end)
   pub fit : Fit (controlOf t s (node (u16 s p) props) ∷ []) st
 
-pub node-parts : (t starts s : List ℕ) (p : ℕ) (st : State) → NodesReady t starts s (nodeAt s p) st → NodeParts t s p st
+pub node-parts : (t scopes s : List ℕ) (p : ℕ) (st : State) → NodesReady t scopes s (nodeAt s p) st → NodeParts t s p st
 unfolding nodeAt
-node-parts t starts s p st h = go (halfAt s p) (runAt s (p + 2)) (half-is s p) refl refl (h .fits)
+node-parts t scopes s p st h = go (halfAt s p) (runAt s (p + 2)) (half-is s p) refl refl (h .fits)
   where
     go : (a : Option ℕ) (b : Option (List Prop × ℕ)) → Every (λ n. (n ≡ u16 s p) × (p + 1 < length s)) a → runAt s (p + 2) ≡ b
         → nodeAt s p ≡ (a >>= λ type. b >>= λ x. some (node type (x .0) ∷ [], x .1))
@@ -68,9 +68,9 @@ node-parts t starts s p st h = go (halfAt s p) (runAt s (p + 2)) (half-is s p) r
       fit = rw (e .0) at f;
     }
 
-module _ (t starts s : List ℕ) (at : ℕ) (cs : List ℕ) (ci : ℕ) (ps : List ℕ) (pi : ℕ) (h : NodesReady t starts s (nodeAt s at) (state cs ci ps pi)) where
+module _ (t scopes s : List ℕ) (at : ℕ) (cs : List ℕ) (ci : ℕ) (ps : List ℕ) (pi : ℕ) (h : NodesReady t scopes s (nodeAt s at) (state cs ci ps pi)) where
   parts : NodeParts t s at (state cs ci ps pi)
-  parts = node-parts t starts s at (state cs ci ps pi) h
+  parts = node-parts t scopes s at (state cs ci ps pi) h
 
   theirs-many : length (theirs (controlOf t s (node (u16 s at) (parts .props)) ∷ [])) ≡ length (parts .props)
   unfolding controlOf

@@ -14,7 +14,7 @@ use Rattle.rules.specs.Access2000.{Prop, runAt}
 use Rattle.rules.specs.Read2000.{controlOf}
 use Rattle.rows.specs.Writing.{State}
 use Rattle.rows.specs.Acts.{Nodes, Stood, actBy, Ready}
-use Rattle.coderows.specs.Look.{Placed}
+use Rattle.coderows.specs.Look.{Listed}
 
 -- an entry without its list
 unfoldable pub nodeAt : List ℕ → ℕ → Nodes Prop
@@ -26,11 +26,11 @@ nodeAt s p = do
 abbrev pub act : List ℕ → List ℕ → Nodes Prop → State → Option Stood
 act t s o st = actBy (controlOf t s) o st
 
--- what is known of the table, the starts of its rows and the stream beforehand
-pub record Given (t starts s : List ℕ) : Type 0 where
+-- what is known of the table, the list of its scopes and the stream beforehand
+pub record Given (t scopes s : List ℕ) : Type 0 where
   pub formed : wellFormed t ≡ true
-  pub placed : Placed t starts
+  pub listed : Listed t scopes
   pub small : length s ≤ longest
 
 abbrev pub NodesReady : List ℕ → List ℕ → List ℕ → Nodes Prop → State → Type 0
-NodesReady t starts s o st = Ready (Given t starts s) (controlOf t s) o st
+NodesReady t scopes s o st = Ready (Given t scopes s) (controlOf t s) o st

@@ -53,7 +53,7 @@ fn type_code(table: &[u8], report: bool, kind: u16) -> u32
 pub fn put_node(
     table: &[u8],
     hints: &mut [u8; 4352],
-    starts: &[u32; 64],
+    scopes: &[u32; 192],
     s: &[u8],
     at: usize,
     controls: &mut [u32],
@@ -61,12 +61,12 @@ pub fn put_node(
     rows: &mut [u32],
     p: usize,
 ) -> Next
-    requires { ⌜ nodes.NodesReady (now table) (now starts) (now s) (nodes.nodeAt (now s) at) (state (now controls) c (now rows) p) ⌝ }
+    requires { ⌜ nodes.NodesReady (now table) (now scopes) (now s) (nodes.nodeAt (now s) at) (state (now controls) c (now rows) p) ⌝ }
     ensures { λ r. ⌜ some (stood (now (controls .exit)) (r .control) (now (rows .exit)) (r .property) (r .at)) ≡ nodes.act (now (table .entry)) (now (s .entry)) (nodes.nodeAt (now (s .entry)) at) (state (now (controls .entry)) c (now (rows .entry)) p) ⌝ }
 {
     let kind = u16_at(s, at);
     let run = at + 2;
-    let body = find_scope(table, hints, starts, 2, kind);
+    let body = find_scope(table, hints, scopes, 2, kind);
     let own = properties(table, hints, body, s, run, rows, p, name_id(kind));
     let next = own.row;
     let named = own.name;

@@ -48,12 +48,12 @@ entry-nodes s below p = go (halfAt s p) (runAt s (p + 2))
     go (some type) none = refl
     go (some type) (some x) = close-nodes below type (x .0) (headAt s (x .1))
 
-module _ (t starts s : List ℕ) (below : ℕ → ℕ → Option (Entries Prop × ℕ)) (p : ℕ) (st : State) (h : NodesReady t starts s (entryNodes (entryAt s below p)) st) where
-  pub node-ready : NodesReady t starts s (nodeAt s p) st
+module _ (t scopes s : List ℕ) (below : ℕ → ℕ → Option (Entries Prop × ℕ)) (p : ℕ) (st : State) (h : NodesReady t scopes s (entryNodes (entryAt s below p)) st) where
+  pub node-ready : NodesReady t scopes s (nodeAt s p) st
   node-ready = ready-first _ (controlOf t s) (nodeAt s p) (belowAt s below) st (rw (entry-nodes s below p) at h)
 
   module _ (now : State) (q : ℕ) (wrote : some (at-place now q) ≡ act t s (nodeAt s p) st) (o : Opens) (oe : o ≡ told.head (headAt s q)) where
-    behind-node : Remain (Given t starts s) (controlOf t s) (belowAt s below q) (entryNodes (entryAt s below p)) st now
+    behind-node : Remain (Given t scopes s) (controlOf t s) (belowAt s below q) (entryNodes (entryAt s below p)) st now
     behind-node = remain-step _ (controlOf t s) (nodeAt s p) (belowAt s below) _ st st now q (remain-start _ (controlOf t s) _ _ st (entry-nodes s below p) h) wrote
 
     pub entry-bad : o ≡ Opens.Bad → ⊥
@@ -64,6 +64,6 @@ module _ (t starts s : List ℕ) (below : ℕ → ℕ → Option (Entries Prop �
     unfolding belowAt belowBy
     entry-plain e k = remain-done _ (controlOf t s) _ st now e (rw (opens-plain (headAt s q) o e oe k) at behind-node)
 
-    pub entry-listed : (n e : ℕ) → o ≡ Opens.Listed n e → Remain (Given t starts s) (controlOf t s) (listNodes (below n e)) (entryNodes (entryAt s below p)) st now
+    pub entry-listed : (n e : ℕ) → o ≡ Opens.Listed n e → Remain (Given t scopes s) (controlOf t s) (listNodes (below n e)) (entryNodes (entryAt s below p)) st now
     unfolding belowAt belowBy
     entry-listed n e k = rw (opens-listed (headAt s q) o n e oe k) at behind-node

@@ -27,7 +27,7 @@ enum Pass {
 fn put_entry(
     table: &[u8],
     hints: &mut [u8; 4352],
-    starts: &[u32; 64],
+    scopes: &[u32; 192],
     s: &[u8],
     at: usize,
     left: usize,
@@ -36,10 +36,10 @@ fn put_entry(
     rows: &mut [u32],
     p: usize,
 ) -> Next
-    requires { ⌜ nodes.NodesReady (now table) (now starts) (now s) (entryNodes (entryAt (now s) (entriesAt left (now s)) at)) (state (now controls) c (now rows) p) ⌝ }
+    requires { ⌜ nodes.NodesReady (now table) (now scopes) (now s) (entryNodes (entryAt (now s) (entriesAt left (now s)) at)) (state (now controls) c (now rows) p) ⌝ }
     ensures { λ r. ⌜ some (stood (now (controls .exit)) (r .control) (now (rows .exit)) (r .property) (r .at)) ≡ nodes.act (now (table .entry)) (now (s .entry)) (entryNodes (entryAt (now (s .entry)) (entriesAt left (now (s .entry))) at)) (state (now (controls .entry)) c (now (rows .entry)) p) ⌝ }
 {
-    let node = put_node(table, hints, starts, s, at, controls, c, rows, p);
+    let node = put_node(table, hints, scopes, s, at, controls, c, rows, p);
     let behind = node.at;
     let i = node.control;
     let j = node.property;
@@ -51,7 +51,7 @@ fn put_entry(
             property: j,
         },
         Opens::Listed { count: n, next: q } => {
-            put_list(table, hints, starts, s, q, n, left, controls, i, rows, j)
+            put_list(table, hints, scopes, s, q, n, left, controls, i, rows, j)
         }
     }
 }
@@ -60,7 +60,7 @@ fn put_entry(
 fn put_list(
     table: &[u8],
     hints: &mut [u8; 4352],
-    starts: &[u32; 64],
+    scopes: &[u32; 192],
     s: &[u8],
     at: usize,
     n: usize,
@@ -70,7 +70,7 @@ fn put_list(
     rows: &mut [u32],
     p: usize,
 ) -> Next
-    requires { ⌜ nodes.NodesReady (now table) (now starts) (now s) (listNodes (entriesAt left (now s) n at)) (state (now controls) c (now rows) p) ⌝ }
+    requires { ⌜ nodes.NodesReady (now table) (now scopes) (now s) (listNodes (entriesAt left (now s) n at)) (state (now controls) c (now rows) p) ⌝ }
     ensures { λ r. ⌜ some (stood (now (controls .exit)) (r .control) (now (rows .exit)) (r .property) (r .at)) ≡ nodes.act (now (table .entry)) (now (s .entry)) (listNodes (entriesAt left (now (s .entry)) n at)) (state (now (controls .entry)) c (now (rows .entry)) p) ⌝ }
 {
     let mut pos = at;
@@ -78,7 +78,7 @@ fn put_list(
     let mut i = c;
     let mut j = p;
     while 0 < k {
-        let e = put_entry(table, hints, starts, s, pos, left - 1, controls, i, rows, j);
+        let e = put_entry(table, hints, scopes, s, pos, left - 1, controls, i, rows, j);
         pos = e.at;
         i = e.control;
         j = e.property;
@@ -116,7 +116,7 @@ fn skip(s: &[u8], at: usize) -> Pass
 pub fn put_top(
     table: &[u8],
     hints: &mut [u8; 4352],
-    starts: &[u32; 64],
+    scopes: &[u32; 192],
     s: &[u8],
     at: usize,
     n: usize,
@@ -125,7 +125,7 @@ pub fn put_top(
     rows: &mut [u32],
     p: usize,
 ) -> Next
-    requires { ⌜ nodes.NodesReady (now table) (now starts) (now s) (topNodes (entriesAt levels (now s) n at)) (state (now controls) c (now rows) p) ⌝ }
+    requires { ⌜ nodes.NodesReady (now table) (now scopes) (now s) (topNodes (entriesAt levels (now s) n at)) (state (now controls) c (now rows) p) ⌝ }
     ensures { λ r. ⌜ some (stood (now (controls .exit)) (r .control) (now (rows .exit)) (r .property) (r .at)) ≡ nodes.act (now (table .entry)) (now (s .entry)) (topNodes (entriesAt levels (now (s .entry)) n at)) (state (now (controls .entry)) c (now (rows .entry)) p) ⌝ }
 {
     let mut pos = at;
@@ -139,7 +139,7 @@ pub fn put_top(
                 pos = next;
             }
             Pass::Not => {
-                let e = put_entry(table, hints, starts, s, pos, 255, controls, i, rows, j);
+                let e = put_entry(table, hints, scopes, s, pos, 255, controls, i, rows, j);
                 pos = e.at;
                 i = e.control;
                 j = e.property;

@@ -3,20 +3,21 @@ use borrow.Author.Needs.{needs}
 use Prim.Native.Nat.{_<_}
 use denote.Ref.{now}
 use Rattle.rules.proofs.CodeTableLaws.{formed}
-use Rattle.coderows.proofs.Scopes.{Sought, missing-rows, placed-rows}
+use Rattle.coderows.specs.Look.{Listed}
+use Rattle.coderows.proofs.Scopes.{Sought, missing-rows, listed-rows}
 use Rattle.coderows.proofs.Lookup.{finds}
-use Rattle.coderows.proofs.Starts.{placed-start}
+use Rattle.coderows.proofs.Listing.{listed-words}
 use Rattle.coderows.proofs.find_scope.Statement.{statement}
 use Rattle.coderows.proofs.find_scope.Tie as tie
 
 -- what the search for the scope gives
-sought : (c : tie.After-find-index)
-    → Sought (now (c .before .before .before .before .before .args .table)) (c .before .before .before .before .before .args .kind) (c .before .before .before .before .before .args .code) (c .before .before .before .byte .result) (c .before .before .word .result) (c .find-index .result)
-sought c = record {
-  bytes = λ i. c .before .before .before .before .shared-slice-known .given i .fits;
+sought : (c : tie.After-find-index) → (let a = c .before .before .before .before .args in Listed (now (a .table)) (now (a .scopes))
+    → Sought (now (a .table)) (a .kind) (a .code) (c .before .before .word .result) (c .find-index .result))
+sought c L = record {
+  bytes = λ i. c .before .before .before .shared-slice-known .given i .fits;
   code-fits = omega arith;
-  counts = record { headers-is = c .before .before .before .byte .ensures .is; scopes-is = c .before .before .word .ensures .is };
-  place = c .find-index .ensures;
+  scopes-is = c .before .before .word .ensures .is;
+  place = c .find-index .ensures .is L (c .before .before .word .ensures .is);
 }
 
 -- the scope that was found is one of them
@@ -24,30 +25,28 @@ within : (c : tie.After-index) → c .index .given .0 .0 < c .before .before .be
 within c = c .before .before .find-index .ensures .inside (c .index .given .0 .0) (c .index .given .1)
 
 returns : tie.Need-returns
-returns c = λ P. finds _ _ _ _ (λ F. absurd (omega (arith, formed (now (c .before .before .before .before .before .args .table)) F .few-scopes)))
+returns c = λ L. finds _ _ _ _ (λ F. absurd (omega (arith, formed (now (c .before .before .before .before .args .table)) F .few-scopes)))
 
 returns-2 : tie.Need-returns-2
-returns-2 c = λ P. finds _ _ _ _ (λ F. rw (c .missing2 .ensures) (missing-rows (sought (c .before .before .before)) F (c .before .enum-told .given .1)))
+returns-2 c = λ L. finds _ _ _ _ (λ F. rw (c .missing2 .ensures) (missing-rows (sought (c .before .before .before) L) F (c .before .enum-told .given .1)))
 
 returns-3 : tie.Need-returns-3
-returns-3 c =
+returns-3 c = λ L.
     let i = c .before .before .before in
     let k = i .index .given .0 .0 in
-    let a = i .before .before .before .before .before .before .before .args in
-    let s = sought (i .before .before) in
-    λ P. finds _ _ _ _ (λ F. rw (placed-start (now (a .table)) (now (a .starts)) (s .counts) P k (within i) (omega arith), c .before .word2 .ensures .is) (placed-rows s F k (i .index .given .1)))
+    let s = sought (i .before .before) L in
+    let w = listed-words L (s .scopes-is) k (within i) (omega arith) in
+    finds _ _ _ _ (λ F. rw (w .start, w .count) (listed-rows s F k (i .index .given .1)))
 
 pub find-scope-spec : {M : Type 1} → statement M
 find-scope-spec =
     tie.close
     (tie.spec
-    (λ c κs. search needs) (λ c κs. search needs) (λ c κs. search needs)
+    (λ c κs. search needs) (λ c κs. search needs)
     returns
-    (λ c. search needs) (λ c. search needs) (λ c. search needs) (λ c. search needs) (λ c κs. search needs) (λ c. search needs)
+    (λ c. search needs) (λ c. search needs) (λ c κs. search needs) (λ c. search needs)
     (λ c. search needs) (λ c κs. search needs)
     returns-2
-    (λ c. omega (arith, within (c .before))) (λ c. omega (arith, within (c .before))) (λ c. omega (arith, within (c .before)))
-    (λ c κs. omega (arith, within (c .before)))
-    (λ c. omega (arith, within (c .before .before))) (λ c. omega (arith, within (c .before .before)))
-    (λ c. search needs)
+    (λ c. omega (arith, within (c .before))) (λ c. omega (arith, within (c .before))) (λ c. omega (arith, within (c .before))) (λ c. omega (arith, within (c .before)))
+    (λ c. omega (arith, within (c .before .before))) (λ c. omega (arith, within (c .before .before))) (λ c. omega (arith, within (c .before .before)))
     returns-3)

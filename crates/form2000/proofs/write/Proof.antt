@@ -7,7 +7,7 @@ use Rattle.form2000.proofs.write.Tie as tie
 
 -- the rows that were found are the object's scope's
 found : (c : tie.After-find-scope) → Finds (now (c .before .before .before .before .before .before .before .before .before .args .table)) (c .before .object-kind .result) 0 (c .find-scope .result)
-found c = c .find-scope .ensures (c .before .before .before .before .scope-starts .ensures)
+found c = c .find-scope .ensures (c .before .before .before .before .list-scopes .ensures)
 
 properties-requires : tie.Need-properties-requires
 properties-requires c κs = own-ready _ _ _ _ (c .before .before .before .before .before .before .before .before .before .before .before .pre) _ (c .before .before .before .object-kind .ensures) _ (found (c .before .before))
@@ -15,7 +15,7 @@ properties-requires c κs = own-ready _ _ _ _ (c .before .before .before .before
 put-top-requires : tie.Need-put-top-requires
 put-top-requires c κs =
     top-ready _ _ _ _ (c .before .before .before .before .before .before .before .before .before .before .before .before .before .before .before .before .before .before .before .before .before .before .pre) _ (c .before .before .before .before .before .before .before .before .before .before .before .before .before .before .object-kind .ensures) _ (found (c .before .before .before .before .before .before .before .before .before .before .before .before .before)) _ _ _ (c .before .before .before .before .before .before .before .before .before .before .properties .ensures .0)
-    _ (c .before .before .before .before .before .before .before .head .ensures) _ _ (c .before .before .before .before .before .count .given .1) _ (c .before .before .before .before .before .before .before .before .before .before .before .before .before .before .before .before .before .scope-starts .ensures)
+    _ (c .before .before .before .before .before .before .before .head .ensures) _ _ (c .before .before .before .before .before .count .given .1) _ (c .before .before .before .before .before .before .before .before .before .before .before .before .before .before .before .before .before .list-scopes .ensures)
 
 returns : tie.Need-returns
 returns c =

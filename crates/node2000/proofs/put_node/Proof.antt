@@ -8,7 +8,7 @@ use Rattle.node2000.proofs.put_node.Tie as tie
 
 -- the rows that were found are the scope's
 found : (c : tie.After-find-scope) → Finds (now (c .before .before .before .before .before .before .before .args .table)) 2 (c .before .before .u16-at .result) (c .find-scope .result)
-found c = c .find-scope .ensures (c .before .before .before .before .before .before .before .pre .known .placed)
+found c = c .find-scope .ensures (c .before .before .before .before .before .before .before .pre .known .listed)
 
 properties-requires : tie.Need-properties-requires
 properties-requires c κs = node-run-ready _ _ _ _ _ _ _ _ (c .before .before .before .before .before .before .before .before .before .before .pre) _ (c .before .before .before .before .before .u16-at .ensures) _ (found (c .before .before .before))

@@ -108,10 +108,10 @@ put-entry-returns-3 t c =
 
 -- ---- a list
 abbrev put-list-Inv-loop : put-list-lts.InvT-loop
-put-list-Inv-loop table hints₀ starts s at n left controls₀ c rows₀ p pos₀ k₀ i₀ j₀ hints controls rows pos k i j = Remain (Given table starts s) (controlOf table s) (listNodes (entriesAt left s k pos)) (listNodes (entriesAt left s n at)) (state controls₀ c rows₀ p) (state controls i rows j) × (length controls ≡ length controls₀) × (length rows ≡ length rows₀)
+put-list-Inv-loop table hints₀ scopes s at n left controls₀ c rows₀ p pos₀ k₀ i₀ j₀ hints controls rows pos k i j = Remain (Given table scopes s) (controlOf table s) (listNodes (entriesAt left s k pos)) (listNodes (entriesAt left s n at)) (state controls₀ c rows₀ p) (state controls i rows j) × (length controls ≡ length controls₀) × (length rows ≡ length rows₀)
 
 abbrev put-list-μ-loop : put-list-lts.MeasureT-loop
-put-list-μ-loop table hints₀ starts s at n left controls₀ c rows₀ p pos₀ k₀ i₀ j₀ hints controls rows pos k i j = k
+put-list-μ-loop table hints₀ scopes s at n left controls₀ c rows₀ p pos₀ k₀ i₀ j₀ hints controls rows pos k i j = k
 
 put-list-loop-holds : (t : ℕ) → put-list-lts.Need-loop-holds (put-list-calls t) (put-list-at t) put-list.Post put-list-Inv-loop put-list-μ-loop
 put-list-loop-holds t c = (remain-start _ _ _ _ _ refl (c .before .before .before .before .pre .1), refl, refl)

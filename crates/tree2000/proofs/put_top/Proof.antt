@@ -14,10 +14,10 @@ use Rattle.tree2000.proofs.put_top.Statement.{statement}
 use Rattle.tree2000.proofs.put_top.Tie as tie
 
 abbrev Inv-loop : tie.InvT-loop
-Inv-loop table hints₀ starts s at n controls₀ c rows₀ p pos₀ k₀ i₀ j₀ hints controls rows pos k i j = Remain (Given table starts s) (controlOf table s) (topNodes (entriesAt levels s k pos)) (topNodes (entriesAt levels s n at)) (state controls₀ c rows₀ p) (state controls i rows j) × (length controls ≡ length controls₀) × (length rows ≡ length rows₀)
+Inv-loop table hints₀ scopes s at n controls₀ c rows₀ p pos₀ k₀ i₀ j₀ hints controls rows pos k i j = Remain (Given table scopes s) (controlOf table s) (topNodes (entriesAt levels s k pos)) (topNodes (entriesAt levels s n at)) (state controls₀ c rows₀ p) (state controls i rows j) × (length controls ≡ length controls₀) × (length rows ≡ length rows₀)
 
 abbrev μ-loop : tie.MeasureT-loop
-μ-loop table hints₀ starts s at n controls₀ c rows₀ p pos₀ k₀ i₀ j₀ hints controls rows pos k i j = k
+μ-loop table hints₀ scopes s at n controls₀ c rows₀ p pos₀ k₀ i₀ j₀ hints controls rows pos k i j = k
 
 loop-holds : tie.Need-loop-holds Inv-loop μ-loop
 loop-holds c = (remain-start _ _ _ _ _ refl (c .before .before .before .before .pre), refl, refl)
