@@ -1,4 +1,4 @@
-// The leaves: numbers out of bytes, a single widened, and whether bytes are text. A read past the end is 0, so every function has an answer for every input.
+// The leaves: numbers out of bytes, a single widened, and whether bytes are text. A read past the end is 0, so every public function but two_at and four_at has an answer for every input.
 ghost use mathlib.Core.Path.{_≡_};
 ghost use mathlib.Core.Bool.{false};
 ghost use Prim.Native.Nat.{_+_, _*_, _≤_};
@@ -51,6 +51,21 @@ pub fn u32_at(s: &[u8], at: usize) -> u32
         return of_four(u16_at(s, at), 0);
     }
     of_four(u16_at(s, at), u16_at(s, at + 2))
+}
+
+// Two bytes and four that are there, read without a test.
+pub fn two_at(s: &[u8], at: usize) -> u16
+    requires { ⌜ at + 2 ≤ length (now s) ⌝ }
+    ensures { λ r. ⌜ r ≡ u16 (now (s .entry)) at ⌝ }
+{
+    of_two(s[at], s[at + 1])
+}
+
+pub fn four_at(s: &[u8], at: usize) -> u32
+    requires { ⌜ at + 4 ≤ length (now s) ⌝ }
+    ensures { λ r. ⌜ r ≡ u32 (now (s .entry)) at ⌝ }
+{
+    of_four(two_at(s, at), two_at(s, at + 2))
 }
 
 // ---- whole numbers

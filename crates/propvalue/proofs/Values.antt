@@ -3,15 +3,15 @@ use mathlib.Core.Path.{_≡_, refl, sym, ap, _∙_}
 use mathlib.Core.Bool.{Bool, true, false, cond, _&&_}
 use mathlib.Core.List.{List}
 use mathlib.Core.Option.{Option, none, some}
-use Prim.Native.Nat.{ℕ, _≤_, _<_}
+use Prim.Native.Nat.{ℕ, suc, _+_, _-_, _^_, _≤_, _<_}
 use native.Mathlib.Omega.{arith}
 use borrow.Author.Tests.{lt-ltb, le-ltb, le-leb, lt-leb, ne-eqb}
-use lib.Dec.{eqb}
-use lib.IntN.{ℤ, pos}
+use lib.Dec.{ltb, eqb}
+use lib.IntN.{ℤ, pos, negsuc}
 use lib.ListN.{length}
 use Rattle.rules.specs.Bytes.{byte, u16, u32}
 use Rattle.rules.specs.Utf16.{isUtf16}
-use Rattle.rules.specs.Value.{value, boolValue, notDefault, signed, longValue, shortValue, doubleValue, widened, guidValue, binaryValue, fits16, integerValue, longOr, shortOr, yesNoValue, entryValue, storedValue, valueAs}
+use Rattle.rules.specs.Value.{value, boolValue, notDefault, signed, word32, longValue, shortValue, doubleValue, widened, guidValue, binaryValue, fits16, integerValue, longOr, shortOr, yesNoValue, entryValue, storedValue, valueAs}
 use Rattle.propvalue.specs.Parts.{singleOrBinary, doubleOrBinary, guidOrBinary}
 use Rattle.leaf.specs.Int.{intOf, shortOf}
 use Rattle.leaf.specs.declared.Int.the-variants.{Of, Nothing}
@@ -101,6 +101,15 @@ unfolding entryValue
 other-type t b n1 n2 n3 n4 n6 n8 n9 na nc =
     simp (ne-eqb t 1 n1, ne-eqb t 2 n2, ne-eqb t 3 n3, ne-eqb t 4 n4, ne-eqb t 6 n6, ne-eqb t 8 n8, ne-eqb t 9 n9, ne-eqb t 10 na, ne-eqb t 12 nc)
 
+-- the bits of the number that four bytes stand for are those bytes
+word-signed : (n : ℕ) → n < 2 ^ 32 → word32 (signed 0x80000000 n) ≡ n
+unfolding signed word32
+word-signed n h = go (ltb n 0x80000000) refl
+  where
+    go : (b : Bool) → ltb n 0x80000000 ≡ b → word32 (cond b (pos n) (negsuc (0x80000000 + 0x80000000 - suc n))) ≡ n
+    go true e = refl
+    go false e = omega arith
+
 module _ (id : ℕ) (b : List ℕ) where
   pub stored-flag : id ≤ 0x2F → notDefault ≡ storedValue id b
   unfolding storedValue
@@ -120,6 +129,9 @@ module _ (id : ℕ) (b : List ℕ) where
       let j : 0x2F < id = omega arith in
       let k : 0x5F < id = omega arith in
       simp (lt-leb id 0x2F j, lt-leb id 0x5F k, lt-leb id 0x7F l, le-leb id 0xBC h)
+
+  pub stored-word : 0x7F < id → id ≤ 0xBC → u32 b 0 < 2 ^ 32 → value 3 (u32 b 0) 0 ≡ storedValue id b
+  stored-word l h k = ap (λ (n : ℕ). value 3 n 0) (sym (word-signed (u32 b 0) k)) ∙ stored-long l h
 
   pub stored-bytes : 0xBC < id → binaryValue ≡ storedValue id b
   unfolding storedValue

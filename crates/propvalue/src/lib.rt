@@ -1,12 +1,14 @@
-// A property's value out of its bytes. Every function has an answer for every input.
+// A property's value out of its bytes. Every public function but sized_value has an answer for every input.
 use leaf::Int;
 use leaf::Short;
 use leaf::byte_at;
+use leaf::four_at;
 use leaf::integer_value;
 use leaf::is_utf16;
 use leaf::short_of;
 use leaf::signed16;
 use leaf::signed32;
+use leaf::two_at;
 use leaf::u16_at;
 use leaf::u32_at;
 use leaf::widen;
@@ -14,9 +16,12 @@ use leaf::word_of;
 use rules::Value;
 ghost use mathlib.Core.Path.{_≡_};
 ghost use mathlib.Core.Bool.{cond};
+ghost use Prim.Native.Nat.{_≤_};
+ghost use lib.ListN.{length};
 ghost use Rattle.rules.specs.Utf16.{isUtf16};
 ghost use Rattle.rules.specs.Value.{value, integerValue, longOr, shortOr, boolValue, binaryValue, yesNoValue, entryValue, storedValue, valueAs};
 ghost use Rattle.propvalue.specs.Parts.{singleOrBinary, doubleOrBinary, guidOrBinary};
+ghost use Rattle.propvalue.specs.Sized.{Sized};
 
 fn valued(mark: u32, low: u32, high: u32) -> Value
     ensures { λ r. ⌜ r ≡ value mark low high ⌝ }
@@ -158,4 +163,32 @@ pub fn value_as(kind: u8, id: u8, bytes: &[u8]) -> Value
         3 => double_value(bytes),
         _ => valued(7, 0, 0),
     }
+}
+
+// As stored_value, of at least as many bytes as the id tells: their number isn't tested.
+fn told_value(id: u8, bytes: &[u8]) -> Value
+    requires { ⌜ (id ≤ 0xBC) × Sized id (length (now bytes)) ⌝ }
+    ensures { λ r. ⌜ r ≡ storedValue id (now (bytes .entry)) ⌝ }
+{
+    if 0x5f < id {
+        if 0x7f < id {
+            return valued(3, four_at(bytes, 0), 0);
+        }
+        return valued(2, word_of(signed16(two_at(bytes, 0))), 0);
+    }
+    if 0x2f < id {
+        return valued(2, bytes[0] as u32, 0);
+    }
+    valued(1, 0, 0)
+}
+
+// As value_as, of at least as many bytes as the id tells, where it tells that.
+pub fn sized_value(kind: u8, id: u8, bytes: &[u8]) -> Value
+    requires { ⌜ Sized id (length (now bytes)) ⌝ }
+    ensures { λ r. ⌜ r ≡ valueAs kind id (now (bytes .entry)) ⌝ }
+{
+    if id <= 0xbc {
+        return told_value(id, bytes);
+    }
+    value_as(kind, id, bytes)
 }

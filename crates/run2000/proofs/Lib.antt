@@ -1,4 +1,5 @@
 -- What the proofs of several functions use.
 pub mod RunSteps
 pub mod Shows
+pub mod Sizes
 pub mod Written

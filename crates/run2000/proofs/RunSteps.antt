@@ -33,7 +33,7 @@ property-id s p =
     every-when (λ q. q .id ≡ byte s p) (extentAt s (byte s p) (p + 1)) _ λ x _.
     every-if (λ q. q .id ≡ byte s p) (leb (x .0 + x .1) (length s)) _ _ (λ _. refl) λ _. tt
 
-property-is : (s : List ℕ) (p : ℕ) (r : Spot) (st sz : ℕ) → r ≡ told.spot (propertyAt s p) → r ≡ Spot.At st sz → propertyAt s p ≡ some (prop (byte s p) st sz)
+pub property-is : (s : List ℕ) (p : ℕ) (r : Spot) (st sz : ℕ) → r ≡ told.spot (propertyAt s p) → r ≡ Spot.At st sz → propertyAt s p ≡ some (prop (byte s p) st sz)
 property-is s p r st sz e k = go (propertyAt s p) (property-id s p) (sym e ∙ k)
   where
     go : (o : Option Prop) → Every (λ q. q .id ≡ byte s p) o → told.spot o ≡ Spot.At st sz → o ≡ some (prop (byte s p) st sz)

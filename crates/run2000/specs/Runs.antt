@@ -17,6 +17,7 @@ use Rattle.rules.specs.Read2000.{shown, nameBy}
 use Rattle.rules.specs.declared.Name.{Name}
 use Rattle.rules.specs.declared.Name.the-variants.{Text, Numbered}
 use Rattle.rules.specs.declared.Property.{Property}
+use Rattle.propvalue.specs.Sized.{Sized}
 use Rattle.rows.specs.Writing.{writeProperties}
 use Rattle.rows.specs.Acts.{Held}
 use Rattle.coderows.specs.Look.{Sorted, bodyRows}
@@ -31,11 +32,12 @@ prop id start size = record { id = id; start = start; size = size }
 unfoldable pub shownIn : List Tie → List ℕ → Prop → Property
 shownIn ties s q = shown s q (find (isTied (q .id)) ties)
 
--- a value within a stream that isn't too long, and the rows that tie its id
-pub record Inside (t : List ℕ) (body : Body) (s : List ℕ) (start size : ℕ) : Type 0 where
+-- a value within a stream that isn't too long, as long as its id tells, and the rows that tie its id
+pub record Inside (t : List ℕ) (body : Body) (s : List ℕ) (id start size : ℕ) : Type 0 where
   pub small : length s ≤ longest
   pub sorted : Sorted (bodyRows t body)
   pub inside : start + size ≤ length s
+  pub sized : Sized id size
 
 -- the property rows at exit, the row behind the last, and the place behind the run
 pub record Ran : Type 0 where

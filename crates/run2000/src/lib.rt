@@ -3,8 +3,8 @@ use codehints::find_row;
 use coderows::Body;
 use coderows::Row;
 use leaf::is_utf16;
+use propvalue::sized_value;
 use propvalue::stored_value;
-use propvalue::value_as;
 use rows::put_property;
 use rules::Name;
 use rules::Property;
@@ -58,14 +58,14 @@ fn property(
     start: usize,
     size: usize,
 ) -> Property
-    requires { ⌜ runs.Inside (now table) body (now s) start size ⌝ }
+    requires { ⌜ runs.Inside (now table) body (now s) id start size ⌝ }
     ensures { λ r. ⌜ r ≡ runs.shownIn (bodyRows (now (table .entry)) body) (now (s .entry)) (runs.prop id start size) ⌝ }
 {
     let bytes = part(s, start, size);
     match find_row(table, hints, body, id) {
         Row::Tied { target, kind } => Property {
             id: target as u32,
-            value: value_as(kind, id, bytes),
+            value: sized_value(kind, id, bytes),
             start: start as u32,
             size: size as u32,
         },

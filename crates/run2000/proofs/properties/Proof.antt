@@ -11,6 +11,7 @@ use Rattle.coderows.specs.Look.{bodyRows}
 use Rattle.walk2000.proofs.Runs.{starts, stops, ends}
 use Rattle.run2000.specs.Runs.{shownIn, RunFits}
 use Rattle.run2000.proofs.Shows.{shown-six}
+use Rattle.run2000.proofs.Sizes.{value-sized}
 use Rattle.run2000.proofs.RunSteps.{Left, left-start, left-stop, left-bad, left-room, left-more, Named, named-start, named-stop, named-more}
 use Rattle.run2000.proofs.properties.Statement.{statement}
 use Rattle.run2000.proofs.properties.Tie as tie
@@ -44,8 +45,9 @@ returns-2 c = absurd (left-bad _ _ _ _ _ _ _ _ (c .before .before .before .befor
 property-requires : tie.Need-property-requires Inv-loop μ-loop
 property-requires c κs =
     let b = c .before .before .before .before .before .before .before .before .before .before .before .before in
-    let e = ends _ _ _ _ _ (c .before .before .before .before .value .ensures) (c .before .before .start .given .1) in
-    record { small = b .pre .small; sorted = b .pre .sorted; inside = e .1 }
+    let v = c .before .before .before .before .value .ensures in
+    let k = c .before .before .start .given .1 in
+    record { small = b .pre .small; sorted = b .pre .sorted; inside = ends _ _ _ _ _ v k .1; sized = value-sized _ _ _ _ _ v k }
 
 next-name-requires : tie.Need-next-name-requires Inv-loop μ-loop
 next-name-requires c κs =

@@ -1,0 +1,60 @@
+use mathlib.Core.Path.{ap, _∙_}
+use Prim.Native.Nat.{ℕ}
+use native.Mathlib.Omega.{arith}
+use borrow.Author.Needs.{needs}
+use mir.Syntax.{w32}
+use mir.Facts.{toZ-ofZ}
+use Rattle.rules.specs.Value.{value, signed, word32}
+use Rattle.propvalue.proofs.Values.{stored-flag, stored-byte, stored-short, stored-word}
+use Rattle.propvalue.proofs.told_value.Statement.{statement}
+use Rattle.propvalue.proofs.told_value.Tie as tie
+
+four-at-requires : tie.Need-four-at-requires
+four-at-requires c κs = let p = c .before .before .before .pre in omega (arith, p .1 .four (omega arith) (p .0))
+
+returns : tie.Need-returns
+returns c =
+    let b = c .before .before .before .before .before in
+    c .valued .ensures ∙ ap (λ (n : ℕ). value 3 n 0) (c .before .four-at .ensures) ∙ stored-word (b .args .id) (b .args .bytes .now) (omega arith) (b .pre .0) (omega (arith, c .before .four-at .ensures))
+
+two-at-requires : tie.Need-two-at-requires
+two-at-requires c κs = let p = c .before .before .before .pre in omega (arith, p .1 .two (omega arith) (p .0))
+
+returns-2 : tie.Need-returns-2
+returns-2 c =
+    let a = c .before .before .before .before .before .before .before .args in
+    c .valued2 .ensures
+    ∙ ap (λ (n : ℕ). value 2 n 0) (c .before .word-of .ensures ∙ ap word32 (toZ-ofZ {w = w32} (record { sfits = c .before .before .signed16 .ok }) ∙ c .before .before .signed16 .ensures ∙ ap (signed 0x8000) (c .before .before .before .two-at .ensures)))
+    ∙ stored-short (a .id) (a .bytes .now) (omega arith) (omega arith)
+
+shared-slice-read-valued : tie.Need-shared-slice-read-valued
+shared-slice-read-valued c = let p = c .before .before .before .before .pre in omega (arith, p .1 .one (omega arith) (p .0))
+
+cast-valued : tie.Need-cast-valued
+cast-valued c = record { fits = omega (arith, c .shared-slice-known2 .given 0 .fits) }
+
+returns-3 : tie.Need-returns-3
+unfolding word32
+returns-3 c =
+    let a = c .before .before .before .before .before .args in
+    c .valued3 .ensures ∙ stored-byte (a .id) (a .bytes .now) (omega arith) (omega arith)
+
+returns-4 : tie.Need-returns-4
+returns-4 c = let a = c .before .before .before .before .args in c .valued4 .ensures ∙ stored-flag (a .id) (a .bytes .now) (omega arith)
+
+pub told-value-spec : {M : Type 1} → statement M
+told-value-spec =
+    tie.close
+    (tie.spec
+    four-at-requires
+    (λ c κs. search needs)
+    returns
+    two-at-requires
+    (λ c κs. search needs) (λ c κs. search needs) (λ c κs. search needs)
+    returns-2
+    shared-slice-read-valued
+    cast-valued
+    (λ c κs. search needs)
+    returns-3
+    (λ c κs. search needs)
+    returns-4)
