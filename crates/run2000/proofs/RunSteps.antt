@@ -191,3 +191,11 @@ module _ (s : List ℕ) (w at : ℕ) (p : ℕ) (r : Spot) (goes : goesOn s p ≡
       go : (b : Bool) → eqb (byte s p) (x .wanted) ≡ b → Named s w at (cond b (record { name = nameAt s st sz; wanted = 0xFF }) x) (st + sz)
       go true q = inr (now-named x h (eqb-true _ _ q), refl)
       go false q = same-named x h (eqb-false _ _ q)
+
+  -- no name has an id that tells its value's size
+  not-wanted : (x : Naming) → Named s w at x p → 0xBC < w → byte s p ≤ 0xBC → byte s p ≡ x .wanted → ⊥
+  not-wanted x (inl u) hw hb e = omega (arith, u .2)
+  not-wanted x (inr h) hw hb e = omega (arith, h .1)
+
+  pub named-past : (x x′ : Naming) → Named s w at x p → 0xBC < w → byte s p ≤ 0xBC → x′ ≡ x → Named s w at x′ (st + sz)
+  named-past x x′ h hw hb e = rw e (same-named x h (not-wanted x h hw hb))

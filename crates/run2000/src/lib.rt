@@ -12,7 +12,7 @@ use walk2000::Spot;
 use walk2000::value;
 ghost use mathlib.Core.Path.{_≡_};
 ghost use mathlib.Core.Option.{some};
-ghost use Prim.Native.Nat.{_+_, _≤_};
+ghost use Prim.Native.Nat.{_+_, _≤_, _<_};
 ghost use lib.Bits.{bitOr};
 ghost use lib.ListN.{length};
 ghost use Rattle.coderows.specs.Look.{bodyRows};
@@ -120,7 +120,7 @@ fn run_rows(at: usize, row: usize, naming: Naming) -> Rows
     Rows { at, row, name }
 }
 
-// Writes a row for each property of the run at `at`, from row `first` on; the name is that of the first property with the id `wanted`.
+// Writes a row for each property of the run at `at`, from row `first` on; the name is that of the first property with the id `wanted`, which is one behind a length.
 pub fn properties(
     table: &[u8],
     hints: &mut [u8; 4352],
@@ -131,7 +131,7 @@ pub fn properties(
     first: usize,
     wanted: u8,
 ) -> Rows
-    requires { ⌜ runs.RunReady (now table) body (now s) at (now rows) first ⌝ }
+    requires { ⌜ runs.RunReady (now table) body (now s) at (now rows) first × (0xBC < wanted) ⌝ }
     ensures { λ r. ⌜ (some (runs.ran (now (rows .exit)) (r .row) (r .at)) ≡ runs.runAct (runs.shownIn (bodyRows (now (table .entry)) body) (now (s .entry))) (runAt (now (s .entry)) at) (now (rows .entry)) first) × (r .name ≡ runs.nameIn (now (s .entry)) wanted (runAt (now (s .entry)) at)) ⌝ }
 {
     let mut p = at;
@@ -150,7 +150,9 @@ pub fn properties(
         };
         let shown = property(table, hints, body, s, id, start, size);
         let v = shown.value;
-        naming = next_name(naming, s, id, v.mark, start, size);
+        if 0xBC < id {
+            naming = next_name(naming, s, id, v.mark, start, size);
+        }
         put_property(rows, n, shown);
         p = start + size;
         n = n + 1;

@@ -1,3 +1,4 @@
+use native.Mathlib.Omega.{arith}
 use borrow.Author.Needs.{needs}
 use denote.Ref.{now}
 use Rattle.coderows.specs.Look.{Finds}
@@ -10,7 +11,7 @@ found : (c : tie.After-find-scope) → Finds (now (c .before .before .before .be
 found c = c .find-scope .ensures (c .before .before .before .before .list-scopes .ensures)
 
 properties-requires : tie.Need-properties-requires
-properties-requires c κs = own-ready _ _ _ _ (c .before .before .before .before .before .before .before .before .before .before .before .pre) _ (c .before .before .before .object-kind .ensures) _ (found (c .before .before))
+properties-requires c κs = (own-ready _ _ _ _ (c .before .before .before .before .before .before .before .before .before .before .before .pre) _ (c .before .before .before .object-kind .ensures) _ (found (c .before .before)), omega arith)
 
 put-top-requires : tie.Need-put-top-requires
 put-top-requires c κs =

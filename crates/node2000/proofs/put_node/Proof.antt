@@ -3,6 +3,7 @@ use borrow.Author.Needs.{needs}
 use denote.Ref.{now}
 use Rattle.coderows.specs.Look.{Finds}
 use Rattle.node2000.proofs.NodeLaws.{node-inside, node-run-ready, node-small, node-rows, node-row-room, node-done}
+use Rattle.node2000.proofs.Types.{name-id-above}
 use Rattle.node2000.proofs.put_node.Statement.{statement}
 use Rattle.node2000.proofs.put_node.Tie as tie
 
@@ -11,7 +12,10 @@ found : (c : tie.After-find-scope) → Finds (now (c .before .before .before .be
 found c = c .find-scope .ensures (c .before .before .before .before .before .before .before .pre .known .listed)
 
 properties-requires : tie.Need-properties-requires
-properties-requires c κs = node-run-ready _ _ _ _ _ _ _ _ (c .before .before .before .before .before .before .before .before .before .before .pre) _ (c .before .before .before .before .before .u16-at .ensures) _ (found (c .before .before .before))
+properties-requires c κs = (
+  node-run-ready _ _ _ _ _ _ _ _ (c .before .before .before .before .before .before .before .before .before .before .pre) _ (c .before .before .before .before .before .u16-at .ensures) _ (found (c .before .before .before)),
+  name-id-above (c .before .before .before .before .before .u16-at .result) _ (c .name-id .ensures),
+)
 
 sub-control-row : tie.Need-sub-control-row
 sub-control-row c = omega (arith, node-rows _ _ _ _ _ _ _ _ (c .before .before .before .before .before .before .before .before .before .before .before .before .before .before .before .pre) _ (c .before .before .before .before .before .before .before .before .before .before .u16-at .ensures) _ (found (c .before .before .before .before .before .before .before .before)) _ _ _ (c .before .before .before .before .properties .ensures .0))

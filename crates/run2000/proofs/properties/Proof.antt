@@ -3,6 +3,7 @@ use borrow.Author.Needs.{needs}
 use Prim.Native.Nat.{_-_}
 use mathlib.Core.Path.{_≡_, _∙_}
 use mathlib.Core.Bool.{true, false}
+use mathlib.Core.Logic.{⊎-elim}
 use denote.Ref.{now}
 use lib.ListN.{length}
 use Rattle.rules.specs.Access2000.{goesOn}
@@ -12,7 +13,7 @@ use Rattle.walk2000.proofs.Runs.{starts, stops, ends}
 use Rattle.run2000.specs.Runs.{shownIn, RunFits}
 use Rattle.run2000.proofs.Shows.{shown-six}
 use Rattle.run2000.proofs.Sizes.{value-sized}
-use Rattle.run2000.proofs.RunSteps.{Left, left-start, left-stop, left-bad, left-room, left-more, Named, named-start, named-stop, named-more}
+use Rattle.run2000.proofs.RunSteps.{Left, left-start, left-stop, left-bad, left-room, left-more, Named, named-start, named-stop, named-more, named-past}
 use Rattle.run2000.proofs.properties.Statement.{statement}
 use Rattle.run2000.proofs.properties.Tie as tie
 
@@ -30,7 +31,7 @@ goes c = starts _ _ (omega (arith, c .before .before .loop-test .taken)) (omega 
 loop-holds : tie.Need-loop-holds Inv-loop μ-loop
 loop-holds c =
     let b = c .before .before .before in
-    (left-start _ _ _ _ _ (b .pre .fits), named-start _ (b .args .wanted) _ (RunFits (b .args .rows .now) (b .args .first)) (b .pre .fits))
+    (left-start _ _ _ _ _ (b .pre .0 .fits), named-start _ (b .args .wanted) _ (RunFits (b .args .rows .now) (b .args .first)) (b .pre .0 .fits))
 
 returns : tie.Need-returns Inv-loop μ-loop
 returns c =
@@ -47,18 +48,18 @@ property-requires c κs =
     let b = c .before .before .before .before .before .before .before .before .before .before .before .before in
     let v = c .before .before .before .before .value .ensures in
     let k = c .before .before .start .given .1 in
-    record { small = b .pre .small; sorted = b .pre .sorted; inside = ends _ _ _ _ _ v k .1; sized = value-sized _ _ _ _ _ v k }
+    record { small = b .pre .0 .small; sorted = b .pre .0 .sorted; inside = ends _ _ _ _ _ v k .1; sized = value-sized _ _ _ _ _ v k }
 
 next-name-requires : tie.Need-next-name-requires Inv-loop μ-loop
 next-name-requires c κs =
-    let e = ends _ _ _ _ _ (c .before .before .before .before .before .before .value .ensures) (c .before .before .before .before .start .given .1) in
-    record { small = c .before .before .before .before .before .before .before .before .before .before .before .before .before .before .pre .small; inside = e .1; text = shown-six _ _ _ _ _ _ (c .before .property .ensures) }
+    let e = ends _ _ _ _ _ (c .before .before .before .before .before .before .before .value .ensures) (c .before .before .before .before .before .start .given .1) in
+    record { small = c .before .before .before .before .before .before .before .before .before .before .before .before .before .before .before .pre .0 .small; inside = e .1; text = shown-six _ _ _ _ _ _ (c .before .before .property .ensures) }
 
 put-property-requires : tie.Need-put-property-requires Inv-loop μ-loop
 put-property-requires c κs = left-room _ _ _ _ _ _ _ _ (c .before .before .before .before .before .before .before .before .before .before .before .before .loop .inv .0) _ (goes (c .before .before .before .before .before .before .before .before .before)) (c .before .before .before .before .before .before .before .before .value .ensures) _ _ (c .before .before .before .before .before .before .start .given .1)
 
 add-p : tie.Need-add-p Inv-loop μ-loop
-add-p c = omega (arith, ends _ _ _ _ _ (c .before .before .before .before .before .before .before .before .before .before .before .value .ensures) (c .before .before .before .before .before .before .before .before .before .start .given .1), c .before .before .before .before .before .before .before .before .before .before .before .before .before .before .before .before .before .before .before .pre .small)
+add-p c = omega (arith, ends _ _ _ _ _ (c .before .before .before .before .before .before .before .before .before .before .before .value .ensures) (c .before .before .before .before .before .before .before .before .before .start .given .1), c .before .before .before .before .before .before .before .before .before .before .before .before .before .before .before .before .before .before .before .pre .0 .small)
 
 loop-less : tie.Need-loop-less Inv-loop μ-loop
 loop-less c = omega (arith, ends _ _ _ _ _ (c .before .before .before .before .before .before .before .before .before .before .before .value .ensures) (c .before .before .before .before .before .before .before .before .before .start .given .1))
@@ -75,7 +76,10 @@ loop-again c =
     let v = c .before .before .before .before .before .before .before .before .before .before .before .value .ensures in
     let k = c .before .before .before .before .before .before .before .before .before .start .given .1 in (
       left-more _ _ _ _ _ _ _ _ (i .0) _ g v _ _ k _ _ (c .before .before .before .before .before .before .property .ensures) (c .before .before .put-property .ensures),
-      named-more _ _ _ _ _ g v _ _ k (omega (arith, c .before .before .before .before .before .before .before .before .before .before .before .before .if1 .left)) _ _ (i .1) (c .before .before .before .before .next-name .ensures),
+      ⊎-elim
+          (λ w. named-more _ _ _ _ _ g v _ _ k (omega (arith, c .before .before .before .before .before .before .before .before .before .before .before .before .if1 .left)) _ _ (i .1) (w .2 ∙ w .1 .ensures))
+          (λ w. named-past _ _ _ _ _ g v _ _ k (omega (arith, w .0 .left)) _ _ (i .1) (c .before .before .before .before .before .before .before .before .before .before .before .before .before .before .before .before .before .before .before .pre .1) (omega (arith, w .0 .left)) (w .1))
+          (c .before .before .before .before .if2 .came),
     )
 
 returns-3 : tie.Need-returns-3 Inv-loop μ-loop
