@@ -1,6 +1,6 @@
 // The leaves: numbers out of bytes, a single widened, and whether bytes are text. A read past the end is 0, so every public function but two_at and four_at has an answer for every input.
 ghost use mathlib.Core.Path.{_≡_};
-ghost use mathlib.Core.Bool.{false};
+ghost use mathlib.Core.Bool.{true, false};
 ghost use Prim.Native.Nat.{_+_, _*_, _≤_};
 ghost use lib.ListN.{length, drop};
 ghost use lib.Ieee.{binary32, binary64, ofBits};
@@ -235,6 +235,16 @@ fn past_plain(bytes: &[u8], start: usize) -> usize
         i += 2;
     }
     i
+}
+
+// Whether bytes are told to be UTF-16 at a glance: no unit is a surrogate or above. Where this is false nothing is told.
+pub fn is_plain(bytes: &[u8]) -> bool
+    ensures { λ r. ⌜ (r ≡ true → isUtf16 (now (bytes .entry)) ≡ true) ⌝ }
+{
+    if past_plain(bytes, 0) < bytes.len() {
+        return false;
+    }
+    true
 }
 
 // Whether bytes are UTF-16: a low surrogate stands right behind a high one (`pending`), and nowhere else.

@@ -1,4 +1,4 @@
-// A property's value out of its bytes. Every public function but sized_value has an answer for every input.
+// A property's value out of its bytes. Every public function but told_value has an answer for every input.
 use leaf::Int;
 use leaf::Short;
 use leaf::byte_at;
@@ -166,7 +166,7 @@ pub fn value_as(kind: u8, id: u8, bytes: &[u8]) -> Value
 }
 
 // As stored_value, of at least as many bytes as the id tells: their number isn't tested.
-fn told_value(id: u8, bytes: &[u8]) -> Value
+pub fn told_value(id: u8, bytes: &[u8]) -> Value
     requires { ⌜ (id ≤ 0xBC) × Sized id (length (now bytes)) ⌝ }
     ensures { λ r. ⌜ r ≡ storedValue id (now (bytes .entry)) ⌝ }
 {
@@ -180,15 +180,4 @@ fn told_value(id: u8, bytes: &[u8]) -> Value
         return valued(2, bytes[0] as u32, 0);
     }
     valued(1, 0, 0)
-}
-
-// As value_as, of at least as many bytes as the id tells, where it tells that.
-pub fn sized_value(kind: u8, id: u8, bytes: &[u8]) -> Value
-    requires { ⌜ Sized id (length (now bytes)) ⌝ }
-    ensures { λ r. ⌜ r ≡ valueAs kind id (now (bytes .entry)) ⌝ }
-{
-    if id <= 0xbc {
-        return told_value(id, bytes);
-    }
-    value_as(kind, id, bytes)
 }

@@ -1,5 +1,5 @@
 -- A property and a name as they are shown.
-use Prim.Native.Nat.{ℕ}
+use Prim.Native.Nat.{ℕ, _<_}
 use native.Mathlib.Omega.{arith}
 use mathlib.Core.Path.{_≡_, refl, sym, ap, _∙_}
 use mathlib.Core.Bool.{Bool, true, false, cond, _&&_}
@@ -8,6 +8,7 @@ use mathlib.Core.Option.{Option, none, some}
 use lib.Bits.{bitOr}
 use lib.Dec.{leb, ltb, eqb}
 use lib.ListN.{length}
+use borrow.Author.Tests.{lt-ltb, eq-eqb}
 use Rattle.rules.specs.Lists.{find}
 use Rattle.rules.specs.Bytes.{part, u32}
 use Rattle.rules.specs.Utf16.{isUtf16}
@@ -90,3 +91,10 @@ module _ (s : List ℕ) (st sz : ℕ) (bytes : List ℕ) (be : bytes ≡ part s 
 
   pub name-numbered : b ≡ false → Name.Numbered ≡ nameAt s st sz
   name-numbered k = sym (picked ∙ ap (λ c. cond c (Name.Text st sz) Name.Numbered) k)
+
+-- bytes behind a length that a row of kind 1 ties are text where they are UTF-16
+pub plain-text : (kind id : ℕ) (bytes b : List ℕ) → bytes ≡ b → 0xBC < id → kind ≡ 1 → isUtf16 bytes ≡ true → value 6 0 0 ≡ valueAs kind id b
+unfolding valueAs
+plain-text kind id bytes b be h k u =
+    let v : isUtf16 b ≡ true = ap isUtf16 (sym be) ∙ u in
+    simp (lt-ltb 0xBC id h, eq-eqb kind 1 k, v)

@@ -2,12 +2,15 @@
 use codehints::find_row;
 use coderows::Body;
 use coderows::Row;
+use leaf::is_plain;
 use leaf::is_utf16;
-use propvalue::sized_value;
 use propvalue::stored_value;
+use propvalue::told_value;
+use propvalue::value_as;
 use rows::put_property;
 use rules::Name;
 use rules::Property;
+use rules::Value;
 use walk2000::Spot;
 use walk2000::value;
 ghost use mathlib.Core.Path.{_≡_};
@@ -16,7 +19,9 @@ ghost use Prim.Native.Nat.{_+_, _≤_, _<_};
 ghost use lib.Bits.{bitOr};
 ghost use lib.ListN.{length};
 ghost use Rattle.coderows.specs.Look.{bodyRows};
+ghost use Rattle.propvalue.specs.Sized.{Sized};
 ghost use Rattle.rules.specs.Bytes.{part};
+ghost use Rattle.rules.specs.Value.{valueAs};
 ghost use Rattle.rules.specs.Access2000.{runAt};
 ghost use Rattle.run2000.specs.Runs as runs;
 
@@ -48,6 +53,26 @@ pub fn join(mark: u32, code: u32) -> u32
     mark | code
 }
 
+// The value of a tied id. What is most often met, a value whose size the id tells or plain text, is told here; the rest by value_as.
+fn tied_value(s: &[u8], kind: u8, id: u8, start: usize, size: usize) -> Value
+    requires { ⌜ (start + size ≤ length (now s)) × Sized id size ⌝ }
+    ensures { λ r. ⌜ r ≡ valueAs kind id (part (now (s .entry)) start size) ⌝ }
+{
+    if id <= 0xBC {
+        return told_value(id, part(s, start, size));
+    }
+    if kind == 1 {
+        if is_plain(part(s, start, size)) {
+            return Value {
+                mark: 6,
+                low: 0,
+                high: 0,
+            };
+        }
+    }
+    value_as(kind, id, part(s, start, size))
+}
+
 // A property with this id and value, by the rows of its scope.
 fn property(
     table: &[u8],
@@ -61,17 +86,16 @@ fn property(
     requires { ⌜ runs.Inside (now table) body (now s) id start size ⌝ }
     ensures { λ r. ⌜ r ≡ runs.shownIn (bodyRows (now (table .entry)) body) (now (s .entry)) (runs.prop id start size) ⌝ }
 {
-    let bytes = part(s, start, size);
     match find_row(table, hints, body, id) {
         Row::Tied { target, kind } => Property {
             id: target as u32,
-            value: sized_value(kind, id, bytes),
+            value: tied_value(s, kind, id, start, size),
             start: start as u32,
             size: size as u32,
         },
         Row::Untied => Property {
             id: join(0x8000, id as u32),
-            value: stored_value(id, bytes),
+            value: stored_value(id, part(s, start, size)),
             start: start as u32,
             size: size as u32,
         },
