@@ -122,6 +122,12 @@ static double jetdb_refuses(task_t *t) {
     return (seconds() - start) / t->at_once;
 }
 
+static double library_judges(task_t *t) {
+    double start = seconds();
+    for (int i = 0; i < t->at_once; i++) oskuramos_well_formed(table, table_length);
+    return (seconds() - start) / t->at_once;
+}
+
 /* ---- runs */
 
 typedef double timer(task_t *);
@@ -170,13 +176,17 @@ static void print_spread(const double r[RUNS]) {
 
 static void print_name(const task_t *t) { printf("| %.*s |", (int)t->stream.name_length, t->stream.name); }
 
+static void time_many_at_once(task_t *t) {
+    t->at_once = 1;
+    t->at_once = between(1, ONE_TIMING / (library_refuses(t) + jetdb_refuses(t)), 1000);
+}
+
 static void compare_on(task_t *t) {
     double r[RUNS];
     measure(t);
     print_name(t);
     if (t->refused) {
-        t->at_once = 1;
-        t->at_once = between(1, ONE_TIMING / (library_refuses(t) + jetdb_refuses(t)), 1000);
+        time_many_at_once(t);
         ratios(library_refuses, jetdb_refuses, t, r);
         print_spread(r);
         printf(" |");
@@ -237,6 +247,26 @@ static int print_ratios(void) {
     return 0;
 }
 
+/* Of the time that a refused Blob takes, the part in which the code table is judged. */
+static int print_shares(void) {
+    task_t t;
+    double r[RUNS];
+    puts("| Stream | Judging the table |\n|---|---|");
+    for (size_t n = 0; compare_stream(n, &t.stream); n++) {
+        measure(&t);
+        if (t.refused && t.stream.kind == KIND_BLOB) {
+            time_many_at_once(&t);
+            ratios(library_refuses, library_judges, &t, r);
+            print_name(&t);
+            print_spread(r);
+            putchar('\n');
+            fflush(stdout);
+        }
+        compare_give_back(&t.stream);
+    }
+    return 0;
+}
+
 /* Rows are lent out of memory that the process keeps: pages fresh from the system would cost more than the reading. */
 static int print_growths(void) {
     mallopt(M_MMAP_MAX, 0);
@@ -246,16 +276,19 @@ static int print_growths(void) {
     return 0;
 }
 
-/* Both tables, one of them (`ratios`, `growth`), or the line of one stream by its number. */
+/* All tables, one of them (`ratios`, `shares`, `growth`), or the line of one stream by its number. */
 int main(int words, char **word) {
     task_t t;
     table = compare_table(&table_length);
     if (words < 2) {
         print_ratios();
         putchar('\n');
+        print_shares();
+        putchar('\n');
         return print_growths();
     }
     if (!strcmp(word[1], "ratios")) return print_ratios();
+    if (!strcmp(word[1], "shares")) return print_shares();
     if (!strcmp(word[1], "growth")) return print_growths();
     if (!compare_stream((size_t)atoi(word[1]), &t.stream)) return 1;
     compare_on(&t);

@@ -91,8 +91,8 @@ fn type_info_entry(s: &[u8], at: usize) -> Entry
     requires { ⌜ at + 8 ≤ length (now s) ⌝ }
     ensures { λ r. ⌜ r ≡ asEntry (infoAt (now (s .entry)) at) (nextInfo (now (s .entry)) at) ⌝ }
 {
-    let type_code = leaf::u16_at(s, at);
-    let index = leaf::u32_at(s, at + 4);
+    let type_code = leaf::two_at(s, at);
+    let index = leaf::four_at(s, at + 4);
     let first = nul_terminated(s, at + 8);
     let second = nul_terminated(s, first.next);
     let next = past_tail(s.len(), type_code, second.next);
