@@ -4,6 +4,7 @@ use codetable::read_row;
 use codetable::word;
 ghost use mathlib.Core.Path.{_≡_};
 ghost use Prim.Native.Nat.{_+_, _*_, _≤_, _<_, _^_};
+ghost use lib.ListN.{length};
 ghost use Rattle.rules.specs.Lists.{find};
 ghost use Rattle.rules.specs.CodeTable as t;
 ghost use Rattle.coderows.specs.Look.{Listed, Seeks, SeeksListed, Finds, Glances, Sorted, noRows, asRow};
@@ -70,18 +71,18 @@ fn seek_scope(table: &[u8], contents: usize, n: usize, wanted: usize) -> Place
     Place::Missing
 }
 
-// What the contents say of each scope, 64 at most, in three words: its kind and code as one number, where its rows start, and how many they are.
-pub fn list_scopes(table: &[u8]) -> [u32; 192]
-    ensures { λ r. ⌜ Listed (now (table .entry)) r ⌝ }
+// Writes what the contents say of each scope, 64 at most, in three words: its kind and code as one number, where its rows start, and how many they are.
+pub fn list_scopes(table: &[u8], scopes: &mut [u32])
+    requires { ⌜ length (now scopes) ≡ 192 ⌝ }
+    ensures { λ _. ⌜ Listed (now (table .entry)) (now (scopes .exit)) ⌝ }
 {
     let listed = word(table, 2);
-    let mut scopes = [0; 192];
     let mut at = 4 + 2 * byte(table, 1);
     let mut body = at + 5 * listed;
     let mut i = 0;
     while i < listed {
         if 63 < i {
-            return scopes;
+            return;
         }
         let key = byte(table, at) * 65536 + word(table, at + 1);
         let count = word(table, at + 3);
@@ -93,7 +94,6 @@ pub fn list_scopes(table: &[u8]) -> [u32; 192]
         at += 5;
         i += 1;
     }
-    scopes
 }
 
 // Which of n listed scopes has the wanted kind and code: one is looked at first.

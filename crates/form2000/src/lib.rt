@@ -32,7 +32,8 @@ fn write(table: &[u8], s: &[u8], controls: &mut [u32], rows: &mut [u32])
     ensures { λ _. ⌜ acts.StreamDone (now (table .entry)) (now (s .entry)) (now (controls .entry)) (now (rows .entry)) (now (controls .exit)) (now (rows .exit)) ⌝ }
 {
     let mut hints = [0; 4352];
-    let scopes = list_scopes(table);
+    let mut scopes = [0; 192];
+    list_scopes(table, &mut scopes);
     let body = find_scope(table, &mut hints, &scopes, object_kind(s), 0);
     let own = properties(table, &mut hints, body, s, 10, rows, 0, 0xFF);
     let behind = own.at;
