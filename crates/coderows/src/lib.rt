@@ -33,7 +33,7 @@ pub struct Sought {
     pub near: usize,
 }
 
-// What one row tells of an id.
+// What a row, with the one before it, tells of an id.
 pub enum Glance {
     Tied { target: u16, kind: u8 },
     Untied,
