@@ -7,7 +7,7 @@ use lib.ListN.{getD}
 use Rattle.rules.specs.CodeTable.{scopeCount, contentsAt}
 use Rattle.coderows.specs.Look.{keyAt, Listed, asPlace}
 use Rattle.coderows.proofs.Halves.{begin, Turn, hit}
-use Rattle.coderows.proofs.Listing.{listed-words}
+use Rattle.coderows.proofs.ScopeList.{listed-words}
 use Rattle.coderows.proofs.find_index.Statement.{statement}
 use Rattle.coderows.proofs.find_index.Tie as tie
 

@@ -6,7 +6,7 @@ use Rattle.rules.proofs.CodeTableLaws.{formed}
 use Rattle.coderows.specs.Look.{Listed}
 use Rattle.coderows.proofs.Scopes.{Sought, missing-rows, listed-rows}
 use Rattle.coderows.proofs.Lookup.{finds}
-use Rattle.coderows.proofs.Listing.{listed-words}
+use Rattle.coderows.proofs.ScopeList.{listed-words}
 use Rattle.coderows.proofs.find_scope.Statement.{statement}
 use Rattle.coderows.proofs.find_scope.Tie as tie
 

@@ -6,7 +6,7 @@ use mathlib.Core.Logic.{inl, inr}
 use denote.Ref.{now}
 use lib.ListN.{set, length-set}
 use Rattle.codetable.proofs.Steps.{Counts}
-use Rattle.coderows.proofs.Listing.{Filled, filled-none, filled-next, all-listed}
+use Rattle.coderows.proofs.ScopeList.{Filled, filled-none, filled-next, all-listed}
 use Rattle.coderows.proofs.list_scopes.Statement.{statement}
 use Rattle.coderows.proofs.list_scopes.Tie as tie
 
