@@ -1,7 +1,10 @@
-use Prim.Native.Nat.{ℕ, _+_, _≤_, _<_}
+use Prim.Native.Nat.{ℕ, _+_, _-_, _≤_, _<_}
 use native.Mathlib.Omega.{arith}
 use borrow.Author.Needs.{needs}
 use mathlib.Core.Path.{ap}
+use mathlib.Core.List.{List}
+use lib.ListN.{length}
+use denote.Ref.{now}
 use Rattle.rules.specs.Access2000.{entryAt, entriesAt}
 use Rattle.rows.proofs.TakenLaws.{Counting, counting-start, counting-all, counting-deep, counting-bad, counting-more}
 use Rattle.walk2000.proofs.Room.{half-room, run-room, head-room}
@@ -21,11 +24,15 @@ use Rattle.walk2000.proofs.props.Reads as props-reads
 use Rattle.count2000.proofs.+entry+list.{statement}
 use Rattle.count2000.proofs.+entry+list.Tie.{close}
 
+-- how many bytes remain: an entry's list stands behind its type, a list's entries nowhere before it
+abbrev remaining : List ℕ → ℕ → ℕ
+remaining s at = length s - at
+
 abbrev μ-list : Measures 1 list-kinds.ps ℕ
-μ-list κs a = a .1 .1 .1 .0 + a .1 .1 .1 .0
+μ-list κs a = remaining (now (a .0)) (a .1 .0) + remaining (now (a .0)) (a .1 .0) + 1
 
 abbrev μ-entry : Measures 1 entry-kinds.ps ℕ
-μ-entry κs a = a .1 .1 .0 + a .1 .1 .0 + 1
+μ-entry κs a = remaining (now (a .0)) (a .1 .0) + remaining (now (a .0)) (a .1 .0)
 
 abbrev list-at : ℕ → In 1 list-kinds.ps
 list-at t = and 1 list-kinds.ps (is 1 list-kinds.ps μ-list t) list.Pre
@@ -64,7 +71,7 @@ list-sub-entry : (t : ℕ) → list-lts.Need-sub-entry (list-calls t) (list-at t
 list-sub-entry t c = search needs
 
 list-entry-requires : (t : ℕ) → list-lts.Need-entry-requires (list-calls t) (list-at t) list.Post list-Inv-loop list-μ-loop
-list-entry-requires t c κs = omega arith
+list-entry-requires t c κs = omega (arith, c .before .before .loop .inv .0)
 
 list-enum-told : (t : ℕ) → list-lts.Need-enum-told (list-calls t) (list-at t) list.Post list-Inv-loop list-μ-loop
 list-enum-told t c = search needs
@@ -141,7 +148,8 @@ entry-enum-known-n : (t : ℕ) → entry-lts.Need-enum-known-n (entry-calls t) (
 entry-enum-known-n t c = search needs
 
 entry-list-requires : (t : ℕ) → entry-lts.Need-list-requires (entry-calls t) (entry-at t) entry.Post
-entry-list-requires t c κs = omega arith
+entry-list-requires t c κs =
+    omega (arith, half-room _ _ _ _ (c .before .before .before .before .before .before .before .before .before .before .before .half .ensures) (c .before .before .before .before .before .before .before .before .before .kind .given .1), run-room _ _ _ _ _ (c .before .before .before .before .before .before .before .props .ensures) (c .before .before .before .before .before .count .given .1), head-room _ _ _ _ _ (c .before .before .before .head .ensures) (c .before .n .given .1))
 
 entry-enum-told-4 : (t : ℕ) → entry-lts.Need-enum-told-4 (entry-calls t) (entry-at t) entry.Post
 entry-enum-told-4 t c = search needs
