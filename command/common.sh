@@ -1,0 +1,114 @@
+# shellcheck shell=sh disable=SC2154
+# What the commands at the repository's root share. Sourced with `name`, the command, and `root`, the repository's folder.
+
+say() { printf '%s: %s\n' "$name" "$*" >&2; }
+
+die() {
+    say "$@"
+    exit 2
+}
+
+version() {
+    sed -n 's/^#define OSKURAMOS_VERSION "\(.*\)"$/\1/p' "$root/include/oskuramos.h"
+}
+
+# ---- files
+scratch=
+trap '[ -z "$scratch" ] || rm -rf "$scratch"' EXIT
+trap 'exit 2' HUP INT TERM
+
+# `taken` is a file with the bytes of FILE, which may be a pipe, or - for standard input. Of those no more than LIMIT bytes and one are taken.
+# A file that can't be read is told, and the status is 2.
+take_file() { # FILE LIMIT
+    if [ "$1" != - ]; then
+        [ -e "$1" ] || { say "there is no file $1"; return 2; }
+        [ ! -d "$1" ] || { say "$1 is a folder; name a file in it"; return 2; }
+        [ -r "$1" ] || { say "$1 can't be read: see who may read it (ls -l)"; return 2; }
+        if [ -f "$1" ]; then
+            taken=$1
+            case $taken in -*) taken=./$taken ;; esac
+            return 0
+        fi
+    fi
+    [ -n "$scratch" ] || scratch=$(mktemp -d) || die "no scratch folder could be made"
+    taken=$(mktemp "$scratch/taken.XXXXXX") || die "no scratch file could be made"
+    if [ "$1" = - ]; then
+        head -c "$(($2 + 1))" >"$taken"
+    else
+        head -c "$(($2 + 1))" <"$1" >"$taken"
+    fi || { say "$1 can't be read"; return 2; }
+}
+
+size_of() { # FILE
+    wc -c <"$1" | tr -d ' '
+}
+
+# ---- the proved programs
+# The crates of the repository that CRATE is built of, itself among them.
+crates_of() { # CRATE
+    awk -F: -v want="$1" '
+        { uses[$1] = $2 }
+        function add(c,    n, i, part) {
+            if (!(c in uses) || (c in seen)) return
+            seen[c] = 1
+            print c
+            n = split(uses[c], part, " ")
+            for (i = 1; i <= n; i++) add(part[i])
+        }
+        END { add(want) }' "$root/crates.txt"
+}
+
+# Passes `rt check`'s output on as one line for each crate: which of how many, and about how long it will take yet.
+show_progress() { # TOTAL START
+    done=0
+    while IFS= read -r line; do
+        case $line in
+        "rt: "*" proved ("*)
+            done=$((done + 1))
+            now=$(date +%s)
+            left=$((($1 - done) * (now - $2) / done))
+            crate=${line#rt: }
+            printf '%s: %s of %s proved (%s), about %s:%02d minutes left\n' "$name" "$done" "$1" "${crate%% *}" $((left / 60)) $((left % 60))
+            ;;
+        esac
+    done
+}
+
+# Proves and builds a program where it is missing or older than a source.
+make_ready() { # CRATE
+    program=$root/target/bin/$1
+    command -v rt >/dev/null || die "the Rattle kit's command rt is not in PATH; README, \"What it needs\", says where it comes from"
+    if [ -x "$program" ] && [ -z "$(find "$root/crates" "$root/crates.txt" -newer "$program" -type f | head -n 1)" ]; then
+        return
+    fi
+    total=$(crates_of "$1" | wc -l | tr -d ' ')
+    log=$root/target/$1.log
+    printf '%s: proving and building it first, %s crates; this takes some minutes, once\n' "$name" "$total" >&2
+    mkdir -p "$root/target"
+    { (cd "$root" && rt check "$1" 2>&1) || echo "rt: not built"; } | tee "$log" | show_progress "$total" "$(date +%s)" >&2
+    if grep -q '^rt: not built$' "$log" || [ ! -x "$program" ]; then
+        tail -n 20 "$log" >&2
+        die "it could not be built; all that was printed stands in $log"
+    fi
+    touch "$program"
+}
+
+# Runs a built program: it is for x86-64, with the kit's loader and C library; on another processor the kit has an emulator.
+run_program() { # CRATE
+    tools=$(dirname "$(dirname "$(rt doc)")")/on/$(uname -m)/toolchain
+    loader=$tools/lib/ld-linux-x86-64.so.2
+    emulator=$tools/bin/qemu-x86_64
+    [ -e "$loader" ] || die "the kit has no loader at $loader"
+    [ -x "$emulator" ] || emulator=
+    ${emulator:+"$emulator"} "$loader" --library-path "$tools/lib" "$root/target/bin/$1"
+}
+
+# A number as four bytes, the lowest first.
+four_bytes() { # NUMBER
+    n=$1
+    for _ in 1 2 3 4; do
+        # shellcheck disable=SC2059
+        printf "\\$(printf %03o $((n % 256)))"
+        n=$((n / 256))
+    done
+}
