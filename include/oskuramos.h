@@ -1,4 +1,12 @@
-/* Oskuramos: the reader of Access form design streams. Link liboskuramos.a, which `rt staticlib oskuramos` writes, into a program for x86-64 Linux.
+/* Oskuramos: the reader of Access form design streams. A program for x86-64 Linux links it:
+
+       cc panel.c $(pkg-config --cflags --libs oskuramos)                   where `make install` has put it
+       cc -Iinclude panel.c target/staticlib/liboskuramos.a                 in the repository, behind `rt staticlib oskuramos`
+
+   On Arm the archive is the same. A cross compiler links it, and an emulator of x86-64 runs the program; the Rattle kit has one:
+
+       x86_64-linux-gnu-gcc panel.c $(pkg-config --cflags --libs oskuramos) -o panel
+       KIT/bin/qemu-x86_64 KIT/lib/ld-linux-x86-64.so.2 --library-path KIT/lib ./panel      where KIT is on/aarch64/toolchain of the kit
 
    Length. A slice is a pointer and, behind it, a length that counts elements: bytes, or words of 32 bits.
    Ownership. A slice is lent for the call alone. Nothing is kept, allocated or freed, and no state is left between calls, so threads may call at
@@ -6,7 +14,7 @@
    Overlap. A `const` slice is only read; such slices may overlap each other. A slice that is written may overlap nothing else that the call is given.
    Alignment. Words are aligned to 4 bytes.
    Empty. Where a length is 0 its pointer isn't followed, and may be null. Otherwise the pointer is to that many elements.
-   Stack. A call takes less than 100 KB: less than 80 KB were measured for the deepest stream that is read.
+   Stack. A call takes less than OSKURAMOS_STACK bytes, whatever is lent. This is measured with the deepest streams (tests/c/stack.c) and not proved.
 
    No function asks anything more of its caller. Bad input is refused by a number, and a refused call writes nothing. */
 #ifndef OSKURAMOS_H
@@ -16,9 +24,17 @@
 #include <stddef.h>
 #include <stdint.h>
 
+/* The version of this header and of the archive that belongs to it. Before 1.0.0 a new minor number may change rows and functions. */
+#define OSKURAMOS_VERSION_MAJOR 0
+#define OSKURAMOS_VERSION_MINOR 2
+#define OSKURAMOS_VERSION_PATCH 0
+#define OSKURAMOS_VERSION "0.2.0"
+
 #ifdef __cplusplus
 extern "C" {
 #endif
+
+enum { OSKURAMOS_STACK = 98304 };
 
 /* ---- answers */
 enum {
@@ -27,7 +43,7 @@ enum {
     OSKURAMOS_OTHER_MAGIC = 2,      /* its first four bytes aren't F7 EA CD AC */
     OSKURAMOS_TOO_MANY_ENTRIES = 3, /* its count at 12 is above (length - 32) / 8 */
     OSKURAMOS_NO_READING = 4,       /* an Access 2000 stream fits no reading */
-    OSKURAMOS_TOO_LONG = 5,         /* a stream over 16,777,216 bytes */
+    OSKURAMOS_TOO_LONG = 5,         /* a stream over OSKURAMOS_LONGEST bytes */
     OSKURAMOS_MORE_CONTROLS = 6,    /* more control rows needed than lent (TypeInfo: more rows) */
     OSKURAMOS_MORE_PROPERTIES = 7,  /* more property rows needed than lent */
     OSKURAMOS_BAD_TABLE = 8,        /* the code table isn't well formed */
@@ -44,25 +60,68 @@ typedef struct {
 } oskuramos_answer;
 
 /* ---- streams */
-enum { OSKURAMOS_CONTROL_WORDS = 6, OSKURAMOS_PROPERTY_WORDS = 6, OSKURAMOS_TYPE_INFO_WORDS = 4, OSKURAMOS_LONGEST = 16777216 };
+enum { OSKURAMOS_LONGEST = 16777216 };
 
-/* Reads a Blob by a code table into rows of six words.
-   Control: type code, name mark (0 UTF-16 text, 1 numbered, 2 other text), name start, name length, first property row, property count.
-   Property: id, value mark, low, high, start of the value's bytes in the stream, their length. The object's rows stand first.
+/* The words of a control's row, and how many they are. What the name's words say stands at oskuramos_control_name. */
+enum {
+    OSKURAMOS_CONTROL_TYPE = 0,
+    OSKURAMOS_CONTROL_NAME_MARK = 1,
+    OSKURAMOS_CONTROL_NAME_START = 2,
+    OSKURAMOS_CONTROL_NAME_LENGTH = 3,
+    OSKURAMOS_CONTROL_FIRST_PROPERTY = 4, /* the number of its first property row */
+    OSKURAMOS_CONTROL_PROPERTY_COUNT = 5,
+    OSKURAMOS_CONTROL_WORDS = 6
+};
+
+/* The words of a property's row. Start and length name the value's bytes in the stream; marks, low and high stand at oskuramos_value. */
+enum {
+    OSKURAMOS_PROPERTY_ID = 0,
+    OSKURAMOS_PROPERTY_MARK = 1,
+    OSKURAMOS_PROPERTY_LOW = 2,
+    OSKURAMOS_PROPERTY_HIGH = 3,
+    OSKURAMOS_PROPERTY_START = 4,
+    OSKURAMOS_PROPERTY_LENGTH = 5,
+    OSKURAMOS_PROPERTY_WORDS = 6
+};
+
+/* In an Access 2000 stream an id from here on is a raw code that the code table lacks, joined with this by OR. In the later layout ids are
+   as stored, and say nothing of a table. The layout is Access 2000 where the stream's first byte is the code table's first byte. */
+enum { OSKURAMOS_UNMAPPED = 0x8000 };
+
+/* The words of a row of TypeInfo. The name is bytes in the code page of the database, of which the stream doesn't speak. */
+enum {
+    OSKURAMOS_TYPE_INFO_TYPE = 0,
+    OSKURAMOS_TYPE_INFO_INDEX = 1,
+    OSKURAMOS_TYPE_INFO_NAME_START = 2,
+    OSKURAMOS_TYPE_INFO_NAME_LENGTH = 3,
+    OSKURAMOS_TYPE_INFO_WORDS = 4
+};
+
+/* Reads a Blob by a code table into rows: of the controls, and of the properties. The object's own properties stand first, then each control's.
    Answers 0 with the numbers of controls, of properties and of the object's own properties, or 5, 8, 4, 6, 7, tried in this order.
    Words behind the rows that are written keep their values. To learn the room that is needed, lend none: the answer is 6 or 7 with the
-   counts, or 0 where there is nothing to write. */
+   counts, or 0 where there is nothing to write. The later layout has no mark of its own: bytes that are no Blob at all are mostly answered
+   0 with no rows. */
 oskuramos_answer oskuramos_read_blob(const uint8_t *table, size_t table_length, const uint8_t *stream, size_t stream_length,
                                      uint32_t *controls, size_t controls_length, uint32_t *properties, size_t properties_length);
 
-/* Reads TypeInfo into rows of four words: type code, index, name start, name length.
+/* Reads TypeInfo into rows.
    Answers 0 with the number of rows, or 5, 1, 2, 3, 6, tried in this order. Words behind the rows that are written keep their values. */
 oskuramos_answer oskuramos_read_type_info(const uint8_t *stream, size_t stream_length, uint32_t *rows, size_t rows_length);
 
 /* Whether a code table is well formed. */
 bool oskuramos_well_formed(const uint8_t *table, size_t table_length);
 
-/* ---- the name of a control */
+/* ---- the name of a control
+   By its mark a name is
+   0  UTF-16LE, well formed: of even length, surrogates in pairs. It stands in the stream, without a zero behind it, and may be empty.
+   1  numbered, as the control has no name of its own: "Control_" and its number in decimal, in ASCII. The stream doesn't have it. The row's
+      start is the number and its length that of the label: have oskuramos_label_text write it into a buffer of OSKURAMOS_LABEL_LONGEST bytes.
+   2  loose: bytes of the stream that were stored as text and aren't well-formed UTF-16, as the length is odd or a surrogate has no pair. Compare
+      them byte for byte. To show them, print them in hex, or decode UTF-16LE with U+FFFD for each surrogate without its pair and for an odd last
+      byte: what is shown is then no longer the name. Don't take them for another code page, and don't hand them to a decoder that trusts its input. */
+enum { OSKURAMOS_NAME_UTF16 = 0, OSKURAMOS_NAME_NUMBERED = 1, OSKURAMOS_NAME_LOOSE = 2 };
+
 enum { OSKURAMOS_OF_STREAM = 0, OSKURAMOS_OF_LABEL = 1 };
 
 /* So many bytes from start on, of the stream or of the label. The part is inside: start + length is at most the length of its slice. */
@@ -73,7 +132,7 @@ typedef struct {
 } oskuramos_part;
 
 /* Where a control's name stands, by the three words of its row. The label is what oskuramos_label_text wrote for a numbered control, and empty
-   otherwise. A mark above 2, or a part outside its slice, gives the empty part at the stream's start. */
+   otherwise. A mark above 2, or a part outside its slice, gives the empty part at the stream's start: a numbered name without its label too. */
 oskuramos_part oskuramos_control_name(const uint8_t *stream, size_t stream_length, const uint8_t *label, size_t label_length, uint32_t mark,
                                       uint32_t start, uint32_t length);
 
@@ -90,10 +149,13 @@ oskuramos_answer oskuramos_label_text(uint32_t n, uint8_t *out, size_t out_lengt
 bool oskuramos_is_utf16(const uint8_t *bytes, size_t bytes_length);
 
 /* ---- names by id */
-/* The name's bytes with zeros behind them; one of 26 letters has no zero. Where nothing has the id, found is false and the length 0. */
+enum { OSKURAMOS_NAME_ROOM = 26 };
+
+/* The name's ASCII bytes with zeros behind them; one of 26 letters has no zero: print it with "%.*s". Where nothing has the id, found is false
+   and the length 0. */
 typedef struct {
     bool found;
-    uint8_t bytes[26];
+    uint8_t bytes[OSKURAMOS_NAME_ROOM];
     size_t length;
 } oskuramos_name;
 
@@ -106,16 +168,17 @@ oskuramos_name oskuramos_control_type_name(uint16_t id);
 oskuramos_name oskuramos_value_name(uint32_t mark, uint16_t id);
 
 /* ---- values */
+/* The marks. Low and high are 0 where nothing is said of them. */
 enum {
     OSKURAMOS_BOOL = 0,        /* low is 0 or 1 */
     OSKURAMOS_NOT_DEFAULT = 1, /* a flag without a value */
-    OSKURAMOS_SHORT = 2,       /* low is the number's 32-bit two's complement */
-    OSKURAMOS_LONG = 3,
-    OSKURAMOS_DOUBLE = 4, /* low and high are its bits */
-    OSKURAMOS_GUID = 5,
-    OSKURAMOS_TEXT = 6,
-    OSKURAMOS_BINARY = 7,
-    OSKURAMOS_LOOSE_TEXT = 8 /* text that isn't UTF-16 */
+    OSKURAMOS_SHORT = 2,       /* low is the number's 32-bit two's complement: (int32_t)low */
+    OSKURAMOS_LONG = 3,        /* the same */
+    OSKURAMOS_DOUBLE = 4,      /* low and high are its bits */
+    OSKURAMOS_GUID = 5,        /* the value is the row's 16 bytes: oskuramos_guid_text */
+    OSKURAMOS_TEXT = 6,        /* the row's bytes, well-formed UTF-16LE */
+    OSKURAMOS_BINARY = 7,      /* the row's bytes */
+    OSKURAMOS_LOOSE_TEXT = 8   /* the row's bytes: text that isn't UTF-16, as a name of mark 2 */
 };
 
 typedef struct {
@@ -130,7 +193,10 @@ oskuramos_value oskuramos_entry_value(uint32_t type_code, const uint8_t *bytes, 
 /* The value of a property's bytes in the Access 2000 layout as it is stored, by its id. */
 oskuramos_value oskuramos_stored_value(uint8_t id, const uint8_t *bytes, size_t bytes_length);
 
-/* The same by the kind of the code table's row that ties the id: 0 Number, 1 Text, 2 Guid, 3 Double, 4 Bytes. */
+/* The kinds of a code table's rows. */
+enum { OSKURAMOS_KIND_NUMBER = 0, OSKURAMOS_KIND_TEXT = 1, OSKURAMOS_KIND_GUID = 2, OSKURAMOS_KIND_DOUBLE = 3, OSKURAMOS_KIND_BYTES = 4 };
+
+/* The same by the kind of the code table's row that ties the id. */
 oskuramos_value oskuramos_value_as(uint8_t kind, uint8_t id, const uint8_t *bytes, size_t bytes_length);
 
 #ifdef __cplusplus

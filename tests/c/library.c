@@ -182,6 +182,14 @@ static bool part_is(uint32_t mark, uint32_t start, uint32_t length, uint32_t sou
     return p.source == source && p.start == part_start && p.length == part_length;
 }
 
+static bool label_is_the_name(const uint32_t *row, const char *name) {
+    uint8_t label[OSKURAMOS_LABEL_LONGEST];
+    uint32_t mark = row[OSKURAMOS_CONTROL_NAME_MARK], start = row[OSKURAMOS_CONTROL_NAME_START], length = row[OSKURAMOS_CONTROL_NAME_LENGTH];
+    uint32_t written = oskuramos_label_text(start, label, sizeof label).first;
+    oskuramos_part p = oskuramos_control_name(blob, sizeof blob, label, written, mark, start, length);
+    return mark == OSKURAMOS_NAME_NUMBERED && p.source == OSKURAMOS_OF_LABEL && p.length == strlen(name) && memcmp(label + p.start, name, p.length) == 0;
+}
+
 static void parts(void) {
     check(part_is(0, 23, 2, OSKURAMOS_OF_STREAM, 23, 2), "a text name is a part of the stream");
     check(part_is(2, 24, 2, OSKURAMOS_OF_STREAM, 24, 2), "text that isn't UTF-16 too, to the stream's end");
@@ -190,6 +198,15 @@ static void parts(void) {
     check(part_is(0, UINT32_MAX, 2, OSKURAMOS_OF_STREAM, 0, 0), "a start and length that pass 2^32 too");
     check(part_is(1, 0, 10, OSKURAMOS_OF_STREAM, 0, 0), "a part past the label is the stream's empty part");
     check(part_is(3, 23, 2, OSKURAMOS_OF_STREAM, 0, 0), "mark 3 is the empty part");
+    check(label_is_the_name(control_rows, "Control_0"), "K1's first control: its label, written and found by its row");
+    check(oskuramos_control_name(blob, sizeof blob, NULL, 0, 1, 0, 9).length == 0, "without its label a numbered name is the empty part");
+}
+
+/* ---- the version */
+static void version(void) {
+    char text[32];
+    snprintf(text, sizeof text, "%d.%d.%d", OSKURAMOS_VERSION_MAJOR, OSKURAMOS_VERSION_MINOR, OSKURAMOS_VERSION_PATCH);
+    check(strcmp(text, OSKURAMOS_VERSION) == 0, "the version's text is its three numbers");
 }
 
 /* ---- names and values */
@@ -251,6 +268,7 @@ int main(void) {
     type_info(large);
     texts();
     parts();
+    version();
     names();
     values();
     nulls();
