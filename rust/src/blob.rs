@@ -1,84 +1,231 @@
-//! A Blob with room of its own.
+//! A Blob with room of its own, its rows taken apart.
 
-use crate::{control_name, label_text, read_blob, value_name, Answer, Control, ControlName, Property, CONTROL_WORDS, PROPERTY_WORDS};
+use crate::format::{answer, name, LABEL_LONGEST, UNMAPPED};
+use crate::lent::{control_name, label_text, read_blob, ControlRow, PropertyRow};
+use crate::text::ascii;
+use crate::{archive, control_type_name, value_name, Loose, Name, Refused, Text, Value};
+use std::fmt::{self, Display, Formatter};
 
-/// A Blob that was read: its controls in output order, and the property rows.
+/// Which of the two layouts a Blob has. Access 2000 is told by its first byte, which is the code table's.
+#[derive(Clone, Copy, Debug, PartialEq, Eq, Hash)]
+pub enum Layout {
+    /// Properties are codes, which the code table ties to ids.
+    Access2000,
+    /// Properties have ids and types of their own; the code table isn't asked.
+    Later,
+}
+
+/// A Blob that was read.
+///
+/// ```
+/// use oskuramos::{Blob, ACCESS_2000_CODES};
+///
+/// let stream = std::fs::read("examples/form-2000.blob")?;
+/// let form = Blob::read(ACCESS_2000_CODES, &stream)?;
+/// assert_eq!(form.property("RecordSource").unwrap().value.text().unwrap(), "Relays");
+/// let bound = form.controls.iter().filter_map(|c| Some(format!("{} {}", c.name, c.property("ControlSource")?.value)));
+/// assert_eq!(Vec::from_iter(bound), ["txtVolt Voltage", "txtSign Sign", "cboFeeder FeederId"]);
+/// # Ok::<(), Box<dyn std::error::Error>>(())
+/// ```
 #[derive(Clone, Debug, PartialEq)]
+#[non_exhaustive]
 pub struct Blob<'a> {
-    stream: &'a [u8],
-    own: usize,
-    pub controls: Vec<Control>,
-    /// All property rows: the object's, then each control's.
-    pub properties: Vec<Property>,
+    /// The layout that it was read in.
+    pub layout: Layout,
+    /// The form's or report's own properties.
+    pub own: Vec<Property<'a>>,
+    /// Its controls in output order.
+    pub controls: Vec<Control<'a>>,
 }
 
 impl<'a> Blob<'a> {
-    /// Asks how many rows there are, makes room and reads them. A refusal is returned as it was answered.
-    pub fn read(table: &[u8], stream: &'a [u8]) -> Result<Blob<'a>, Answer> {
-        let needed = read_blob(table, stream, &mut [], &mut []).counts();
-        let mut controls = vec![0; needed.first as usize * CONTROL_WORDS];
-        let mut properties = vec![0; needed.second as usize * PROPERTY_WORDS];
-        let answer = read_blob(table, stream, &mut controls, &mut properties);
-        let counts = match answer {
-            Answer::Read(counts) => counts,
-            refused => return Err(refused),
+    /// Asks how many rows there are, makes room and reads them.
+    ///
+    /// The later layout has no mark of its own: bytes that are no Blob at all are mostly read as one without properties or controls.
+    pub fn read(table: &[u8], stream: &'a [u8]) -> Result<Blob<'a>, Refused> {
+        let needed = match read_blob(table, stream, &mut [], &mut []) {
+            Ok(counts) | Err(Refused::MoreControls(counts) | Refused::MoreProperties(counts)) => counts,
+            Err(refused) => return Err(refused),
         };
-        let properties: Vec<Property> = properties.chunks_exact(PROPERTY_WORDS).map(property).collect();
-        Ok(Blob { stream, own: counts.third as usize, controls: controls.chunks_exact(CONTROL_WORDS).map(control).collect(), properties })
+        let (mut controls, mut properties) = (vec![Default::default(); needed.controls], vec![Default::default(); needed.properties]);
+        let counts = read_blob(table, stream, &mut controls, &mut properties)?;
+        let layout = if stream.first() == table.first() { Layout::Access2000 } else { Layout::Later };
+        let properties = properties.iter().map(|row| Property::of(row, layout, stream)).collect::<Option<Vec<_>>>();
+        properties.and_then(|all| Blob::of(layout, counts.own, &controls, all, stream)).ok_or(Refused::OtherArchive(answer::READ))
     }
 
-    /// The form's or report's own properties.
-    pub fn own(&self) -> &[Property] {
-        &self.properties[..self.own]
+    fn of(layout: Layout, own: usize, controls: &[ControlRow], all: Vec<Property<'a>>, stream: &'a [u8]) -> Option<Blob<'a>> {
+        let controls = controls.iter().map(|row| Control::of(row, &all, stream)).collect::<Option<_>>()?;
+        Some(Blob { layout, own: all.get(..own)?.to_vec(), controls })
     }
 
-    /// A control's own properties.
-    pub fn properties_of(&self, control: &Control) -> &[Property] {
-        let first = control.first_property as usize;
-        self.properties.get(first..first + control.property_count as usize).unwrap_or(&[])
+    /// The first of its own properties that has the name.
+    pub fn property(&self, name: &str) -> Option<&Property<'a>> {
+        named(&self.own, name)
     }
 
-    /// A control's name; a code unit without its pair, and a last odd byte, show as U+FFFD.
-    pub fn name(&self, control: &Control) -> String {
-        let mut label = [0; 18];
-        match control.name {
-            ControlName::Numbered { number, .. } => {
-                label_text(number, &mut label);
-                control_name(self.stream, &label, control.name).iter().map(|&b| char::from(b)).collect()
-            }
-            _ => utf16(control_name(self.stream, &label, control.name)),
+    /// The first control that has the name.
+    pub fn control(&self, name: &str) -> Option<&Control<'a>> {
+        self.controls.iter().find(|control| control.name == *name)
+    }
+
+    /// All properties in the order of their rows: its own, then each control's.
+    pub fn properties(&self) -> impl Iterator<Item = &Property<'a>> {
+        self.own.iter().chain(self.controls.iter().flat_map(|control| &control.properties))
+    }
+}
+
+/// A control with its properties.
+#[derive(Clone, Debug, PartialEq)]
+#[non_exhaustive]
+pub struct Control<'a> {
+    /// Its type, 0 where a later Blob was scanned for names.
+    pub type_code: u16,
+    /// Its name.
+    pub name: ControlName<'a>,
+    /// Its properties in the order of the stream.
+    pub properties: Vec<Property<'a>>,
+}
+
+impl<'a> Control<'a> {
+    fn of(row: &ControlRow, all: &[Property<'a>], stream: &'a [u8]) -> Option<Control<'a>> {
+        let [type_code, mark, start, length, first, count] = *row;
+        let properties = all.get(first as usize..)?.get(..count as usize)?.to_vec();
+        Some(Control { type_code: type_code.try_into().ok()?, name: ControlName::of(mark, start, length, stream)?, properties })
+    }
+
+    /// The name of its type, such as `TextBox`.
+    pub fn type_name(&self) -> Option<Name> {
+        control_type_name(self.type_code)
+    }
+
+    /// The first of its properties that has the name.
+    pub fn property(&self, name: &str) -> Option<&Property<'a>> {
+        named(&self.properties, name)
+    }
+}
+
+/// Its type's name, or code in hex, and its name.
+impl Display for Control<'_> {
+    fn fmt(&self, f: &mut Formatter) -> fmt::Result {
+        match self.type_name() {
+            Some(type_name) => write!(f, "{type_name} {}", self.name),
+            None => write!(f, "{:04X} {}", self.type_code, self.name),
         }
     }
+}
 
-    /// The bytes of the value of one of its properties.
-    pub fn bytes(&self, property: &Property) -> &'a [u8] {
-        let start = property.start as usize;
-        self.stream.get(start..start + property.length as usize).unwrap_or(&[])
-    }
+/// A control's name.
+#[derive(Clone, Copy, Debug, PartialEq, Eq, Hash)]
+pub enum ControlName<'a> {
+    /// Text.
+    Text(Text<'a>),
+    /// None of its own: it is called `Control_` and its number in output order.
+    Numbered(u32),
+    /// Text that isn't UTF-16.
+    Loose(Loose<'a>),
+}
 
-    /// The same as text, whatever the value's mark.
-    pub fn text(&self, property: &Property) -> String {
-        utf16(self.bytes(property))
-    }
-
-    /// The first of these properties that has the name.
-    pub fn named<'p>(&self, properties: &'p [Property], name: &str) -> Option<&'p Property> {
-        properties.iter().find(|p| value_name(p.value.mark(), p.id).as_deref() == Some(name))
+impl<'a> ControlName<'a> {
+    fn of(mark: u32, start: u32, length: u32, stream: &'a [u8]) -> Option<ControlName<'a>> {
+        let bytes = control_name(stream, &[], mark, start, length);
+        match mark {
+            name::UTF16 => Text::new(bytes).map(ControlName::Text),
+            name::NUMBERED => Some(ControlName::Numbered(start)),
+            name::LOOSE => Some(ControlName::Loose(Loose(bytes))),
+            _ => None,
+        }
     }
 }
 
-// The reader writes no other rows: its contract says what each word is.
-fn property(row: &[u32]) -> Property {
-    Property::of_row(row).expect("a row that the reader wrote")
+impl Display for ControlName<'_> {
+    fn fmt(&self, f: &mut Formatter) -> fmt::Result {
+        match self {
+            ControlName::Text(text) => text.fmt(f),
+            ControlName::Loose(loose) => loose.fmt(f),
+            ControlName::Numbered(n) => f.pad(label(*n, &mut [0; LABEL_LONGEST])),
+        }
+    }
 }
 
-fn control(row: &[u32]) -> Control {
-    Control::of_row(row).expect("a row that the reader wrote")
+/// A loose name is no `str`, whatever its text looks like.
+impl PartialEq<str> for ControlName<'_> {
+    fn eq(&self, other: &str) -> bool {
+        match self {
+            ControlName::Text(text) => text == other,
+            ControlName::Loose(_) => false,
+            ControlName::Numbered(n) => label(*n, &mut [0; LABEL_LONGEST]) == other,
+        }
+    }
 }
 
-fn utf16(bytes: &[u8]) -> String {
-    let pairs = bytes.chunks_exact(2);
-    let odd = if pairs.remainder().is_empty() { "" } else { "\u{FFFD}" };
-    let units: Vec<u16> = pairs.map(|b| u16::from_le_bytes([b[0], b[1]])).collect();
-    String::from_utf16_lossy(&units) + odd
+impl PartialEq<&str> for ControlName<'_> {
+    fn eq(&self, other: &&str) -> bool {
+        *self == **other
+    }
+}
+
+fn label(n: u32, out: &mut [u8; LABEL_LONGEST]) -> &str {
+    let length = label_text(n, out).expect("room for the longest label");
+    ascii(&out[..length])
+}
+
+/// A property.
+#[derive(Clone, Copy, Debug, PartialEq)]
+#[non_exhaustive]
+pub struct Property<'a> {
+    /// Which property it is, such as 0x36 for `Left`, or 0x8000 and a raw code.
+    pub id: u16,
+    /// Its value.
+    pub value: Value<'a>,
+    /// The value's bytes as stored.
+    pub bytes: &'a [u8],
+    /// Where they start in the stream.
+    pub start: usize,
+    layout: Layout,
+}
+
+impl<'a> Property<'a> {
+    fn of(row: &PropertyRow, layout: Layout, stream: &'a [u8]) -> Option<Property<'a>> {
+        let [id, mark, low, high, start, length] = *row;
+        let bytes = stream.get(start as usize..)?.get(..length as usize)?;
+        let value = Value::of(archive::Value { mark, low, high }, bytes)?;
+        Some(Property { id: id.try_into().ok()?, value, bytes, start: start as usize, layout })
+    }
+
+    /// Its name, such as `ControlSource`.
+    pub fn name(&self) -> Option<Name> {
+        value_name(self.value.mark(), self.id)
+    }
+
+    /// The raw code, where the code table lacks it: the value is then shown as it is stored, and its meaning isn't known.
+    /// In the later layout a property has no code, and every id is its own.
+    ///
+    /// ```
+    /// use oskuramos::{Blob, ACCESS_2000_CODES};
+    ///
+    /// let stream = std::fs::read("examples/form-2000.blob")?;
+    /// let form = Blob::read(ACCESS_2000_CODES, &stream)?;
+    /// let lacked = form.properties().filter_map(|p| p.unmapped());
+    /// assert_eq!(Vec::from_iter(lacked), [0x2F, 0xD5]);
+    /// # Ok::<(), Box<dyn std::error::Error>>(())
+    /// ```
+    pub fn unmapped(&self) -> Option<u8> {
+        let code = self.id.checked_sub(UNMAPPED).filter(|_| self.layout == Layout::Access2000)?;
+        u8::try_from(code).ok()
+    }
+}
+
+/// Its name, or id in hex, and its value.
+impl Display for Property<'_> {
+    fn fmt(&self, f: &mut Formatter) -> fmt::Result {
+        match self.name() {
+            Some(name) => write!(f, "{name} = {}", self.value),
+            None => write!(f, "{:04X} = {}", self.id, self.value),
+        }
+    }
+}
+
+fn named<'p, 'a>(properties: &'p [Property<'a>], name: &str) -> Option<&'p Property<'a>> {
+    properties.iter().find(|p| p.name().is_some_and(|n| n == *name))
 }

@@ -1,66 +1,67 @@
 //! The example Blobs, listed as `formlist` lists them, against the listings that are kept beside them.
 
-#[cfg(not(archive))]
+use oskuramos::*;
+use std::fs;
+
+fn or_dash(name: Option<Name>) -> String {
+    name.map_or("-".into(), |n| n.to_string())
+}
+
+fn control_line(number: usize, first: usize, control: &Control) -> String {
+    let characters = match control.name {
+        ControlName::Numbered(_) => "-".into(),
+        ControlName::Text(text) => (text.as_bytes().len() / 2).to_string(),
+        ControlName::Loose(loose) => (loose.0.len() / 2).to_string(),
+    };
+    let name = or_dash(control.type_name());
+    format!("C {number} {:04X} {name} {characters} {first} {}\n", control.type_code, control.properties.len())
+}
+
+fn property_line(number: usize, property: &Property) -> String {
+    let shown = match property.value {
+        Value::NotDefault => "-".into(),
+        Value::Double(d) => format!("{:016X}", d.to_bits()),
+        Value::Text(text) => (text.as_bytes().len() / 2).to_string(),
+        Value::Binary(bytes) | Value::Loose(Loose(bytes)) => bytes.len().to_string(),
+        value => value.to_string(),
+    };
+    format!("P {number} {:04X} {} {} {shown}\n", property.id, or_dash(property.name()), property.value.word())
+}
+
+fn listed(table: &[u8], stream: &[u8]) -> String {
+    let blob = Blob::read(table, stream).unwrap();
+    let mut text = format!("answer 0 {} {} {}\n", blob.controls.len(), blob.properties().count(), blob.own.len());
+    let mut first = blob.own.len();
+    for (number, control) in blob.controls.iter().enumerate() {
+        text += &control_line(number, first, control);
+        first += control.properties.len();
+    }
+    text.extend(blob.properties().enumerate().map(|(n, p)| property_line(n, p)));
+    text
+}
+
 #[test]
-#[ignore = "the archive can't be linked on this machine, or isn't there"]
-fn left_out() {}
-
-#[cfg(archive)]
-mod linked {
-    use oskuramos::*;
-    use std::fs;
-
-    fn or_dash(name: Option<String>) -> String {
-        name.unwrap_or("-".into())
+fn examples_are_listed_alike() {
+    let root = concat!(env!("CARGO_MANIFEST_DIR"), "/..");
+    let table = fs::read(format!("{root}/data/access2000.codes")).unwrap();
+    assert_eq!(table, ACCESS_2000_CODES);
+    for name in ["form-2000", "report-2000", "later-tree", "later-scan"] {
+        let stream = fs::read(format!("{root}/examples/{name}.blob")).unwrap();
+        let list = fs::read_to_string(format!("{root}/examples/{name}.list")).unwrap();
+        assert_eq!(listed(&table, &stream), list, "{name}");
     }
+}
 
-    fn control_line(number: usize, control: &Control) -> String {
-        let characters = match control.name {
-            ControlName::Numbered { .. } => "-".into(),
-            ControlName::Text { length, .. } | ControlName::Loose { length, .. } => (length / 2).to_string(),
-        };
-        let name = or_dash(control_type_name(control.type_code));
-        format!("C {number} {:04X} {name} {characters} {} {}\n", control.type_code, control.first_property, control.property_count)
-    }
+fn info_line(entry: &TypeInfoEntry) -> String {
+    let bytes = String::from_iter(entry.name.iter().map(|b| format!(" {b:02X}")));
+    format!("T {} {} {} {}\nB{bytes}\n", entry.type_code, entry.index, entry.start, entry.name.len())
+}
 
-    fn guid(bytes: &[u8]) -> String {
-        let mut out = [0; 38];
-        assert_eq!(guid_text(bytes, &mut out).number(), 0);
-        out.iter().map(|&b| char::from(b)).collect()
-    }
-
-    fn property_line(number: usize, blob: &Blob, property: &Property) -> String {
-        let shown = match property.value {
-            Value::Bool(yes) => format!("bool {}", if yes { "yes" } else { "no" }),
-            Value::NotDefault => "notdefault -".into(),
-            Value::Short(n) => format!("short {n}"),
-            Value::Long(n) => format!("long {n}"),
-            Value::Double(d) => format!("double {:016X}", d.to_bits()),
-            Value::Guid => format!("guid {}", guid(blob.bytes(property))),
-            Value::Text => format!("text {}", property.length / 2),
-            Value::Binary => format!("binary {}", property.length),
-            Value::LooseText => format!("loose {}", property.length),
-        };
-        let name = or_dash(value_name(property.value.mark(), property.id));
-        format!("P {number} {:04X} {name} {shown}\n", property.id)
-    }
-
-    fn listed(table: &[u8], stream: &[u8]) -> String {
-        let blob = Blob::read(table, stream).unwrap();
-        let mut text = format!("answer 0 {} {} {}\n", blob.controls.len(), blob.properties.len(), blob.own().len());
-        text.extend(blob.controls.iter().enumerate().map(|(n, c)| control_line(n, c)));
-        text.extend(blob.properties.iter().enumerate().map(|(n, p)| property_line(n, &blob, p)));
-        text
-    }
-
-    #[test]
-    fn examples_are_listed_alike() {
-        let root = concat!(env!("CARGO_MANIFEST_DIR"), "/..");
-        let table = fs::read(format!("{root}/data/access2000.codes")).unwrap();
-        for name in ["form-2000", "report-2000", "later-tree", "later-scan"] {
-            let stream = fs::read(format!("{root}/examples/{name}.blob")).unwrap();
-            let list = fs::read_to_string(format!("{root}/examples/{name}.list")).unwrap();
-            assert_eq!(listed(&table, &stream), list, "{name}");
-        }
-    }
+#[test]
+fn type_info_is_read_as_its_rows_say() {
+    let root = concat!(env!("CARGO_MANIFEST_DIR"), "/../examples");
+    let stream = fs::read(format!("{root}/form.typeinfo")).unwrap();
+    let info = TypeInfo::read(&stream).unwrap();
+    let lines = String::from_iter(info.entries.iter().map(info_line));
+    assert_eq!(format!("A 0 {} 0 0\n{lines}", info.entries.len()), fs::read_to_string(format!("{root}/form.typeinfo.rows")).unwrap());
 }

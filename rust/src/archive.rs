@@ -1,0 +1,126 @@
+//! The archive's functions, called with slices. All that is `unsafe` in this crate stands here.
+//!
+//! A slice is handed over as a pointer with its length behind it, counted in elements, and is lent for the call alone. No function asks more of its
+//! caller: each pointer is to as many elements as its length says, and the borrow checker keeps a slice that is written apart from the others.
+
+use crate::format::NAME_ROOM;
+
+/// The answer number and three counts.
+#[repr(C)]
+pub struct Answer {
+    pub number: u32,
+    pub first: u32,
+    pub second: u32,
+    pub third: u32,
+}
+
+/// A value's mark and its two words.
+#[repr(C)]
+pub struct Value {
+    pub mark: u32,
+    pub low: u32,
+    pub high: u32,
+}
+
+/// A name's bytes with zeros behind them.
+#[repr(C)]
+pub struct Name {
+    pub found: bool,
+    pub bytes: [u8; NAME_ROOM],
+    pub length: usize,
+}
+
+/// A part of the stream (source 0) or of the label (source 1).
+#[repr(C)]
+pub struct Part {
+    pub source: u32,
+    pub start: u32,
+    pub length: u32,
+}
+
+#[rustfmt::skip]
+extern "C" {
+    fn oskuramos_read_blob(
+        table: *const u8, table_length: usize, stream: *const u8, stream_length: usize,
+        controls: *mut u32, controls_length: usize, properties: *mut u32, properties_length: usize,
+    ) -> Answer;
+    fn oskuramos_read_type_info(stream: *const u8, stream_length: usize, rows: *mut u32, rows_length: usize) -> Answer;
+    fn oskuramos_well_formed(table: *const u8, table_length: usize) -> bool;
+    fn oskuramos_control_name(
+        stream: *const u8, stream_length: usize, label: *const u8, label_length: usize, mark: u32, start: u32, length: u32,
+    ) -> Part;
+    fn oskuramos_guid_text(guid: *const u8, guid_length: usize, out: *mut u8, out_length: usize) -> Answer;
+    fn oskuramos_label_text(n: u32, out: *mut u8, out_length: usize) -> Answer;
+    fn oskuramos_is_utf16(bytes: *const u8, bytes_length: usize) -> bool;
+    fn oskuramos_text_name(id: u16) -> Name;
+    fn oskuramos_number_name(id: u16) -> Name;
+    fn oskuramos_bytes_name(id: u16) -> Name;
+    fn oskuramos_control_type_name(id: u16) -> Name;
+    fn oskuramos_value_name(mark: u32, id: u16) -> Name;
+    fn oskuramos_entry_value(type_code: u32, bytes: *const u8, bytes_length: usize) -> Value;
+    fn oskuramos_stored_value(id: u8, bytes: *const u8, bytes_length: usize) -> Value;
+    fn oskuramos_value_as(kind: u8, id: u8, bytes: *const u8, bytes_length: usize) -> Value;
+}
+
+// SAFETY of every call below: as said above.
+
+pub fn read_blob(table: &[u8], stream: &[u8], controls: &mut [u32], properties: &mut [u32]) -> Answer {
+    let (c, p) = ((controls.as_mut_ptr(), controls.len()), (properties.as_mut_ptr(), properties.len()));
+    unsafe { oskuramos_read_blob(table.as_ptr(), table.len(), stream.as_ptr(), stream.len(), c.0, c.1, p.0, p.1) }
+}
+
+pub fn read_type_info(stream: &[u8], rows: &mut [u32]) -> Answer {
+    unsafe { oskuramos_read_type_info(stream.as_ptr(), stream.len(), rows.as_mut_ptr(), rows.len()) }
+}
+
+pub fn well_formed(table: &[u8]) -> bool {
+    unsafe { oskuramos_well_formed(table.as_ptr(), table.len()) }
+}
+
+pub fn control_name(stream: &[u8], label: &[u8], mark: u32, start: u32, length: u32) -> Part {
+    unsafe { oskuramos_control_name(stream.as_ptr(), stream.len(), label.as_ptr(), label.len(), mark, start, length) }
+}
+
+pub fn guid_text(guid: &[u8], out: &mut [u8]) -> Answer {
+    unsafe { oskuramos_guid_text(guid.as_ptr(), guid.len(), out.as_mut_ptr(), out.len()) }
+}
+
+pub fn label_text(n: u32, out: &mut [u8]) -> Answer {
+    unsafe { oskuramos_label_text(n, out.as_mut_ptr(), out.len()) }
+}
+
+pub fn is_utf16(bytes: &[u8]) -> bool {
+    unsafe { oskuramos_is_utf16(bytes.as_ptr(), bytes.len()) }
+}
+
+pub fn text_name(id: u16) -> Name {
+    unsafe { oskuramos_text_name(id) }
+}
+
+pub fn number_name(id: u16) -> Name {
+    unsafe { oskuramos_number_name(id) }
+}
+
+pub fn bytes_name(id: u16) -> Name {
+    unsafe { oskuramos_bytes_name(id) }
+}
+
+pub fn control_type_name(id: u16) -> Name {
+    unsafe { oskuramos_control_type_name(id) }
+}
+
+pub fn value_name(mark: u32, id: u16) -> Name {
+    unsafe { oskuramos_value_name(mark, id) }
+}
+
+pub fn entry_value(type_code: u32, bytes: &[u8]) -> Value {
+    unsafe { oskuramos_entry_value(type_code, bytes.as_ptr(), bytes.len()) }
+}
+
+pub fn stored_value(id: u8, bytes: &[u8]) -> Value {
+    unsafe { oskuramos_stored_value(id, bytes.as_ptr(), bytes.len()) }
+}
+
+pub fn value_as(kind: u8, id: u8, bytes: &[u8]) -> Value {
+    unsafe { oskuramos_value_as(kind, id, bytes.as_ptr(), bytes.len()) }
+}

@@ -1,0 +1,71 @@
+//! The numbers of the format, as `include/oskuramos.h` has them. No other file writes one down.
+
+/// A call takes less stack, in bytes. This is measured, not proved.
+pub const STACK: usize = 98_304;
+/// Words of a control's row.
+pub const CONTROL_WORDS: usize = 6;
+/// Words of a property's row.
+pub const PROPERTY_WORDS: usize = 6;
+/// Words of a row of TypeInfo.
+pub const TYPE_INFO_WORDS: usize = 4;
+/// Shorter TypeInfo is refused.
+pub const TYPE_INFO_SHORTEST: usize = 32;
+/// A longer stream is refused.
+pub const LONGEST: usize = 16_777_216;
+/// Bytes of a GUID.
+pub const GUID_BYTES: usize = 16;
+/// Bytes of a GUID's text.
+pub const GUID_TEXT: usize = 38;
+/// Bytes of the longest label of a numbered control.
+pub const LABEL_LONGEST: usize = 18;
+/// Room for a name by id.
+pub const NAME_ROOM: usize = 26;
+/// What a raw code that the code table lacks is joined with.
+pub const UNMAPPED: u16 = 0x8000;
+
+/// Answer numbers.
+pub mod answer {
+    pub const READ: u32 = 0;
+    pub const TOO_SHORT: u32 = 1;
+    pub const OTHER_MAGIC: u32 = 2;
+    pub const TOO_MANY_ENTRIES: u32 = 3;
+    pub const NO_READING: u32 = 4;
+    pub const TOO_LONG: u32 = 5;
+    pub const MORE_CONTROLS: u32 = 6;
+    pub const MORE_PROPERTIES: u32 = 7;
+    pub const BAD_TABLE: u32 = 8;
+    pub const NO_ROOM_FOR_TEXT: u32 = 9;
+    pub const NOT_A_GUID: u32 = 10;
+}
+
+/// Where a part of a name is: in the stream, or else in the label.
+pub const OF_STREAM: u32 = 0;
+
+/// Marks of a control's name.
+pub mod name {
+    pub const UTF16: u32 = 0;
+    pub const NUMBERED: u32 = 1;
+    pub const LOOSE: u32 = 2;
+}
+
+/// Marks of a value.
+pub mod value {
+    pub const BOOL: u32 = 0;
+    pub const NOT_DEFAULT: u32 = 1;
+    pub const SHORT: u32 = 2;
+    pub const LONG: u32 = 3;
+    pub const DOUBLE: u32 = 4;
+    pub const GUID: u32 = 5;
+    pub const TEXT: u32 = 6;
+    pub const BINARY: u32 = 7;
+    pub const LOOSE_TEXT: u32 = 8;
+}
+
+/// Kinds of a code table's rows.
+pub mod kind {
+    pub const NUMBER: u8 = 0;
+    pub const TEXT: u8 = 1;
+    pub const GUID: u8 = 2;
+    pub const DOUBLE: u8 = 3;
+    pub const BYTES: u8 = 4;
+}

@@ -1,0 +1,58 @@
+//! The archive's own calls: what is read goes into what the caller lends, and nothing is allocated.
+//!
+//! [`Blob`](crate::Blob) and [`TypeInfo`](crate::TypeInfo) do the same with room of their own, and take the rows apart.
+//! What the words of a row are stands in `oskuramos.h`.
+
+use crate::archive;
+use crate::format::OF_STREAM;
+pub use crate::format::{CONTROL_WORDS, GUID_TEXT, LABEL_LONGEST, LONGEST, PROPERTY_WORDS, STACK, TYPE_INFO_WORDS};
+use crate::refused::{of_blob, of_text, of_type_info, Counts, Refused};
+
+/// Type code, name mark, name start, name length, first property row, property count.
+pub type ControlRow = [u32; CONTROL_WORDS];
+/// Id, value mark, low, high, start of the value's bytes in the stream, their length.
+pub type PropertyRow = [u32; PROPERTY_WORDS];
+/// Type code, index, name start, name length.
+pub type TypeInfoRow = [u32; TYPE_INFO_WORDS];
+
+/// Reads a Blob by a code table. Rows behind those that are written keep their words.
+///
+/// To learn how many rows there are, lend none:
+///
+/// ```
+/// use oskuramos::{lent, Refused, ACCESS_2000_CODES};
+///
+/// let stream = std::fs::read("examples/form-2000.blob")?;
+/// let needed = match lent::read_blob(ACCESS_2000_CODES, &stream, &mut [], &mut []) {
+///     Ok(counts) | Err(Refused::MoreControls(counts) | Refused::MoreProperties(counts)) => counts,
+///     Err(refused) => return Err(refused.into()),
+/// };
+/// assert_eq!((needed.controls, needed.properties, needed.own), (9, 43, 9));
+/// # Ok::<(), Box<dyn std::error::Error>>(())
+/// ```
+pub fn read_blob(table: &[u8], stream: &[u8], controls: &mut [ControlRow], properties: &mut [PropertyRow]) -> Result<Counts, Refused> {
+    of_blob(archive::read_blob(table, stream, controls.as_flattened_mut(), properties.as_flattened_mut()))
+}
+
+/// Reads TypeInfo, and says how many rows it has. Rows behind them keep their words.
+pub fn read_type_info(stream: &[u8], rows: &mut [TypeInfoRow]) -> Result<usize, Refused> {
+    of_type_info(archive::read_type_info(stream, rows.as_flattened_mut()))
+}
+
+/// The bytes of a control's name by the mark, start and length of its row: a part of the stream, or of the label for a numbered one.
+/// A part that isn't there is empty.
+pub fn control_name<'a>(stream: &'a [u8], label: &'a [u8], mark: u32, start: u32, length: u32) -> &'a [u8] {
+    let part = archive::control_name(stream, label, mark, start, length);
+    let source = if part.source == OF_STREAM { stream } else { label };
+    &source[part.start as usize..][..part.length as usize]
+}
+
+/// Writes a GUID's 16 bytes as text of [`GUID_TEXT`] bytes, and says how many.
+pub fn guid_text(guid: &[u8], out: &mut [u8]) -> Result<usize, Refused> {
+    of_text(archive::guid_text(guid, out))
+}
+
+/// Writes `Control_` and a number, [`LABEL_LONGEST`] bytes at most, and says how many.
+pub fn label_text(n: u32, out: &mut [u8]) -> Result<usize, Refused> {
+    of_text(archive::label_text(n, out))
+}

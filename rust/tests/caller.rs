@@ -1,0 +1,137 @@
+//! What a caller meets: errors, values, names and codes that the table lacks.
+
+use oskuramos::*;
+use std::collections::HashSet;
+use std::error::Error;
+use std::fs;
+
+fn example(name: &str) -> Vec<u8> {
+    fs::read(format!("{}/../examples/{name}", env!("CARGO_MANIFEST_DIR"))).unwrap()
+}
+
+#[test]
+fn a_refusal_goes_through_the_question_mark() {
+    fn controls(table: &[u8], stream: &[u8]) -> Result<usize, Box<dyn Error>> {
+        Ok(Blob::read(table, stream)?.controls.len())
+    }
+    fn entries(stream: &[u8]) -> Result<usize, Box<dyn Error + Send + Sync>> {
+        Ok(TypeInfo::read(stream)?.entries.len())
+    }
+    let form = example("form-2000.blob");
+    assert_eq!(controls(ACCESS_2000_CODES, &form).unwrap(), 9);
+    let error = controls(ACCESS_2000_CODES, &form[..form.len() - 1]).unwrap_err();
+    assert!(error.to_string().contains("fits no reading"), "{error}");
+    assert_eq!(error.downcast_ref(), Some(&Refused::NoReading));
+    assert_eq!(entries(&example("form.typeinfo")).unwrap(), 5);
+    assert_eq!(entries(&[]).unwrap_err().downcast_ref(), Some(&Refused::TooShort));
+}
+
+#[test]
+fn each_refusal_has_its_words_and_its_number() {
+    let counts = Counts { controls: 2, properties: 3, own: 1 };
+    let all = [
+        Refused::TooShort,
+        Refused::OtherMagic,
+        Refused::TooManyEntries,
+        Refused::NoReading,
+        Refused::TooLong,
+        Refused::MoreControls(counts),
+        Refused::MoreProperties(counts),
+        Refused::BadTable,
+        Refused::NoRoomForText,
+        Refused::NotAGuid,
+    ];
+    assert_eq!(all.map(Refused::number), [1, 2, 3, 4, 5, 6, 7, 8, 9, 10]);
+    assert_eq!(Refused::MoreRows(2).number(), 6);
+    let words = HashSet::from(all.map(|refused| refused.to_string()));
+    assert_eq!(words.len(), all.len());
+    assert!(words.iter().all(|text| text.contains(": ")), "each says what is wrong, and then what it means or what may be done");
+    assert_eq!(Refused::MoreControls(counts).to_string(), "2 control rows are needed and fewer were lent: lend so many");
+    assert_eq!(Refused::MoreRows(2).to_string(), "2 rows of TypeInfo are needed and fewer were lent: lend so many");
+}
+
+#[test]
+fn only_text_is_text() {
+    let stream = example("form-2000.blob");
+    let form = Blob::read(ACCESS_2000_CODES, &stream).unwrap();
+    let width = form.property("Width").unwrap().value;
+    assert_eq!((width, width.text(), width.integer()), (Value::Short(7200), None, Some(7200)));
+    let guid = form.property("GUID").unwrap().value;
+    assert!(matches!(guid, Value::Guid(_)) && guid.text().is_none() && guid.integer().is_none());
+    assert_eq!(form.property("RecordSource").unwrap().value.text().unwrap(), "Relays");
+    for property in form.properties() {
+        assert_eq!(property.value.text().is_some(), property.value.word() == "text", "{property}");
+    }
+}
+
+#[test]
+fn values_are_shown_for_people() {
+    let guid = Value::Guid(Guid(std::array::from_fn(|i| i as u8)));
+    let shown = [
+        (Value::Bool(true), "yes"),
+        (Value::Bool(false), "no"),
+        (Value::NotDefault, "not default"),
+        (Value::Short(-1), "-1"),
+        (Value::Long(7200), "7200"),
+        (Value::Double(1.5), "1.5"),
+        (guid, "{03020100-0504-0706-0809-0A0B0C0D0E0F}"),
+        (Value::Text(Text::new(b"a\0\x3D\xD8\0\xDE").unwrap()), "a\u{1F600}"),
+        (Value::Loose(Loose(b"a\0b")), "a\u{FFFD}"),
+        (Value::Loose(Loose(b"\x3D\xD8b\0")), "\u{FFFD}b"),
+        (Value::Loose(Loose(b"\x3D\xD8b")), "\u{FFFD}\u{FFFD}"),
+        (Value::Binary(&[0, 0xAB]), "00AB"),
+    ];
+    for (value, text) in shown {
+        assert_eq!(value.to_string(), text);
+        assert_eq!(format!("{value:>40}").chars().count(), 40);
+    }
+}
+
+#[test]
+fn a_code_that_the_table_lacks_is_told() {
+    let stream = example("form-2000.blob");
+    let form = Blob::read(ACCESS_2000_CODES, &stream).unwrap();
+    assert_eq!(form.layout, Layout::Access2000);
+    let lacked = Vec::from_iter(form.properties().filter_map(|p| Some((p.unmapped()?, p.value.word(), p.to_string()))));
+    assert_eq!(lacked, [(0x2F, "notdefault", "802F = not default".into()), (0xD5, "binary", "80D5 = 010203".into())]);
+    // without any row every code is lacked
+    let bare = [ACCESS_2000_CODES[0], 0, 0, 0];
+    assert!(Blob::read(&bare, &stream).unwrap().properties().all(|p| p.unmapped().is_some()));
+}
+
+#[test]
+fn in_the_later_layout_no_id_is_a_code() {
+    let mut stream = vec![0; 14];
+    stream.extend([0x31, 0x80, 3, 0, 0, 0, 0, 0, 0, 0, 1, 0, 0, 0, 5, 253, 0, 0, 0]);
+    let form = Blob::read(ACCESS_2000_CODES, &stream).unwrap();
+    let property = form.own[0];
+    assert_eq!((form.layout, property.id, property.value, property.unmapped()), (Layout::Later, 0x8031, Value::Long(5), None));
+    assert_eq!(Blob::read(ACCESS_2000_CODES, &[]).unwrap().layout, Layout::Later);
+}
+
+#[test]
+fn names_of_each_kind() {
+    let (form, tree) = (example("form-2000.blob"), example("later-tree.blob"));
+    let name = |stream, at: usize| Blob::read(ACCESS_2000_CODES, stream).unwrap().controls[at].name;
+    assert_eq!(name(&form, 3).to_string(), "txtVolt");
+    assert_eq!((name(&form, 7), name(&form, 7).to_string()), (ControlName::Numbered(7), "Control_7".into()));
+    assert_eq!((name(&tree, 7), name(&tree, 7).to_string()), (ControlName::Loose(Loose(b"odd")), "\u{646F}\u{FFFD}".into()));
+}
+
+#[test]
+fn a_control_is_found_by_its_name() {
+    let (stream, tree) = (example("form-2000.blob"), example("later-tree.blob"));
+    let form = Blob::read(ACCESS_2000_CODES, &stream).unwrap();
+    assert_eq!(form.control("txtSign").unwrap(), &form.controls[5]);
+    assert_eq!(form.control("Control_7").unwrap(), &form.controls[7]);
+    assert_eq!((form.control("Control_8"), form.control("")), (None, None));
+    assert!(form.controls[0].name == "FormHeader");
+    assert_eq!(Blob::read(ACCESS_2000_CODES, &tree).unwrap().control("\u{646F}\u{FFFD}"), None);
+}
+
+#[test]
+fn every_name_is_ascii() {
+    let named =
+        |look_up: fn(u16) -> Option<Name>| (0..=u16::MAX).filter_map(look_up).filter(|name| name.is_ascii() && !name.is_empty()).count();
+    assert!([text_name, number_name, bytes_name, control_type_name].map(named).iter().all(|&count| count > 5));
+}

@@ -1,0 +1,70 @@
+//! The numbers that this crate writes down are those of the header for C.
+
+use oskuramos::*;
+use std::collections::HashMap;
+
+/// Each `OSKURAMOS_NAME = NUMBER` of the header, without the first word.
+fn numbers(header: &str) -> HashMap<&str, u64> {
+    let found = header.split("OSKURAMOS_").skip(1).filter_map(|rest| {
+        let (name, rest) = rest.split_once(" = ")?;
+        let digits = rest.split(|c: char| !c.is_ascii_alphanumeric()).next()?;
+        let number = digits.strip_prefix("0x").map_or(digits.parse(), |hex| u64::from_str_radix(hex, 16));
+        Some((name, number.ok()?))
+    });
+    found.collect()
+}
+
+#[test]
+fn numbers_are_the_headers() {
+    let header = std::fs::read_to_string(concat!(env!("CARGO_MANIFEST_DIR"), "/../include/oskuramos.h")).unwrap();
+    let numbers = numbers(&header);
+    let mine = [
+        ("STACK", lent::STACK),
+        ("CONTROL_WORDS", lent::CONTROL_WORDS),
+        ("PROPERTY_WORDS", lent::PROPERTY_WORDS),
+        ("TYPE_INFO_WORDS", lent::TYPE_INFO_WORDS),
+        ("LONGEST", lent::LONGEST),
+        ("GUID_LENGTH", lent::GUID_TEXT),
+        ("LABEL_LONGEST", lent::LABEL_LONGEST),
+        ("NAME_ROOM", number_name(0x13E).unwrap().len()),
+        ("KIND_NUMBER", Kind::Number as usize),
+        ("KIND_TEXT", Kind::Text as usize),
+        ("KIND_GUID", Kind::Guid as usize),
+        ("KIND_DOUBLE", Kind::Double as usize),
+        ("KIND_BYTES", Kind::Bytes as usize),
+    ];
+    for (name, number) in mine {
+        assert_eq!(numbers[name], number as u64, "{name}");
+    }
+    let refusals = [
+        ("TOO_SHORT", Refused::TooShort),
+        ("OTHER_MAGIC", Refused::OtherMagic),
+        ("TOO_MANY_ENTRIES", Refused::TooManyEntries),
+        ("NO_READING", Refused::NoReading),
+        ("TOO_LONG", Refused::TooLong),
+        ("MORE_CONTROLS", Refused::MoreControls(Counts::default())),
+        ("MORE_CONTROLS", Refused::MoreRows(0)),
+        ("MORE_PROPERTIES", Refused::MoreProperties(Counts::default())),
+        ("BAD_TABLE", Refused::BadTable),
+        ("NO_ROOM_FOR_TEXT", Refused::NoRoomForText),
+        ("NOT_A_GUID", Refused::NotAGuid),
+    ];
+    for (name, refused) in refusals {
+        assert_eq!(numbers[name], u64::from(refused.number()), "{name}");
+    }
+    let values = [
+        ("BOOL", Value::Bool(true)),
+        ("NOT_DEFAULT", Value::NotDefault),
+        ("SHORT", Value::Short(0)),
+        ("LONG", Value::Long(0)),
+        ("DOUBLE", Value::Double(0.0)),
+        ("GUID", Value::Guid(Guid([0; 16]))),
+        ("TEXT", entry_value(10, &[])),
+        ("BINARY", Value::Binary(&[])),
+        ("LOOSE_TEXT", Value::Loose(Loose(&[0]))),
+    ];
+    for (name, value) in values {
+        assert_eq!(numbers[name], u64::from(value.mark()), "{name}");
+    }
+    assert!(header.contains(&format!("#define OSKURAMOS_VERSION \"{VERSION}\"\n")));
+}
