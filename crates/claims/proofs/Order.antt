@@ -1,7 +1,7 @@
 -- Values that stand in stream order: those of either layout do, all of them, from the object's first to the last control's last.
 use Prim.Native.Nat.{ℕ, zero, suc, _+_, _≤_, _<_}
 use native.Mathlib.Omega.{arith}
-use mathlib.Core.Path.{_≡_, refl, ap, ap₂, _∙_}
+use mathlib.Core.Path.{_≡_, refl, ap, _∙_}
 use mathlib.Core.Bool.{Bool, true, false, cond, not}
 use mathlib.Core.List.{List, [], _∷_, _++_, map}
 use mathlib.Core.Option.{Option, none, some}
@@ -15,7 +15,7 @@ use Rattle.rules.specs.Access2000 as old
 use Rattle.rules.specs.Later as later
 use Rattle.rules.proofs.ListLaws.{Every, every-if, every-then, every-when, and-l, and-r, map-append, concat-append}
 use Rattle.rules.proofs.Access2000Laws.{extent-from}
-use Rattle.rules.proofs.LaterLaws.{either, inside-true, group-grows}
+use Rattle.rules.proofs.LaterLaws.{either, group-grows}
 use Rattle.claims.proofs.Levels.{levels-every}
 
 -- from p to e the values vs, each a start and a size, stand one behind the other: something stands before each, and none ends behind e
