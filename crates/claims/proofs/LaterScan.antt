@@ -4,7 +4,7 @@ use native.Mathlib.Omega.{arith}
 use native.Mathlib.Numerals.{add-one}
 use mathlib.Core.Path.{_≡_, refl, sym, ap, subst, _∙_}
 use mathlib.Core.Bool.{Bool, true, false, cond}
-use mathlib.Core.List.{List, [], _∷_, _++_, map}
+use mathlib.Core.List.{List, [], _∷_, map}
 use mathlib.Core.Logic.{_⊎_, inl, inr}
 use mathlib.Core.Option.{some}
 use lib.Dec.{eqb}
@@ -16,9 +16,10 @@ use Rattle.rules.specs.Value.{value, entryValue}
 use Rattle.rules.specs.Tree.{Node}
 use Rattle.rules.specs.Rows.{propertyWidth, rowAt}
 use Rattle.rules.specs.Later.{Prop, lengthAt, endAt, propertyAt, objectGroup, scanFrom, laterOf}
-use Rattle.rules.specs.Reading.{Control, Reading, properties, propertiesOf, nameWords, controlRow, propertyRow}
+use Rattle.rules.specs.Reading.{Control, Reading, properties, propertiesOf, controlRow, propertyRow}
 use Rattle.rules.specs.ReadLater.{propertyOf, nameBy, nameOf, controlOf, readLater}
 use Rattle.rules.specs.Blob.{Exit, counted}
+use Rattle.rules.specs.declared.Value.{Value}
 use Rattle.rules.specs.declared.Property.{Property}
 use Rattle.rules.specs.declared.Name.{Name}
 use Rattle.rules.specs.declared.Name.the-variants.{Text, Loose}
@@ -31,9 +32,9 @@ use Rattle.claims.proofs.RowsSeen.{no-property, firstOf, Rows}
 use Rattle.claims.proofs.Scan.{match-numbers, match-is, At, Reach, FromMatch, Node-from, no-node, scan-nodes, scan-node, behind, group-stop, Read, unread, ended, onward, group-read}
 
 -- ---- the name of a scanned control
--- a name that is a part of the stream
-pub record Named (start size : ℕ) (m : Name) : Type 0 where
-  pub is : (m ≡ Text start size) ⊎ (m ≡ Loose start size)
+-- a Text property, and the name that is its value
+abbrev TextNamed : Value → ℕ → ℕ → Name → Type 0
+TextNamed v start size m = ((v .mark ≡ 6) × (m ≡ Text start size)) ⊎ ((v .mark ≡ 8) × (m ≡ Loose start size))
 
 module _ (s : List ℕ) where
   text-mark : (b : List ℕ) → (entryValue 0x0A b .mark ≡ 6) ⊎ (entryValue 0x0A b .mark ≡ 8)
@@ -57,14 +58,14 @@ module _ (s : List ℕ) where
       let n = match-numbers s a m in
       record { id = n .1; text = rw (n .2) (text-mark (part s (a + 14) (lengthAt s a))); start = refl; size = refl }
 
-  name-by : (a : ℕ) (p : Property) → First a p → Named (a + 14) (lengthAt s a) (nameBy p)
-  name-by a p f = record { is = go (f .text) }
+  name-by : (a : ℕ) (p : Property) → First a p → TextNamed (p .value) (a + 14) (lengthAt s a) (nameBy p)
+  name-by a p f = go (f .text)
     where
-      go : (p .value .mark ≡ 6) ⊎ (p .value .mark ≡ 8) → (nameBy p ≡ Text (a + 14) (lengthAt s a)) ⊎ (nameBy p ≡ Loose (a + 14) (lengthAt s a))
-      go (inl e) = inl (rw (e, f .start, f .size))
-      go (inr e) = inr (rw (e, f .start, f .size))
+      go : (p .value .mark ≡ 6) ⊎ (p .value .mark ≡ 8) → TextNamed (p .value) (a + 14) (lengthAt s a) (nameBy p)
+      go (inl e) = inl (e, rw (e, f .start, f .size))
+      go (inr e) = inr (e, rw (e, f .start, f .size))
 
-  named : (p a : ℕ) (n : Node Prop) → FromMatch s p a n → Named (a + 14) (lengthAt s a) (nameOf s n)
+  named : (p a : ℕ) (n : Node Prop) → FromMatch s p a n → TextNamed (propertyOf s (propertyAt s a) .value) (a + 14) (lengthAt s a) (nameOf s n)
   unfolding nameOf find
   named p a n x =
       let id = match-numbers s a (x .match) .1 in
@@ -80,18 +81,15 @@ row-type : (n first : ℕ) (c : Control) → getD (controlRow n first c) 0 0 ≡
 unfolding controlRow
 row-type n first c = refl
 
-record NameWords (row : List ℕ) (start size : ℕ) : Type 0 where
-  mark : (getD row 1 0 ≡ 0) ⊎ (getD row 1 0 ≡ 2)
+record NameWords (v : Value) (row : List ℕ) (start size : ℕ) : Type 0 where
+  mark : ((v .mark ≡ 6) × (getD row 1 0 ≡ 0)) ⊎ ((v .mark ≡ 8) × (getD row 1 0 ≡ 2))
   its-start : getD row 2 0 ≡ start
   its-size : getD row 3 0 ≡ size
 
-name-words : (n first start size : ℕ) (c : Control) → Named start size (c .name) → NameWords (controlRow n first c) start size
+name-words : (v : Value) (n first start size : ℕ) (c : Control) → TextNamed v start size (c .name) → NameWords v (controlRow n first c) start size
 unfolding controlRow
-name-words n first start size c h = go (h .is)
-  where
-    go : (c .name ≡ Text start size) ⊎ (c .name ≡ Loose start size) → NameWords (c .type ∷ nameWords n (c .name) ++ (first ∷ length (c .properties) ∷ [])) start size
-    go (inl e) = rw e (record { mark = inl refl; its-start = refl; its-size = refl })
-    go (inr e) = rw e (record { mark = inr refl; its-start = refl; its-size = refl })
+name-words v n first start size c (inl e) = rw (e .1) (record { mark = inl (e .0, refl); its-start = refl; its-size = refl })
+name-words v n first start size c (inr e) = rw (e .1) (record { mark = inr (e .0, refl); its-start = refl; its-size = refl })
 
 module _ (s : List ℕ) (seen : Exit) (rows : Rows (readLater s) seen) (answer : seen .answer ≡ counted 0 (readLater s))
     (scanned : laterOf s ≡ (objectGroup s .props, scanFrom s (objectGroup s .stop))) where
@@ -114,10 +112,10 @@ module _ (s : List ℕ) (seen : Exit) (rows : Rows (readLater s) seen) (answer :
 
   -- a place within the group, by the six bytes
   within-is : (a e : ℕ) → Reach s a e → Within s a e
-  within-is a e x = record { to-end = x .to-end; to-next = λ q l m. x .to-next q l (match-is s q .1 m) }
+  within-is a e x = record { to-end = x .to-end; to-next = λ q l m. omega (arith, x .to-next q l (match-is s q .1 m)) }
 
   reach-is : (a e : ℕ) → Within s a e → Reach s a e
-  reach-is a e x = record { to-end = x .to-end; to-next = λ q l m. x .to-next q l (match-is s q .0 m) }
+  reach-is a e x = record { to-end = x .to-end; to-next = λ q l m. omega (arith, x .to-next q l (match-is s q .0 m)) }
 
   -- ---- a group's rows
   abbrev Shown : List Prop → ℕ → Type 0
@@ -167,14 +165,13 @@ module _ (s : List ℕ) (seen : Exit) (rows : Rows (readLater s) seen) (answer :
     control-at =
         let c = rows .control-row i there ∙ ap (controlRow i (firstOf r i)) (control-is i l) in
         let f = first-is s a (x .match) in
-        let m = name-words i (firstOf r i) (a + 14) (lengthAt s a) (controlOf s n) (unfold controlOf in named s stop a n x) in
+        let m = name-words (propertyOf s (propertyAt s a) .value) i (firstOf r i) (a + 14) (lengthAt s a) (controlOf s n) (unfold controlOf in named s stop a n x) in
         record {
           its-type = ap (λ w. getD w 0 0) c ∙ row-type i (firstOf r i) (controlOf s n) ∙ (unfold controlOf in x .type);
           its-rows = rw (count-is, rowsSeen.first-is rows i there) (read-rows (Reach s a) (Within s a) (λ e. (within-is a e, reach-is a e)) (n .props) a (x .read) (firstOf r i) property-at);
           has-rows = omega (arith, count-is, has-props);
           first-id = ap (λ w. getD w 0 0) first-row ∙ f .id;
-          first-text = rw first-row (f .text);
-          is-named = rw c (m .mark);
+          first-text = rw (first-row, c) (m .mark);
           name-start = ap (λ w. getD w 2 0) c ∙ m .its-start;
           name-length = ap (λ w. getD w 3 0) c ∙ m .its-size;
         }

@@ -238,7 +238,7 @@ module _ (s : List ℕ) where
   groups-read Inside limit same (suc k) p l =
       either (λ (g : Group). Read Inside (g .props) p) (isInside s limit p) _ _
       (λ i. let x = same (endAt s p) .1 (inside-true s limit p i) in
-      either (λ (g : Group). Read Inside (g .props) p) (endsGroup (trailerAt s p)) _ _ (λ t. ended x (ends-range (trailerAt s p) t)) λ t.
+      either (λ (g : Group). Read Inside (g .props) p) (endsGroup (trailerAt s p)) _ _ (λ t. let r = ends-range (trailerAt s p) t in ended x (omega (arith, r .0), omega (arith, r .1))) λ t.
       onward x (goes-on (trailerAt s p) t) (groups-read Inside limit same k (endAt s p) (omega arith)))
       λ i. unread {q = p} λ x. no i (inside-so limit p (same (endAt s p) .0 x))
 

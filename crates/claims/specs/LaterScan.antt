@@ -12,9 +12,10 @@ use Rattle.rules.specs.Rows.{propertyWidth, rowAt}
 use Rattle.rules.specs.Reading.{propertyRow}
 use Rattle.rules.specs.Blob.{Exit}
 use Rattle.claims.specs.LaterGrammar.{Ending}
-use Rattle.claims.specs.RowChecks.{controlType, nameMark, nameStart, nameLength, firstRow, propertyCount, shownId, valueMark, valueStart, valueLength, Named}
+use Rattle.claims.specs.RowChecks.{controlType, nameMark, nameStart, nameLength, firstRow, propertyCount, shownId, valueMark, valueStart, valueLength}
 
--- ---- a property at q: "u16 id, u32 type, 4 bytes passed over, u32 length, value, u32 trailer"
+-- ---- a property at q: "u16 id, u32 type, 4 bytes passed over, u32 length, value, u32 trailer". (Bytes past the stream's end are read as 0; a property
+-- that has such bytes isn't inside.)
 abbrev pub sizeAt : List ℕ → ℕ → ℕ
 sizeAt stream q = u32 stream (q + 10)
 
@@ -66,12 +67,10 @@ pub record Starts (stream : List ℕ) (seen : Exit) (p : ℕ) : Type 0 where
 pub record ControlAt (stream : List ℕ) (seen : Exit) (i p : ℕ) : Type 0 where
   pub its-type : controlType seen i ≡ 0
   pub its-rows : Group stream seen (Within stream p) (firstRow seen i) (propertyCount seen i) p
-  -- its first property is the match: id 0x0014, and Text, as the type is 0x0A
+  -- its first property is the match: id 0x0014, and Text, as the type is 0x0A; that is its name, so no scanned control is numbered
   pub has-rows : 0 < propertyCount seen i
   pub first-id : shownId seen (firstRow seen i) ≡ 0x0014
-  pub first-text : (valueMark seen (firstRow seen i) ≡ 6) ⊎ (valueMark seen (firstRow seen i) ≡ 8)
-  -- and its name, so no scanned control is numbered
-  pub is-named : Named (nameMark seen i)
+  pub first-text : ((valueMark seen (firstRow seen i) ≡ 6) × (nameMark seen i ≡ 0)) ⊎ ((valueMark seen (firstRow seen i) ≡ 8) × (nameMark seen i ≡ 2))
   pub name-start : nameStart seen i ≡ p + 14
   pub name-length : nameLength seen i ≡ sizeAt stream p
 
