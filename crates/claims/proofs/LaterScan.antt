@@ -211,7 +211,9 @@ module _ (s : List ℕ) (seen : Exit) (rows : Rows (readLater s) seen) (answer :
   rows-behind (q ∷ qs) h = rw (h (length qs) (omega arith)) (sym (behind-last 14 q qs))
 
   start-is : scanStart seen ≡ stop
-  start-is = ap (behindRows seen) own-many ∙ rows-behind (objectGroup s .props) own-row ∙ group-stop s (length s) 14
+  start-is =
+      let e = ap (behindRows seen) own-many ∙ rows-behind (objectGroup s .props) own-row ∙ group-stop s (length s) 14 in
+      omega (arith, e)
 
   -- ---- all of it
   starts : (a : ℕ) (n : Node Prop) → FromMatch s stop a n → Starts s seen a

@@ -1,45 +1,90 @@
--- Which stored properties an Access 2000 stream reports, each in its scope, by what its bytes spell. "The object's rows stand first, then each
--- control's."
+-- What an Access 2000 stream reports, by what its bytes spell: its items with their types and names, and its stored properties, each in its scope.
 use Prim.Native.Nat.{ℕ}
-use mathlib.Core.Bool.{cond}
-use mathlib.Core.List.{List, [], _++_, map}
-use lib.Dec.{eqb}
+use mathlib.Core.Bool.{Bool, cond, _&&_}
+use mathlib.Core.List.{List, [], _∷_, _++_, map}
+use mathlib.Core.Option.{Option, none, some}
+use lib.Bits.{bitOr}
+use lib.Dec.{leb, eqb}
+use lib.ListN.{length}
+use Rattle.rules.specs.Lists.{concat, find, has}
 use Rattle.rules.specs.Bytes.{byte, part}
+use Rattle.rules.specs.Utf16.{isUtf16}
+use Rattle.rules.specs.CodeTable.{header}
+use Rattle.rules.specs.Reading.{Control}
 use Rattle.rules.specs.Read2000.{Spot}
-use Rattle.claims.specs.Grammar.{Property, Item, leaf, branch, Items, none, one, Stream}
+use Rattle.rules.specs.declared.Name.{Name}
+use Rattle.rules.specs.declared.Name.the-variants.{Text, Numbered, Loose}
+use Rattle.claims.specs.Grammar.{Property, Item, leaf, branch, Items, one, Stream}
 use Rattle.claims.specs.Shown.{shown}
 
--- a scope by its kind and code
+-- items with all below them in preorder, each with its type and its properties
+abbrev mutual
+  pub inOrder1 : Item → List (ℕ × List Property)
+  inOrder1 (leaf type qs) = (type, qs) ∷ []
+  inOrder1 (branch type qs is) = (type, qs) ∷ inOrder is
+
+  pub inOrder : Items → List (ℕ × List Property)
+  inOrder Items.none = []
+  inOrder (one i is) = inOrder1 i ++ inOrder is
+
+-- what is reported
+abbrev pub reported : Stream → List (ℕ × List Property)
+reported t = inOrder (shown (t .list))
+
+-- ---- scopes
+-- by kind and code. Kinds: 0 form, 1 report, 2 entry
 pub record Scope : Type 0 where
   pub kind : ℕ
   pub code : ℕ
 
--- "Byte 8 equal to 0x97 means report, otherwise form: the scope of the object's run." Kinds: 0 form, 1 report, 2 entry
+-- "Byte 8 equal to 0x97 means report, otherwise form: the scope of the object's run."
+abbrev pub isReport : List ℕ → Bool
+isReport stream = eqb (byte stream 8) 0x97
+
 abbrev pub objectScope : List ℕ → Scope
-objectScope stream = record { kind = cond (eqb (byte stream 8) 0x97) 1 0; code = 0 }
+objectScope stream = record { kind = cond (isReport stream) 1 0; code = 0 }
 
 -- "An entry's scope is its type as stored."
 abbrev pub entryScope : ℕ → Scope
 entryScope type = record { kind = 2; code = type }
 
+-- ---- stored properties, each in its scope
 abbrev pub inScope : Scope → Property → Scope × Property
 inScope scope q = (scope, q)
 
--- the properties of items, with those of all below them in preorder
-abbrev mutual
-  pub stored1 : Item → List (Scope × Property)
-  stored1 (leaf type qs) = map (inScope (entryScope type)) qs
-  stored1 (branch type qs is) = map (inScope (entryScope type)) qs ++ stored is
+abbrev pub storedIn : ℕ × List Property → List (Scope × Property)
+storedIn n = map (inScope (entryScope (n .0))) (n .1)
 
-  pub stored : Items → List (Scope × Property)
-  stored none = []
-  stored (one i is) = stored1 i ++ stored is
-
--- the object's, and those of what is reported
+-- "The object's rows stand first, then each control's."
 abbrev pub storedOf : List ℕ → Stream → List (Scope × Property)
-storedOf stream t = map (inScope (objectScope stream)) (t .own) ++ stored (shown (t .list))
+storedOf stream t = map (inScope (objectScope stream)) (t .own) ++ concat (map storedIn (reported t))
 
 -- what the reader takes for a row's property, in the same terms
 abbrev pub spotSays : List ℕ → Spot → Scope × Property
 spotSays stream x =
     (record { kind = x .scope .kind; code = x .scope .code }, record { id = x .prop .id; value = part stream (x .prop .start) (x .prop .size) })
+
+-- ---- controls: type, name, and how many properties
+-- "A header code gets 0x1800 joined by OR for a form, 0x1900 for a report."
+abbrev pub typeSays : List ℕ → List ℕ → ℕ → ℕ
+typeSays table stream type = cond (has type (header table)) (bitOr (cond (isReport stream) 0x1900 0x1800) type) type
+
+-- "Name: the first id 0xDC (0xDF for types 0x98 to 0x9E) if its bytes are UTF-16; otherwise numbered.": the name's mark and its bytes
+abbrev pub isName : ℕ → Property → Bool
+isName type q = eqb (q .id) (cond (leb 0x98 type && leb type 0x9E) 0xDF 0xDC)
+
+abbrev pub nameBy : Option Property → ℕ × List ℕ
+nameBy none = (1, [])
+nameBy (some q) = cond (isUtf16 (q .value)) (0, q .value) (1, [])
+
+abbrev pub controlSays : List ℕ → List ℕ → ℕ × List Property → ℕ × (ℕ × List ℕ) × ℕ
+controlSays table stream n = (typeSays table stream (n .0), nameBy (find (isName (n .0)) (n .1)), length (n .1))
+
+-- what a name shows: its mark, and the bytes that its start and length name, where it is a part of the stream
+abbrev pub nameShows : List ℕ → Name → ℕ × List ℕ
+nameShows stream (Text start size) = (0, part stream start size)
+nameShows stream Numbered = (1, [])
+nameShows stream (Loose start size) = (2, part stream start size)
+
+abbrev pub controlShows : List ℕ → Control → ℕ × (ℕ × List ℕ) × ℕ
+controlShows stream c = (c .type, nameShows stream (c .name), length (c .properties))
