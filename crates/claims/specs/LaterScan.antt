@@ -77,6 +77,7 @@ pub record ControlAt (stream : List ℕ) (seen : Exit) (i p : ℕ) : Type 0 wher
 pub record Scanned (stream : List ℕ) (seen : Exit) : Type 0 where
   -- "The object's group starts at 14." "Object rows stay in both."
   pub own : Group stream seen (λ e. e ≤ length stream) 0 (seen .answer .third) 14
-  -- the controls are the matches that start a group with a property, all of them (in the order of their places: `RowChecks.value-order`)
+  -- the controls are the matches that start a group with a property, all of them. (They stand in the order of their places, and no two are one match:
+  -- `RowChecks.value-order`)
   pub each-control : (i : ℕ) → i < seen .answer .first → (p : ℕ) × Starts stream seen p × ControlAt stream seen i p
   pub each-match : (p : ℕ) → Starts stream seen p → (i : ℕ) × (i < seen .answer .first) × ControlAt stream seen i p
