@@ -1,6 +1,6 @@
 -- What is promised of the public functions holds: each function's theorem (`met`) says its contract of its code.
 use Prim.Native.Nat.{ℕ}
-use mathlib.Core.Path.{_≡_, refl, sym, subst, _∙_}
+use mathlib.Core.Path.{_≡_, refl, sym, ap, subst, _∙_}
 use mathlib.Core.List.{List, []}
 use lib.Ieee.{binary32, binary64, ofBits}
 use denote.Ref.{RefT, now}
@@ -13,7 +13,7 @@ use Rattle.leaf.specs.Wide.{wordsOf, bitsOf}
 use Rattle.blob.specs.Exit.{partPlace}
 use Rattle.claims.specs.Answers.{GuidAnswer, LabelAnswer}
 use Rattle.claims.specs.Demand1.{Blobs, TypeInfos, Texts}
-use Rattle.claims.specs.Demand3.{SameBut}
+use Rattle.claims.specs.Demand3.{SameBut, Same}
 use Rattle.claims.specs.Counts.{Counts, InfoCounts}
 use Rattle.claims.specs.Always.{Always}
 use Rattle.codetable.proofs.well_formed.Met as well-formed-code
@@ -62,6 +62,15 @@ call-of t s c p = record {
   allowed = refl;
 }
 
+-- the newer call's stream is the older's
+both-told : (a b : calls.Call) (R : Exit → Exit → Type 0) → calls.stream a ≡ calls.stream b
+    → R (exit (calls.table a) (calls.stream a) (calls.controls a) (calls.properties a)) (exit (calls.table b) (calls.stream a) (calls.controls b) (calls.properties b))
+    → R (calls.seen a) (calls.seen b)
+both-told a b R e h =
+    subst (λ x. R x (calls.seen b)) (sym (a .allowed))
+    (subst (R (exit (calls.table a) (calls.stream a) (calls.controls a) (calls.properties a)))
+    (sym (b .allowed ∙ ap (λ s. exit (calls.table b) s (calls.controls b) (calls.properties b)) (sym e))) h)
+
 read-blobs : calls.ReadBlob
 read-blobs = record {
   is-exit = so f.read-blob (f.read-blob .says) _ (λ κs a r e q. q) blob-met;
@@ -69,16 +78,8 @@ read-blobs = record {
   demand2 = of-blob calls.Accepts (demand2 .accepted);
   demand2-judges = of-blob calls.JudgesIt (demand2 .judges);
   counts = of-blob Counts (counts-hold .blobs);
-  demand3 = λ a b h s c p o.
-      subst (λ x. SameBut (calls.table a) (calls.table b) (calls.stream a) x (calls.seen b)) (sym (a .allowed))
-      (subst (SameBut (calls.table a) (calls.table b) (calls.stream a) (exit (calls.table a) (calls.stream a) (calls.controls a) (calls.properties a)))
-      (sym (b .allowed ∙ (λ i. exit (calls.table b) (sym s i) (sym c i) (sym p i))))
-      (demand3 .same-but (calls.table a) (calls.table b) (calls.stream a) (calls.controls a) (calls.properties a) h o));
-  demand3-later = λ a b h s c p n.
-      a .allowed
-      ∙ demand3 .later-same (calls.table a) (calls.table b) (calls.stream a) (calls.controls a) (calls.properties a) h n
-      ∙ (λ i. exit (calls.table b) (s i) (c i) (p i))
-      ∙ sym (b .allowed);
+  demand3 = λ a b h s r o. both-told a b (SameBut _ _ _ _ _) s (demand3 .same-but _ _ _ _ _ h r o);
+  demand3-later = λ a b h s r n. both-told a b (Same _ _) s (demand3 .later-same _ _ _ _ _ h r n);
   allows = λ t s c p. record { call = call-of t s c p; its-table = refl; its-stream = refl; its-controls = refl; its-properties = refl };
   one-result = λ c d t s x y. c .allowed ∙ (λ i. exit (t i) (s i) (x i) (y i)) ∙ sym (d .allowed);
 }

@@ -1,30 +1,125 @@
 -- Demand 3 holds.
 use Prim.Native.Nat.{ℕ, _*_, _/_, _<_, _≤_}
 use native.Mathlib.Omega.{arith}
-use mathlib.Core.Path.{_≡_, refl, sym, ap, _∙_}
+use mathlib.Core.Path.{_≡_, refl, sym, ap, ap₂, subst, _∙_}
 use mathlib.Core.List.{List, [], map, head-eq-of-cons-eq}
 use mathlib.Core.Bool.{Bool, true, false, not, cond}
 use mathlib.Core.Option.{Option, none, some}
 use mathlib.Core.Logic.{_⊎_, inl, inr}
 use lib.Bits.{bitOr}
 use lib.Dec.{ltb}
-use lib.ListN.{length, getD, drop, length-map}
+use lib.ListN.{length, getD, take, drop}
+use lib.Seq.{take-at}
 use borrow.Author.Tests.{ltb-false}
 use Rattle.rules.specs.Answer.{answer, refusal, noReading, tooLong, moreControls, moreProperties, longest}
 use Rattle.rules.specs.CodeTable.{Tie, wellFormed}
 use Rattle.rules.specs.Tree.{Entries, nodesOf}
 use Rattle.rules.specs.Access2000.{Prop, streamOf}
-use Rattle.rules.specs.Rows.{controlWidth, propertyWidth, room, written}
-use Rattle.rules.specs.Reading.{Reading, properties, propertyRow, propertyRows}
+use Rattle.rules.specs.Lists.{concat}
+use Rattle.rules.specs.Rows.{controlWidth, propertyWidth, room, rowAt, written}
+use Rattle.rules.specs.Reading.{Reading, properties, controlRows, propertyRow, propertyRows}
 use Rattle.rules.specs.Read2000.{Spot, tied, shown, propertyIn, read2000, spotsOf}
-use Rattle.rules.specs.Blob.{Outcome, refused, read, counted, is2000, readBy, readingOf, fit, outcome, exitBy, exit, spots}
+use Rattle.rules.specs.ReadLater.{readLater}
+use Rattle.rules.specs.Blob.{Outcome, refused, read, counted, is2000, readBy, readingOf, fit, outcome, Exit, exitBy, exit, spots}
 use Rattle.rules.specs.declared.Answer.{Answer}
 use Rattle.rules.proofs.ListLaws.{none-some, map-map, getD-map}
 use Rattle.rules.proofs.CodeTableLaws.{found-held, held-found, kept, unmapped-large, target-small}
-use Rattle.rules.proofs.RowsLaws.{row-written, behind-written}
-use Rattle.rules.proofs.ReadingLaws.{properties-wide, properties-counted}
+use Rattle.rules.proofs.RowsLaws.{Wide, words-in, written-is, row-written, behind-written}
+use Rattle.rules.proofs.ReadingLaws.{controls-wide, properties-wide, controls-counted, properties-counted}
 use Rattle.rules.proofs.Read2000Laws.{shownAt, properties-from, properties-many, controls-many, counts-from, control-rows-same}
-use Rattle.claims.specs.Demand3.{Successor, Learned, RowSays, SameBut, Demand3, no-spot}
+use Rattle.claims.specs.Demand3.{Successor, Learned, RowSays, no-spot, Lent, SameRoom, controlWords, propertyWords, Behind, Alike, SameBut, Same, exitOf, Demand3}
+
+-- ---- what two calls with the same room leave in their slices
+-- a reading has room
+abbrev Fits : Lent → Reading → Type 0
+Fits lent r = (length (r .controls) ≤ room controlWidth (lent .controls)) × (length (properties r) ≤ room propertyWidth (lent .properties))
+
+-- rows stand in their slice
+rows-in : (w : ℕ) (rows : List (List ℕ)) → Wide w rows → (n : ℕ) → length rows ≡ n → (old : List ℕ) → length rows * w ≤ length old → take (n * w) (written rows old) ≡ concat rows
+rows-in w rows wide n e old fits = ap (take (n * w)) (written-is w rows wide old fits) ∙ take-at (concat rows) _ (n * w) (words-in w rows wide ∙ ap (λ m. m * w) e)
+
+module _ (r : Reading) (lent : Lent) (f : Fits lent r) where
+  control-rows-fit : length (controlRows r) * controlWidth ≤ length (lent .controls)
+  control-rows-fit = omega (arith, controls-counted r, f .0)
+
+  property-rows-fit : length (propertyRows r) * propertyWidth ≤ length (lent .properties)
+  property-rows-fit = omega (arith, properties-counted r, f .1)
+
+  control-rows-wide : Wide controlWidth (controlRows r)
+  unfolding controlRows
+  control-rows-wide = controls-wide 0 (length (r .own)) (r .controls)
+
+  property-rows-wide : Wide propertyWidth (propertyRows r)
+  unfolding propertyRows
+  property-rows-wide = properties-wide (properties r)
+
+  controls-in : controlWords (length (r .controls)) (written (controlRows r) (lent .controls)) ≡ concat (controlRows r)
+  controls-in = rows-in controlWidth (controlRows r) control-rows-wide _ (controls-counted r) (lent .controls) control-rows-fit
+
+  properties-in : propertyWords (length (properties r)) (written (propertyRows r) (lent .properties)) ≡ concat (propertyRows r)
+  properties-in = rows-in propertyWidth (propertyRows r) property-rows-wide _ (properties-counted r) (lent .properties) property-rows-fit
+
+  behind-read : Behind lent (exitBy (read r) (lent .controls) (lent .properties))
+  behind-read = record {
+    controls = rw (controls-counted r) at (behind-written controlWidth (controlRows r) control-rows-wide (lent .controls) control-rows-fit);
+    properties = rw (properties-counted r) at (behind-written propertyWidth (propertyRows r) property-rows-wide (lent .properties) property-rows-fit);
+  }
+
+module _ (lent lent′ : Lent) where
+  Both : (Exit → Exit → Type 0) → Outcome → Outcome → Type 0
+  Both R a b = R (exitBy a (lent .controls) (lent .properties)) (exitBy b (lent′ .controls) (lent′ .properties))
+
+  refusals-alike : (a : Answer) → ¬ (a .number ≡ 0) → Both (Alike lent lent′) (refused a) (refused a)
+  unfolding Both concat
+  refusals-alike a h = record {
+    same-answer = refl;
+    same-controls = λ e. absurd (h e);
+    behind = λ e. absurd (h e);
+    refusal = λ e. (record { controls = refl; properties = refl }, record { controls = refl; properties = refl });
+  }
+
+  -- two readings of the same counts
+  module _ (r r′ : Reading) (counts : counted 0 r ≡ counted 0 r′) where
+    readings-alike : controlRows r ≡ controlRows r′ → Fits lent r → Fits lent′ r′ → Both (Alike lent lent′) (read r) (read r′)
+    unfolding Both
+    readings-alike rows f f′ = record {
+      same-answer = counts;
+      same-controls = λ e.
+          controls-in r lent f
+          ∙ ap concat rows
+          ∙ sym (ap (λ n. controlWords n (written (controlRows r′) (lent′ .controls))) (ap (λ a. a .first) counts) ∙ controls-in r′ lent′ f′);
+      behind = λ e. (behind-read r lent f, behind-read r′ lent′ f′);
+      refusal = λ e. absurd (e refl);
+    }
+
+    -- in the same room both are refused, or both are given
+    fits-both : (R : Exit → Exit → Type 0) → SameRoom lent lent′
+        → ((a : Answer) → ¬ (a .number ≡ 0) → Both R (refused a) (refused a))
+        → (Fits lent r → Fits lent′ r′ → Both R (read r) (read r′))
+        → Both R (fit (room controlWidth (lent .controls)) (room propertyWidth (lent .properties)) (some r)) (fit (room controlWidth (lent′ .controls)) (room propertyWidth (lent′ .properties)) (some r′))
+    fits-both R same refusal-same reading-same = rw (← c-same, ← p-same) (go (ltb c (length (r .controls))) (ltb p (length (properties r))) refl refl)
+      where
+        c : ℕ
+        c = room controlWidth (lent .controls)
+
+        p : ℕ
+        p = room propertyWidth (lent .properties)
+
+        c-same : ltb c (length (r .controls)) ≡ ltb (room controlWidth (lent′ .controls)) (length (r′ .controls))
+        c-same = ap₂ ltb (same .of-controls) (ap (λ a. a .first) counts)
+
+        p-same : ltb p (length (properties r)) ≡ ltb (room propertyWidth (lent′ .properties)) (length (properties r′))
+        p-same = ap₂ ltb (same .of-properties) (ap (λ a. a .second) counts)
+
+        refused-same : (number : ℕ) → ¬ (number ≡ 0) → Both R (refused (counted number r)) (refused (counted number r′))
+        refused-same number h = subst (λ a. Both R (refused (counted number r)) (refused (answer number (a .first) (a .second) (a .third)))) counts (refusal-same (counted number r) h)
+
+        go : (b d : Bool) → ltb c (length (r .controls)) ≡ b → ltb p (length (properties r)) ≡ d → Both R
+            (cond b (refused (counted moreControls r)) (cond d (refused (counted moreProperties r)) (read r)))
+            (cond b (refused (counted moreControls r′)) (cond d (refused (counted moreProperties r′)) (read r′)))
+        go true d e f = refused-same moreControls (λ q. omega arith)
+        go false true e f = refused-same moreProperties (λ q. omega arith)
+        go false false e f = reading-same (ltb-false _ _ e, ltb-false _ _ f) (ltb-false _ _ (sym c-same ∙ e), ltb-false _ _ (sym p-same ∙ f))
 
 module _ (older newer : List ℕ) (two : Successor older newer) (s : List ℕ) where
   -- ---- one property
@@ -109,106 +204,87 @@ module _ (older newer : List ℕ) (two : Successor older newer) (s : List ℕ) w
         → RowSays older newer s (getD (spots s) i no-spot) (getD (propertyRows (read2000 older s x)) i []) (getD (propertyRows (read2000 newer s x)) i [])
     rows-say i h = rw (row-at older i h, row-at newer i h, spots-are) (row-says (getD (spotsOf s x) i no-spot))
 
-    same-counts : (number : ℕ) → counted number (read2000 older s x) ≡ counted number (read2000 newer s x)
-    same-counts number = counts-from number older s x ∙ sym (counts-from number newer s x)
+    same-counts : counted 0 (read2000 older s x) ≡ counted 0 (read2000 newer s x)
+    same-counts = counts-from 0 older s x ∙ sym (counts-from 0 newer s x)
 
   -- ---- what is seen of it
-  module _ (cs ps : List ℕ) where
-    Same : Outcome → Outcome → Type 0
-    Same a b = SameBut older newer s (exitBy a cs ps) (exitBy b cs ps)
+  module _ (lent lent′ : Lent) (same : SameRoom lent lent′) where
+    abbrev Both2000 : Outcome → Outcome → Type 0
+    Both2000 = Both lent lent′ (SameBut older newer s lent lent′)
 
-    refusals-same : (a : Answer) → ¬ (a .number ≡ 0) → Same (refused a) (refused a)
-    unfolding Same
-    refusals-same a h = record {
-      same-answer = refl;
-      same-controls = refl;
-      a-row-each = λ e. absurd (h e);
-      rows = λ e. absurd (h e);
-      behind = λ e. refl;
-      refusal = λ e. refl;
-    }
+    refusals-same : (a : Answer) → ¬ (a .number ≡ 0) → Both2000 (refused a) (refused a)
+    unfolding Both
+    refusals-same a h = record { alike = refusals-alike lent lent′ a h; a-row-each = λ e. absurd (h e); rows = λ e. absurd (h e) }
 
-    -- as many property rows as the stream has spots, and room for them
-    module _ (t : List ℕ) (x : List Prop × Entries Prop) (fits : length (properties (read2000 t s x)) ≤ room propertyWidth ps) where
-      rows-many : length (propertyRows (read2000 t s x)) ≡ length (spotsOf s x)
-      rows-many = properties-counted (read2000 t s x) ∙ properties-many t s x
-
-      words-fit : length (propertyRows (read2000 t s x)) * propertyWidth ≤ length ps
-      words-fit = omega (arith, properties-counted (read2000 t s x))
-
-      row-is : (i : ℕ) → i < length (spotsOf s x) → Rattle.rules.specs.Rows.rowAt propertyWidth i (written (propertyRows (read2000 t s x)) ps) ≡ getD (propertyRows (read2000 t s x)) i []
+    -- row i of a reading of the tree
+    module _ (l : Lent) (t : List ℕ) (x : List Prop × Entries Prop) (f : length (properties (read2000 t s x)) ≤ room propertyWidth (l .properties)) where
+      row-is : (i : ℕ) → i < length (spotsOf s x) → rowAt propertyWidth i (written (propertyRows (read2000 t s x)) (l .properties)) ≡ getD (propertyRows (read2000 t s x)) i []
       unfolding propertyRows
-      row-is i h = row-written propertyWidth (propertyRows (read2000 t s x)) (properties-wide (properties (read2000 t s x))) ps words-fit i (omega (arith, rows-many))
+      row-is i h =
+          let n = properties-counted (read2000 t s x) in
+          let m = properties-many t s x in
+          row-written propertyWidth (propertyRows (read2000 t s x)) (properties-wide (properties (read2000 t s x))) (l .properties) (omega arith) i (omega arith)
 
-      behind-is : drop (length (spotsOf s x) * propertyWidth) (written (propertyRows (read2000 t s x)) ps) ≡ drop (length (spotsOf s x) * propertyWidth) ps
-      unfolding propertyRows
-      behind-is = rw rows-many at (behind-written propertyWidth (propertyRows (read2000 t s x)) (properties-wide (properties (read2000 t s x))) ps words-fit)
-
-    readings-same : (x : List Prop × Entries Prop) → streamOf s ≡ some x → length (spotsOf s x) ≤ room propertyWidth ps
-        → Same (read (read2000 older s x)) (read (read2000 newer s x))
-    unfolding Same
-    readings-same x tree fits =
+    readings-same : (x : List Prop × Entries Prop) → streamOf s ≡ some x
+        → Fits lent (read2000 older s x) → Fits lent′ (read2000 newer s x)
+        → Both2000 (read (read2000 older s x)) (read (read2000 newer s x))
+    unfolding Both
+    readings-same x tree f f′ =
         let n = properties-many older s x in
-        let n′ = properties-many newer s x in
-        let f : length (properties (read2000 older s x)) ≤ room propertyWidth ps = omega arith in
-        let f′ : length (properties (read2000 newer s x)) ≤ room propertyWidth ps = omega arith in
         record {
-          same-answer = same-counts x tree 0;
-          same-controls = ap (λ rows. written rows cs) (control-rows-same older newer s (two .same-header) x);
+          alike = readings-alike lent lent′ (read2000 older s x) (read2000 newer s x) (same-counts x tree) (control-rows-same older newer s (two .same-header) x) f f′;
           a-row-each = λ e. ap length (spots-are x tree) ∙ sym n;
-          rows = λ e i h. rw (row-is older x f i (omega arith), row-is newer x f′ i (omega arith)) (rows-say x tree i (omega arith));
-          behind = λ e. rw n (behind-is older x f ∙ sym (behind-is newer x f′));
-          refusal = λ e. absurd (e refl);
+          rows = λ e i h. rw (row-is lent older x (f .1) i (omega arith), row-is lent′ newer x (f′ .1) i (omega arith)) (rows-say x tree i (omega arith));
         }
 
-    fits-same : (x : List Prop × Entries Prop) → streamOf s ≡ some x
-        → Same (fit (room controlWidth cs) (room propertyWidth ps) (readBy older s (some x))) (fit (room controlWidth cs) (room propertyWidth ps) (readBy newer s (some x)))
-    fits-same x tree =
-        rw (controls-many older s x, controls-many newer s x, properties-many older s x, properties-many newer s x, own-same)
-        (go (ltb (room controlWidth cs) (length (nodesOf (x .1)))) (ltb (room propertyWidth ps) (length (spotsOf s x))) refl)
-      where
-        own-same : length (read2000 older s x .own) ≡ length (read2000 newer s x .own)
-        own-same = ap (λ a. a .third) (same-counts x tree 0)
+    fit-in : Option Reading → Outcome
+    fit-in = fit (room controlWidth (lent .controls)) (room propertyWidth (lent .properties))
 
-        a : ℕ → Answer
-        a number = answer number (length (nodesOf (x .1))) (length (spotsOf s x)) (length (read2000 newer s x .own))
+    fit-in′ : Option Reading → Outcome
+    fit-in′ = fit (room controlWidth (lent′ .controls)) (room propertyWidth (lent′ .properties))
 
-        go : (b d : Bool) → ltb (room propertyWidth ps) (length (spotsOf s x)) ≡ d → Same
-            (cond b (refused (a moreControls)) (cond d (refused (a moreProperties)) (read (read2000 older s x))))
-            (cond b (refused (a moreControls)) (cond d (refused (a moreProperties)) (read (read2000 newer s x))))
-        go true d e = refusals-same (a moreControls) (λ q. omega arith)
-        go false true e = refusals-same (a moreProperties) (λ q. omega arith)
-        go false false e = readings-same x tree (ltb-false _ _ e)
-
-    trees-same : (o : Option (List Prop × Entries Prop)) → streamOf s ≡ o
-        → Same (fit (room controlWidth cs) (room propertyWidth ps) (readBy older s o)) (fit (room controlWidth cs) (room propertyWidth ps) (readBy newer s o))
+    trees-same : (o : Option (List Prop × Entries Prop)) → streamOf s ≡ o → Both2000 (fit-in (readBy older s o)) (fit-in′ (readBy newer s o))
+    unfolding fit-in fit-in′
     trees-same none e = refusals-same (refusal noReading) (λ q. omega arith)
-    trees-same (some x) e = fits-same x e
+    trees-same (some x) e = fits-both lent lent′ (read2000 older s x) (read2000 newer s x) (same-counts x e) (SameBut older newer s lent lent′) same refusals-same (readings-same x e)
 
-    all-same : is2000 older s ≡ true → is2000 newer s ≡ true → SameBut older newer s (exit older s cs ps) (exit newer s cs ps)
-    unfolding exit outcome readingOf Same
+    all-same : is2000 older s ≡ true → is2000 newer s ≡ true → SameBut older newer s lent lent′ (exitOf older s lent) (exitOf newer s lent′)
+    unfolding exit outcome readingOf Both fit-in fit-in′
     all-same e e′ = rw (two .older-formed, two .newer-formed, e, e′) (go (ltb longest (length s)))
       where
-        go : (b : Bool) → Same
-            (cond b (refused (refusal tooLong)) (fit (room controlWidth cs) (room propertyWidth ps) (readBy older s (streamOf s))))
-            (cond b (refused (refusal tooLong)) (fit (room controlWidth cs) (room propertyWidth ps) (readBy newer s (streamOf s))))
+        go : (b : Bool) → Both2000 (cond b (refused (refusal tooLong)) (fit-in (readBy older s (streamOf s)))) (cond b (refused (refusal tooLong)) (fit-in′ (readBy newer s (streamOf s))))
         go true = refusals-same (refusal tooLong) (λ q. omega arith)
         go false = trees-same (streamOf s) refl
+
+    -- ---- of any other stream the same reading is given
+    later-refusals : (a : Answer) → ¬ (a .number ≡ 0) → Both lent lent′ (Same lent lent′) (refused a) (refused a)
+    unfolding Both
+    later-refusals a h = record { alike = refusals-alike lent lent′ a h; same-properties = λ e. absurd (h e) }
+
+    later-readings : (r : Reading) → Fits lent r → Fits lent′ r → Both lent lent′ (Same lent lent′) (read r) (read r)
+    unfolding Both
+    later-readings r f f′ = record { alike = readings-alike lent lent′ r r refl refl f f′; same-properties = λ e. properties-in r lent f ∙ sym (properties-in r lent′ f′) }
+
+    later-same : is2000 older s ≡ false → is2000 newer s ≡ false → Same lent lent′ (exitOf older s lent) (exitOf newer s lent′)
+    unfolding exit outcome readingOf Both fit-in fit-in′
+    later-same e e′ = rw (two .older-formed, two .newer-formed, e, e′) (go (ltb longest (length s)))
+      where
+        go : (b : Bool) → Both lent lent′ (Same lent lent′) (cond b (refused (refusal tooLong)) (fit-in (some (readLater s)))) (cond b (refused (refusal tooLong)) (fit-in′ (some (readLater s))))
+        go true = later-refusals (refusal tooLong) (λ q. omega arith)
+        go false = fits-both lent lent′ (readLater s) (readLater s) refl (Same lent lent′) same later-refusals (later-readings (readLater s))
 
   choice-same : is2000 older s ≡ is2000 newer s
   unfolding is2000
   choice-same = rw (two .one-layout)
 
-later-same : (older newer s cs ps : List ℕ) → Successor older newer → ¬ (is2000 older s ≡ true) → exit older s cs ps ≡ exit newer s cs ps
-unfolding exit outcome readingOf
-later-same older newer s cs ps two n = go (is2000 older s) refl (choice-same older newer two s)
-  where
-    go : (b : Bool) → is2000 older s ≡ b → is2000 older s ≡ is2000 newer s → exit older s cs ps ≡ exit newer s cs ps
-    go true e q = absurd (n e)
-    go false e q = rw (two .older-formed, two .newer-formed, e, sym q ∙ e)
+not-true : (b : Bool) → ¬ (b ≡ true) → b ≡ false
+not-true true h = absurd (h refl)
+not-true false h = refl
 
 pub demand3 : Demand3
 demand3 = record {
-  same-but = λ older newer s cs ps two e. all-same older newer two s cs ps e (sym (choice-same older newer two s) ∙ e);
-  later-same = later-same;
+  same-but = λ older newer s lent lent′ two same e. all-same older newer two s lent lent′ same e (sym (choice-same older newer two s) ∙ e);
+  later-same = λ older newer s lent lent′ two same n.
+      let e = not-true (is2000 older s) n in
+      later-same older newer two s lent lent′ same e (sym (choice-same older newer two s) ∙ e);
 }

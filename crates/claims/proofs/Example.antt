@@ -9,7 +9,7 @@ use Rattle.rules.specs.CodeTable.{Holds}
 use Rattle.rules.specs.Blob.{exit}
 use Rattle.rules.specs.Examples.{table, blob, old}
 use Rattle.rules.proofs.Open.{rules-open}
-use Rattle.claims.specs.Demand3.{Successor, SameBut}
+use Rattle.claims.specs.Demand3.{Successor, Lent, SameBut, exitOf}
 use Rattle.claims.proofs.Demand3.{demand3}
 
 abbrev newer : List ℕ
@@ -27,9 +27,16 @@ successor = record {
   holds-every-row = λ kind code r h. record { scope = h .scope; listed = List·Memᴰ·tail (h .listed); its-kind = h .its-kind; its-code = h .its-code; row = h .row };
 }
 
-both : SameBut table newer blob (exit table blob (replicate 12 old) (replicate 20 old)) (exit newer blob (replicate 12 old) (replicate 20 old))
+-- room for two controls and three properties, with other words in it and some left over
+abbrev lent : Lent
+lent = record { controls = replicate 12 old; properties = replicate 20 old }
+
+abbrev lent′ : Lent
+lent′ = record { controls = replicate 13 7; properties = replicate 18 9 }
+
+both : SameBut table newer blob lent lent′ (exitOf table blob lent) (exitOf newer blob lent′)
 unfolding rules-open
-both = demand3 .same-but table newer blob (replicate 12 old) (replicate 20 old) successor refl
+both = demand3 .same-but table newer blob lent lent′ successor (record { of-controls = refl; of-properties = refl }) refl
 
 -- what the newer writes: the first row has its target in the place of 0x8031
 new-words : exit newer blob (replicate 12 old) (replicate 20 old) .properties

@@ -27,7 +27,7 @@ use Rattle.blob.specs.Exit.{exited, partPlace}
 use Rattle.claims.specs.Answers.{GuidAnswer, LabelAnswer}
 use Rattle.claims.specs.Demand1.{Blobs, TypeInfos, Texts}
 use Rattle.claims.specs.Demand2.{Given, Enough, Spelled, Judges}
-use Rattle.claims.specs.Demand3.{Successor, SameBut}
+use Rattle.claims.specs.Demand3.{Successor, Lent, SameRoom, SameBut, Same}
 use Rattle.claims.specs.Counts.{Counts, InfoCounts}
 use Rattle.claims.specs.Always.{Always, OneResult, Gives}
 use Rattle.claims.specs.Functions.{
@@ -72,6 +72,9 @@ controls c = now (c .handed .1 .1 .0)
 abbrev pub properties : Call → List ℕ
 properties c = now (c .handed .1 .1 .1 .0)
 
+abbrev pub lent : Call → Lent
+lent c = record { controls = controls c; properties = properties c }
+
 -- and all that a caller sees of it
 abbrev pub seen : Call → Exit
 seen c =
@@ -113,14 +116,14 @@ pub record ReadBlob : Type 2 where
   -- "over the same Access 2000 stream and room both give the same answer number, controls, names and property count, and on answer 0 a property
   -- differs exactly where .."
   pub demand3 : (older newer : Call) → Successor (table older) (table newer)
-      → stream older ≡ stream newer → controls older ≡ controls newer → properties older ≡ properties newer
+      → stream older ≡ stream newer → SameRoom (lent older) (lent newer)
       → is2000 (table older) (stream older) ≡ true
-      → SameBut (table older) (table newer) (stream older) (seen older) (seen newer)
+      → SameBut (table older) (table newer) (stream older) (lent older) (lent newer) (seen older) (seen newer)
   -- over any other stream the two tables say the very same
   pub demand3-later : (older newer : Call) → Successor (table older) (table newer)
-      → stream older ≡ stream newer → controls older ≡ controls newer → properties older ≡ properties newer
+      → stream older ≡ stream newer → SameRoom (lent older) (lent newer)
       → ¬ (is2000 (table older) (stream older) ≡ true)
-      → seen older ≡ seen newer
+      → Same (lent older) (lent newer) (seen older) (seen newer)
   -- the contract allows a call of any words, and "any two results it allows are proved equal"
   pub allows : (table stream controls properties : List ℕ) → CallOf table stream controls properties
   pub one-result : (c d : Call) → table c ≡ table d → stream c ≡ stream d → controls c ≡ controls d → properties c ≡ properties d → seen c ≡ seen d

@@ -8,10 +8,10 @@ use mathlib.Core.List.{List}
 use mathlib.Core.Bool.{true}
 use mathlib.Core.Logic.{_↔_}
 use lib.Bits.{bitOr}
-use lib.ListN.{length, getD, drop}
+use lib.ListN.{length, getD, take, drop}
 use Rattle.rules.specs.Value.{storedValue, valueAs}
 use Rattle.rules.specs.CodeTable.{Tie, layout, header, wellFormed, Holds, Extends}
-use Rattle.rules.specs.Rows.{propertyWidth, rowAt}
+use Rattle.rules.specs.Rows.{controlWidth, propertyWidth, room, rowAt}
 use Rattle.rules.specs.Reading.{propertyRow}
 use Rattle.rules.specs.Read2000.{Spot, bytesOf, property}
 use Rattle.rules.specs.Blob.{Exit, is2000, exit, spots}
@@ -42,24 +42,66 @@ pub record RowSays (older newer s : List ℕ) (x : Spot) (old new : List ℕ) : 
 abbrev pub no-spot : Spot
 no-spot = record { scope = record { kind = 0; code = 0 }; prop = record { id = 0; start = 0; size = 0 } }
 
--- what a caller sees by the older table, and by the newer
-pub record SameBut (older newer s : List ℕ) (a b : Exit) : Type 0 where
+-- ---- the same room, whatever stood in it
+-- the two slices that a call is lent
+pub record Lent : Type 0 where
+  pub controls : List ℕ
+  pub properties : List ℕ
+
+-- "Row room is the lent length divided by the row's words, rounded down."
+pub record SameRoom (lent lent′ : Lent) : Type 0 where
+  pub of-controls : room controlWidth (lent .controls) ≡ room controlWidth (lent′ .controls)
+  pub of-properties : room propertyWidth (lent .properties) ≡ room propertyWidth (lent′ .properties)
+
+-- the words of so many rows
+abbrev pub controlWords : ℕ → List ℕ → List ℕ
+controlWords n words = take (n * controlWidth) words
+
+abbrev pub propertyWords : ℕ → List ℕ → List ℕ
+propertyWords n words = take (n * propertyWidth) words
+
+-- behind the rows of a call that was answered 0, each slice has its own old words
+pub record Behind (lent : Lent) (e : Exit) : Type 0 where
+  pub controls : drop (e .answer .first * controlWidth) (e .controls) ≡ drop (e .answer .first * controlWidth) (lent .controls)
+  pub properties : drop (e .answer .second * propertyWidth) (e .properties) ≡ drop (e .answer .second * propertyWidth) (lent .properties)
+
+-- a refused call leaves each slice as it was
+pub record Unchanged (lent : Lent) (e : Exit) : Type 0 where
+  pub controls : e .controls ≡ lent .controls
+  pub properties : e .properties ≡ lent .properties
+
+-- what a caller sees of two calls, up to the words of the property rows
+pub record Alike (lent lent′ : Lent) (a b : Exit) : Type 0 where
   -- the answer number and the three counts
   pub same-answer : a .answer ≡ b .answer
-  -- every word of the control rows: a name is told by words of its row, so these are the names too
-  pub same-controls : a .controls ≡ b .controls
-  -- on answer 0: the properties of the stream have a row each, row i says what it should, and the words behind are the same
+  -- on answer 0: every word of the control rows is the same; a name is told by words of its row, so these are the names too
+  pub same-controls : a .answer .number ≡ 0 → controlWords (a .answer .first) (a .controls) ≡ controlWords (a .answer .first) (b .controls)
+  -- and what stands behind the rows is each one's own
+  pub behind : a .answer .number ≡ 0 → Behind lent a × Behind lent′ b
+  -- on a refusal: so is every word
+  pub refusal : ¬ (a .answer .number ≡ 0) → Unchanged lent a × Unchanged lent′ b
+
+-- ---- what a caller sees by the older table, and by the newer
+-- of an Access 2000 stream
+pub record SameBut (older newer s : List ℕ) (lent lent′ : Lent) (a b : Exit) : Type 0 where
+  pub alike : Alike lent lent′ a b
+  -- on answer 0: the properties of the stream have a row each, and row i says what it should
   pub a-row-each : a .answer .number ≡ 0 → length (spots s) ≡ a .answer .second
   pub rows : a .answer .number ≡ 0 → (i : ℕ) → i < a .answer .second
       → RowSays older newer s (getD (spots s) i no-spot) (rowAt propertyWidth i (a .properties)) (rowAt propertyWidth i (b .properties))
-  pub behind : a .answer .number ≡ 0
-      → drop (a .answer .second * propertyWidth) (a .properties) ≡ drop (a .answer .second * propertyWidth) (b .properties)
-  -- on a refusal: no word differs
-  pub refusal : ¬ (a .answer .number ≡ 0) → a .properties ≡ b .properties
+
+-- of any other stream: the property rows are the same too
+pub record Same (lent lent′ : Lent) (a b : Exit) : Type 0 where
+  pub alike : Alike lent lent′ a b
+  pub same-properties : a .answer .number ≡ 0 → propertyWords (a .answer .second) (a .properties) ≡ propertyWords (a .answer .second) (b .properties)
+
+-- what a call shows by a table
+abbrev pub exitOf : List ℕ → List ℕ → Lent → Exit
+exitOf table s lent = exit table s (lent .controls) (lent .properties)
 
 pub record Demand3 : Type 0 where
-  pub same-but : (older newer s controls properties : List ℕ) → Successor older newer → is2000 older s ≡ true
-      → SameBut older newer s (exit older s controls properties) (exit newer s controls properties)
+  pub same-but : (older newer s : List ℕ) (lent lent′ : Lent) → Successor older newer → SameRoom lent lent′ → is2000 older s ≡ true
+      → SameBut older newer s lent lent′ (exitOf older s lent) (exitOf newer s lent′)
   -- over any other stream the two tables say the very same
-  pub later-same : (older newer s controls properties : List ℕ) → Successor older newer → ¬ (is2000 older s ≡ true)
-      → exit older s controls properties ≡ exit newer s controls properties
+  pub later-same : (older newer s : List ℕ) (lent lent′ : Lent) → Successor older newer → SameRoom lent lent′ → ¬ (is2000 older s ≡ true)
+      → Same lent lent′ (exitOf older s lent) (exitOf newer s lent′)
