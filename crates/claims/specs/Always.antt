@@ -1,4 +1,5 @@
--- What can be said of a function itself: of the code that is built from it, and of its contract as it stands in its crate.
+-- What can be said of a function itself: of its code, which is the routine that it is on the logic's machine, and of its contract as it stands in
+-- its crate. That the compiler makes of the code what the routine does is believed.
 use mathlib.Core.Path.{_≡_}
 use base.Logic.{emp}
 use borrow.Fn.World.{World}
@@ -32,7 +33,34 @@ OneResult f =
     (r r′ : Res (f .ended .signature) κs) (left left′ : Lasts (f .ended) κs a)
     → f .says κs a r (atExit (f .ended) κs a left) → f .says κs a r′ (atExit (f .ended) κs a left′) → (r ≡ r′) × (left ≡ left′)
 
--- f is the definition: every call gives what it says, and the contract allows nothing else
-pub record Gives (f : Function) (definition : (κs : Lfts (f .ended .signature .lifetimes)) → Args (f .ended .signature) κs → Res (f .ended .signature) κs) : Type 2 where
-  pub gives : Always f (λ κs a r e. r ≡ definition κs a)
-  pub one-result : OneResult f
+-- ---- by name
+-- a function with names for what it is handed, an A, and for all that a caller sees of a call, a B
+pub record Fn (A B : Type 0) : Type 2 where
+  pub function : Function
+  pub handed : (κs : Lfts (function .ended .signature .lifetimes)) → Args (function .ended .signature) κs → A
+  pub seen : (κs : Lfts (function .ended .signature .lifetimes)) → Res (function .ended .signature) κs → AtExit (function .ended) κs → B
+
+module _ {A B : Type 0} (f : Fn A B) where
+  -- every call of f, whatever it is handed: it asks nothing beforehand, is safe, ends, and this holds of what it is handed and what is seen of it
+  pub record Every (said : A → B → Type 0) : Type 2 where
+    pub holds : Always (f .function) (λ κs a r e. said (f .handed κs a) (f .seen κs r e))
+
+  -- f is the definition: of every call that is seen which it says, and the contract allows nothing else
+  pub record Gives (definition : A → B) : Type 2 where
+    pub gives : Every (λ handed seen. seen ≡ definition handed)
+    pub one-result : OneResult (f .function)
+
+  -- a call that the contract allows: arguments, result, and what is left in what was lent
+  pub record Call : Type 0 where
+    pub κs : Lfts (f .function .ended .signature .lifetimes)
+    pub args : Args (f .function .ended .signature) κs
+    pub result : Res (f .function .ended .signature) κs
+    pub left : Lasts (f .function .ended) κs args
+    pub allowed : f .function .says κs args result (atExit (f .function .ended) κs args left)
+
+-- what it was handed, and all that a caller sees of it
+abbrev pub handed : {A B : Type 0} {f : Fn A B} → Call f → A
+handed {f = f} c = f .handed (c .κs) (c .args)
+
+abbrev pub seen : {A B : Type 0} {f : Fn A B} → Call f → B
+seen {f = f} c = f .seen (c .κs) (c .result) (atExit (f .function .ended) (c .κs) (c .args) (c .left))

@@ -23,7 +23,6 @@ pub record Given (table stream : List ℕ) : Type 0 where
   pub formed : wellFormed table ≡ true
   pub old-layout : is2000 table stream ≡ true
   pub not-long : length stream ≤ longest
-  pub bytes : Bytes stream
 
 -- room for whatever reading the stream has
 abbrev pub Enough : List ℕ → List ℕ → ℕ → ℕ → Type 0
@@ -44,12 +43,13 @@ pub record Judges (table stream : List ℕ) (a : Answer) : Type 0 where
   pub counts : (t : Stream) → drop 10 stream spells t
       → (a .first ≡ itemsIn (shown (t .list))) × (a .second ≡ length (t .own) + propertiesIn (shown (t .list))) × (a .third ≡ length (t .own))
 
+-- of a list of bytes, which every stream that is lent to a call is: `Calls.antt` says it of calls without asking that
 pub record Demand2 : Type 0 where
   -- with room enough, answer 0 exactly when the bytes are spelled so
-  pub accepted : (table stream controls properties : List ℕ) → Given table stream
+  pub accepted : (table stream controls properties : List ℕ) → Bytes stream → Given table stream
       → Enough table stream (room controlWidth controls) (room propertyWidth properties)
       → (exit table stream controls properties .answer .number ≡ 0) ↔ Spelled stream
-  pub judges : (table stream controls properties : List ℕ) → Given table stream → Judges table stream (exit table stream controls properties .answer)
+  pub judges : (table stream controls properties : List ℕ) → Bytes stream → Given table stream → Judges table stream (exit table stream controls properties .answer)
   -- a stream is read as what its bytes spell
   pub read-as : (stream : List ℕ) → Bytes stream → (t : Stream) → (contents stream ≡ some t) ↔ (drop 10 stream spells t)
   -- bytes spell one tree at most

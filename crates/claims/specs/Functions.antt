@@ -1,4 +1,19 @@
--- The public functions: each one's signature, the code that is built from it, and its contract's clauses as its caller learns them.
+-- The public functions: each one's code, its contract's clauses as its caller learns them, and names for what it is handed and what is seen of a call.
+-- Here alone an argument is told by its place: the first is `a .0`, the second `a .1 .0`, the third `a .1 .1 .0` and so on. At exit `e` has the same
+-- places. `now` is what a lent slice holds; `κs` are the lifetimes, `r` is what is returned.
+use Prim.Native.Nat.{ℕ}
+use mathlib.Core.Bool.{Bool}
+use mathlib.Core.List.{List}
+use denote.Ref.{RefT, now}
+use Rattle.rules.specs.declared.Answer.{Answer}
+use Rattle.rules.specs.declared.Value.{Value}
+use Rattle.rules.specs.Texts.{TextExit}
+use Rattle.rules.specs.TypeInfo.{TypeInfoExit}
+use Rattle.rules.specs.Blob.{Exit}
+use Rattle.leaf.specs.declared.Int.{Int}
+use Rattle.leaf.specs.declared.Wide.{Wide}
+use Rattle.names.specs.declared.Name.{Name}
+use Rattle.blob.specs.Exit.{Place}
 use Rattle.propvalue.proofs.entry_value as entry_value
 use Rattle.propvalue.proofs.stored_value as stored_value
 use Rattle.propvalue.proofs.«value_as» as «value_as»
@@ -16,55 +31,240 @@ use Rattle.codetable.proofs.well_formed as well_formed
 use Rattle.typeinfo.proofs.read_type_info as read_type_info
 use Rattle.blob.proofs.read_blob as read_blob
 use Rattle.blob.proofs.control_name as control_name
-use Rattle.claims.specs.Always.{Function}
+use Rattle.claims.specs.Always.{Fn}
 
-abbrev pub entry-value : Function
-entry-value = record { ended = entry_value.ended; routine = entry_value.Symbol.routine; says = entry_value.Reads.Learnt }
+-- ---- what the functions are handed
+abbrev Slice : Type 0
+Slice = RefT (List ℕ)
 
-abbrev pub stored-value : Function
-stored-value = record { ended = stored_value.ended; routine = stored_value.Symbol.routine; says = stored_value.Reads.Learnt }
+abbrev End : Type 0
+End = Unit {0}
 
-abbrev pub value-as : Function
-value-as = record { ended = «value_as».ended; routine = «value_as».Symbol.routine; says = «value_as».Reads.Learnt }
+-- (table, stream, controls, properties)
+pub record Blob : Type 0 where
+  pub table : List ℕ
+  pub stream : List ℕ
+  pub controls : List ℕ
+  pub properties : List ℕ
 
-abbrev pub integer-value : Function
-integer-value = record { ended = integer_value.ended; routine = integer_value.Symbol.routine; says = integer_value.Reads.Learnt }
+abbrev blob : Slice × (Slice × (Slice × (Slice × End))) → Blob
+blob a = record { table = now (a .0); stream = now (a .1 .0); controls = now (a .1 .1 .0); properties = now (a .1 .1 .1 .0) }
 
-abbrev pub widen : Function
-widen = record { ended = widen_single.ended; routine = widen_single.Symbol.routine; says = widen_single.Reads.Learnt }
+-- (stream, rows)
+pub record TypeInfo : Type 0 where
+  pub stream : List ℕ
+  pub rows : List ℕ
 
-abbrev pub is-utf16 : Function
-is-utf16 = record { ended = is_utf16.ended; routine = is_utf16.Symbol.routine; says = is_utf16.Reads.Learnt }
+abbrev type-info : Slice × (Slice × End) → TypeInfo
+type-info a = record { stream = now (a .0); rows = now (a .1 .0) }
 
-abbrev pub text-name : Function
-text-name = record { ended = text_name.ended; routine = text_name.Symbol.routine; says = text_name.Reads.Learnt }
+-- (guid, out)
+pub record Guid : Type 0 where
+  pub guid : List ℕ
+  pub out : List ℕ
 
-abbrev pub number-name : Function
-number-name = record { ended = number_name.ended; routine = number_name.Symbol.routine; says = number_name.Reads.Learnt }
+abbrev guid : Slice × (Slice × End) → Guid
+guid a = record { guid = now (a .0); out = now (a .1 .0) }
 
-abbrev pub bytes-name : Function
-bytes-name = record { ended = bytes_name.ended; routine = bytes_name.Symbol.routine; says = bytes_name.Reads.Learnt }
+-- (n, out)
+pub record Label : Type 0 where
+  pub n : ℕ
+  pub out : List ℕ
 
-abbrev pub control-type-name : Function
-control-type-name = record { ended = control_type_name.ended; routine = control_type_name.Symbol.routine; says = control_type_name.Reads.Learnt }
+abbrev label : ℕ × (Slice × End) → Label
+label a = record { n = a .0; out = now (a .1 .0) }
 
-abbrev pub value-name : Function
-value-name = record { ended = value_name.ended; routine = value_name.Symbol.routine; says = value_name.Reads.Learnt }
+-- (stream, label, mark, start, length)
+pub record ControlName : Type 0 where
+  pub stream : List ℕ
+  pub label : List ℕ
+  pub mark : ℕ
+  pub start : ℕ
+  pub size : ℕ
+  -- where the two slices stand
+  pub stream-place : Place
+  pub label-place : Place
 
-abbrev pub guid-text : Function
-guid-text = record { ended = guid_text.ended; routine = guid_text.Symbol.routine; says = guid_text.Reads.Learnt }
+abbrev control-name : Slice × (Slice × (ℕ × (ℕ × (ℕ × End)))) → ControlName
+control-name a = record {
+  stream = now (a .0);
+  label = now (a .1 .0);
+  mark = a .1 .1 .0;
+  start = a .1 .1 .1 .0;
+  size = a .1 .1 .1 .1 .0;
+  stream-place = a .0 .ptr;
+  label-place = a .1 .0 .ptr;
+}
 
-abbrev pub label-text : Function
-label-text = record { ended = label_text.ended; routine = label_text.Symbol.routine; says = label_text.Reads.Learnt }
+-- (mark, id)
+pub record ValueName : Type 0 where
+  pub mark : ℕ
+  pub id : ℕ
 
-abbrev pub well-formed : Function
-well-formed = record { ended = well_formed.ended; routine = well_formed.Symbol.routine; says = well_formed.Reads.Learnt }
+abbrev value-name : ℕ × (ℕ × End) → ValueName
+value-name a = record { mark = a .0; id = a .1 .0 }
 
-abbrev pub read-type-info : Function
-read-type-info = record { ended = read_type_info.ended; routine = read_type_info.Symbol.routine; says = read_type_info.Reads.Learnt }
+-- (type, bytes)
+pub record Entry : Type 0 where
+  pub type : ℕ
+  pub bytes : List ℕ
 
-abbrev pub read-blob : Function
-read-blob = record { ended = read_blob.ended; routine = read_blob.Symbol.routine; says = read_blob.Reads.Learnt }
+abbrev entry : ℕ × (Slice × End) → Entry
+entry a = record { type = a .0; bytes = now (a .1 .0) }
 
-abbrev pub control-name : Function
-control-name = record { ended = control_name.ended; routine = control_name.Symbol.routine; says = control_name.Reads.Learnt }
+-- (id, bytes)
+pub record Stored : Type 0 where
+  pub id : ℕ
+  pub bytes : List ℕ
+
+abbrev stored : ℕ × (Slice × End) → Stored
+stored a = record { id = a .0; bytes = now (a .1 .0) }
+
+-- (kind, id, bytes)
+pub record Tied : Type 0 where
+  pub kind : ℕ
+  pub id : ℕ
+  pub bytes : List ℕ
+
+abbrev tied : ℕ × (ℕ × (Slice × End)) → Tied
+tied a = record { kind = a .0; id = a .1 .0; bytes = now (a .1 .1 .0) }
+
+-- (bytes), (table)
+abbrev bytes : Slice × End → List ℕ
+bytes a = now (a .0)
+
+-- (id), (low)
+abbrev number : ℕ × End → ℕ
+number a = a .0
+
+-- ---- what is seen of a call that wrote into slices: the answer, and the slices at exit
+abbrev blob-exit : Answer → Slice × (Slice × (Slice × (Slice × End))) → Exit
+blob-exit r e = record { answer = r; controls = blob e .controls; properties = blob e .properties }
+
+abbrev type-info-exit : Answer → Slice × (Slice × End) → TypeInfoExit
+type-info-exit r e = record { answer = r; rows = type-info e .rows }
+
+abbrev guid-exit : Answer → Slice × (Slice × End) → TextExit
+guid-exit r e = record { answer = r; out = guid e .out }
+
+abbrev label-exit : Answer → ℕ × (Slice × End) → TextExit
+label-exit r e = record { answer = r; out = label e .out }
+
+-- ---- the functions
+pub record Interface : Type 2 where
+  pub read-blob : Fn Blob Exit
+  pub read-type-info : Fn TypeInfo TypeInfoExit
+  pub well-formed : Fn (List ℕ) Bool
+  pub guid-text : Fn Guid TextExit
+  pub label-text : Fn Label TextExit
+  pub is-utf16 : Fn (List ℕ) Bool
+  pub text-name : Fn ℕ Name
+  pub number-name : Fn ℕ Name
+  pub bytes-name : Fn ℕ Name
+  pub control-type-name : Fn ℕ Name
+  pub value-name : Fn ValueName Name
+  pub entry-value : Fn Entry Value
+  pub stored-value : Fn Stored Value
+  pub value-as : Fn Tied Value
+
+-- as the crates have them: `blob::read_blob` and so on
+abbrev pub crates : Interface
+crates = record {
+  read-blob = record {
+    function = record { ended = read_blob.ended; routine = read_blob.Symbol.routine; says = read_blob.Reads.Learnt };
+    handed = λ κs a. blob a;
+    seen = λ κs r e. blob-exit r e;
+  };
+  read-type-info = record {
+    function = record { ended = read_type_info.ended; routine = read_type_info.Symbol.routine; says = read_type_info.Reads.Learnt };
+    handed = λ κs a. type-info a;
+    seen = λ κs r e. type-info-exit r e;
+  };
+  well-formed = record {
+    function = record { ended = well_formed.ended; routine = well_formed.Symbol.routine; says = well_formed.Reads.Learnt };
+    handed = λ κs a. bytes a;
+    seen = λ κs r e. r;
+  };
+  guid-text = record {
+    function = record { ended = guid_text.ended; routine = guid_text.Symbol.routine; says = guid_text.Reads.Learnt };
+    handed = λ κs a. guid a;
+    seen = λ κs r e. guid-exit r e;
+  };
+  label-text = record {
+    function = record { ended = label_text.ended; routine = label_text.Symbol.routine; says = label_text.Reads.Learnt };
+    handed = λ κs a. label a;
+    seen = λ κs r e. label-exit r e;
+  };
+  is-utf16 = record {
+    function = record { ended = is_utf16.ended; routine = is_utf16.Symbol.routine; says = is_utf16.Reads.Learnt };
+    handed = λ κs a. bytes a;
+    seen = λ κs r e. r;
+  };
+  text-name = record {
+    function = record { ended = text_name.ended; routine = text_name.Symbol.routine; says = text_name.Reads.Learnt };
+    handed = λ κs a. number a;
+    seen = λ κs r e. r;
+  };
+  number-name = record {
+    function = record { ended = number_name.ended; routine = number_name.Symbol.routine; says = number_name.Reads.Learnt };
+    handed = λ κs a. number a;
+    seen = λ κs r e. r;
+  };
+  bytes-name = record {
+    function = record { ended = bytes_name.ended; routine = bytes_name.Symbol.routine; says = bytes_name.Reads.Learnt };
+    handed = λ κs a. number a;
+    seen = λ κs r e. r;
+  };
+  control-type-name = record {
+    function = record { ended = control_type_name.ended; routine = control_type_name.Symbol.routine; says = control_type_name.Reads.Learnt };
+    handed = λ κs a. number a;
+    seen = λ κs r e. r;
+  };
+  value-name = record {
+    function = record { ended = value_name.ended; routine = value_name.Symbol.routine; says = value_name.Reads.Learnt };
+    handed = λ κs a. value-name a;
+    seen = λ κs r e. r;
+  };
+  entry-value = record {
+    function = record { ended = entry_value.ended; routine = entry_value.Symbol.routine; says = entry_value.Reads.Learnt };
+    handed = λ κs a. entry a;
+    seen = λ κs r e. r;
+  };
+  stored-value = record {
+    function = record { ended = stored_value.ended; routine = stored_value.Symbol.routine; says = stored_value.Reads.Learnt };
+    handed = λ κs a. stored a;
+    seen = λ κs r e. r;
+  };
+  value-as = record {
+    function = record { ended = «value_as».ended; routine = «value_as».Symbol.routine; says = «value_as».Reads.Learnt };
+    handed = λ κs a. tied a;
+    seen = λ κs r e. r;
+  };
+}
+
+-- ---- the others
+-- the name of a control is returned as a slice: what it holds, and where it starts
+pub record Returned : Type 0 where
+  pub bytes : List ℕ
+  pub place : Place
+
+abbrev pub control-name-in : Fn ControlName Returned
+control-name-in = record {
+  function = record { ended = control_name.ended; routine = control_name.Symbol.routine; says = control_name.Reads.Learnt };
+  handed = λ κs a. control-name a;
+  seen = λ κs r e. record { bytes = now r; place = r .ptr };
+}
+
+abbrev pub integer-value : Fn (List ℕ) Int
+integer-value = record {
+  function = record { ended = integer_value.ended; routine = integer_value.Symbol.routine; says = integer_value.Reads.Learnt };
+  handed = λ κs a. bytes a;
+  seen = λ κs r e. r;
+}
+
+abbrev pub widen : Fn ℕ Wide
+widen = record {
+  function = record { ended = widen_single.ended; routine = widen_single.Symbol.routine; says = widen_single.Reads.Learnt };
+  handed = λ κs a. number a;
+  seen = λ κs r e. r;
+}
