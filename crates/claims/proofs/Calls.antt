@@ -12,6 +12,7 @@ use Rattle.rules.specs.TypeInfo.{TypeInfoExit, typeInfoExit}
 use Rattle.rules.specs.Blob.{Exit, exit}
 use Rattle.rules.specs.NamePart.{partBytes}
 use Rattle.blob.specs.Exit.{partPlace}
+use Rattle.oskuramos.specs.Handed.{handedAnswer}
 use Rattle.claims.specs.Demand3.{SameBut, Same}
 use Rattle.claims.specs.Always.{Always, OneResult, Fn, Every, Gives, Call, handed, seen}
 use Rattle.codetable.proofs.well_formed.Met as well-formed-code
@@ -31,15 +32,34 @@ use Rattle.text.proofs.label_text.Met as label-text-code
 use Rattle.typeinfo.proofs.read_type_info.Met as read-type-info-code
 use Rattle.blob.proofs.read_blob.Met as read-blob-code
 use Rattle.blob.proofs.control_name.Met as control-name-code
+use Rattle.oskuramos.proofs.oskuramos_read_blob.Met as exported-read-blob-code
+use Rattle.oskuramos.proofs.oskuramos_read_type_info.Met as exported-read-type-info-code
+use Rattle.oskuramos.proofs.oskuramos_well_formed.Met as exported-well-formed-code
+use Rattle.oskuramos.proofs.oskuramos_control_name.Met as exported-control-name-code
+use Rattle.oskuramos.proofs.oskuramos_guid_text.Met as exported-guid-text-code
+use Rattle.oskuramos.proofs.oskuramos_label_text.Met as exported-label-text-code
+use Rattle.oskuramos.proofs.oskuramos_is_utf16.Met as exported-is-utf16-code
+use Rattle.oskuramos.proofs.oskuramos_text_name.Met as exported-text-name-code
+use Rattle.oskuramos.proofs.oskuramos_number_name.Met as exported-number-name-code
+use Rattle.oskuramos.proofs.oskuramos_bytes_name.Met as exported-bytes-name-code
+use Rattle.oskuramos.proofs.oskuramos_control_type_name.Met as exported-control-type-name-code
+use Rattle.oskuramos.proofs.oskuramos_value_name.Met as exported-value-name-code
+use Rattle.oskuramos.proofs.oskuramos_entry_value.Met as exported-entry-value-code
+use Rattle.oskuramos.proofs.oskuramos_stored_value.Met as exported-stored-value-code
+use Rattle.oskuramos.proofs.«oskuramos_value_as».Met as exported-value-as-code
 use Rattle.typeinfo.proofs.read_type_info.Reads as read-type-info-clauses
 use Rattle.text.proofs.guid_text.Reads as guid-text-clauses
 use Rattle.text.proofs.label_text.Reads as label-text-clauses
 use Rattle.blob.proofs.control_name.Reads as control-name-clauses
 use Rattle.leaf.proofs.widen.Reads as widen-clauses
+use Rattle.oskuramos.proofs.oskuramos_read_blob.Reads as exported-read-blob-clauses
+use Rattle.oskuramos.proofs.oskuramos_read_type_info.Reads as exported-read-type-info-clauses
+use Rattle.oskuramos.proofs.oskuramos_guid_text.Reads as exported-guid-text-clauses
+use Rattle.oskuramos.proofs.oskuramos_label_text.Reads as exported-label-text-clauses
 use Rattle.claims.specs.Functions as f
 use Rattle.claims.specs.Functions.{Blob}
 use Rattle.claims.specs.Calls as calls
-use Rattle.claims.proofs.Always.{both-facts, so, told, Tells, knowing}
+use Rattle.claims.proofs.Always.{both-facts, three-facts, so, told, Tells, knowing}
 use Rattle.claims.proofs.LentBytes.{stream-told}
 use Rattle.claims.proofs.Demand1.{demand1}
 use Rattle.claims.proofs.Demand2.{demand2}
@@ -112,6 +132,15 @@ crates-read-blob = record {
 crates-one : OneResult (f.crates .read-blob .function)
 crates-one κs a r r′ x y p q = (ap (λ e. e .answer) (p ∙ sym q), λ i. (tt, (tt, ((p ∙ sym q) i .controls, ((p ∙ sym q) i .properties, tt)))))
 
+exported-read-blob : Proved (f.exported .read-blob) exit-of
+exported-read-blob = record {
+  met = told (f.exported .read-blob .function) (λ w κs a r e. exported-read-blob-clauses.ensures κs a tt r e w) _ (λ w κs a r e. three-facts (w .𝓤) _ _ _) (λ w. exported-read-blob-code.met (w .𝓤) (w .H) (w .𝓜) (w .𝓖) (w .𝓡));
+  told = λ κs a r e q i. record { answer = f.takenAnswer (q .0 i); controls = q .1 .0 i; properties = q .1 .1 i };
+}
+
+exported-one : OneResult (f.exported .read-blob .function)
+exported-one κs a r r′ x y p q = (p .0 ∙ sym (q .0), λ i. (tt, (tt, ((p .1 .0 ∙ sym (q .1 .0)) i, ((p .1 .1 ∙ sym (q .1 .1)) i, tt)))))
+
 -- a call of any words
 crates-allows : (a : Blob) → (c : Call (f.crates .read-blob)) × (handed c ≡ a)
 crates-allows a = (
@@ -121,6 +150,18 @@ crates-allows a = (
     result = exit-of a .answer;
     left = (tt, (tt, (exit-of a .controls, (exit-of a .properties, tt))));
     allowed = refl;
+  },
+  refl,
+)
+
+exported-allows : (a : Blob) → (c : Call (f.exported .read-blob)) × (handed c ≡ a)
+exported-allows a = (
+  record {
+    κs = ([], ([], ([], ([], tt))));
+    args = (somewhere (a .table), (somewhere (a .stream), (somewhere (a .controls), (somewhere (a .properties), tt))));
+    result = handedAnswer (exit-of a .answer);
+    left = (tt, (tt, (exit-of a .controls, (exit-of a .properties, tt))));
+    allowed = (refl, (refl, refl));
   },
   refl,
 )
@@ -148,6 +189,7 @@ label-texts f p one = record {
   one-result = one;
 }
 
+-- ---- as the crates have them
 of-crates : calls.Promised f.crates
 of-crates = record {
   read-blob = read-blobs (f.crates .read-blob) crates-read-blob crates-one (stream-told (f.crates .read-blob .function .ended .signature .result)) crates-allows;
@@ -175,6 +217,34 @@ of-crates = record {
   value-as = gives (f.crates .value-as) _ (record { met = λ w. value-as-code.met (w .𝓤) (w .H) (w .𝓜) (w .𝓖) (w .𝓡); told = λ κs a r e q. q }) (λ κs a r r′ x y p q. (p ∙ sym q, refl));
 }
 
+-- ---- as C and Rust have them
+of-exported : calls.Promised f.exported
+of-exported = record {
+  read-blob = read-blobs (f.exported .read-blob) exported-read-blob exported-one (stream-told (f.exported .read-blob .function .ended .signature .result)) exported-allows;
+  read-type-info = read-type-infos (f.exported .read-type-info) (record {
+    met = told (f.exported .read-type-info .function) (λ w κs a r e. exported-read-type-info-clauses.ensures κs a tt r e w) _ (λ w κs a r e. both-facts (w .𝓤) _ _) (λ w. exported-read-type-info-code.met (w .𝓤) (w .H) (w .𝓜) (w .𝓖) (w .𝓡));
+    told = λ κs a r e q i. record { answer = f.takenAnswer (q .0 i); rows = q .1 i };
+  }) (λ κs a r r′ x y p q. (p .0 ∙ sym (q .0), λ i. (tt, ((p .1 ∙ sym (q .1)) i, tt))));
+  guid-text = guid-texts (f.exported .guid-text) (record {
+    met = told (f.exported .guid-text .function) (λ w κs a r e. exported-guid-text-clauses.ensures κs a tt r e w) _ (λ w κs a r e. both-facts (w .𝓤) _ _) (λ w. exported-guid-text-code.met (w .𝓤) (w .H) (w .𝓜) (w .𝓖) (w .𝓡));
+    told = λ κs a r e q i. record { answer = f.takenAnswer (q .0 i); out = q .1 i };
+  }) (λ κs a r r′ x y p q. (p .0 ∙ sym (q .0), λ i. (tt, ((p .1 ∙ sym (q .1)) i, tt))));
+  label-text = label-texts (f.exported .label-text) (record {
+    met = told (f.exported .label-text .function) (λ w κs a r e. exported-label-text-clauses.ensures κs a tt r e w) _ (λ w κs a r e. both-facts (w .𝓤) _ _) (λ w. exported-label-text-code.met (w .𝓤) (w .H) (w .𝓜) (w .𝓖) (w .𝓡));
+    told = λ κs a r e q i. record { answer = f.takenAnswer (q .0 i); out = q .1 i };
+  }) (λ κs a r r′ x y p q. (p .0 ∙ sym (q .0), λ i. (tt, ((p .1 ∙ sym (q .1)) i, tt))));
+  well-formed = gives (f.exported .well-formed) _ (record { met = λ w. exported-well-formed-code.met (w .𝓤) (w .H) (w .𝓜) (w .𝓖) (w .𝓡); told = λ κs a r e q. q }) (λ κs a r r′ x y p q. (p ∙ sym q, refl));
+  is-utf16 = gives (f.exported .is-utf16) _ (record { met = λ w. exported-is-utf16-code.met (w .𝓤) (w .H) (w .𝓜) (w .𝓖) (w .𝓡); told = λ κs a r e q. q }) (λ κs a r r′ x y p q. (p ∙ sym q, refl));
+  text-name = gives (f.exported .text-name) _ (record { met = λ w. exported-text-name-code.met (w .𝓤) (w .H) (w .𝓜) (w .𝓖) (w .𝓡); told = λ κs a r e q. ap f.takenName q }) (λ κs a r r′ x y p q. (p ∙ sym q, refl));
+  number-name = gives (f.exported .number-name) _ (record { met = λ w. exported-number-name-code.met (w .𝓤) (w .H) (w .𝓜) (w .𝓖) (w .𝓡); told = λ κs a r e q. ap f.takenName q }) (λ κs a r r′ x y p q. (p ∙ sym q, refl));
+  bytes-name = gives (f.exported .bytes-name) _ (record { met = λ w. exported-bytes-name-code.met (w .𝓤) (w .H) (w .𝓜) (w .𝓖) (w .𝓡); told = λ κs a r e q. ap f.takenName q }) (λ κs a r r′ x y p q. (p ∙ sym q, refl));
+  control-type-name = gives (f.exported .control-type-name) _ (record { met = λ w. exported-control-type-name-code.met (w .𝓤) (w .H) (w .𝓜) (w .𝓖) (w .𝓡); told = λ κs a r e q. ap f.takenName q }) (λ κs a r r′ x y p q. (p ∙ sym q, refl));
+  value-name = gives (f.exported .value-name) _ (record { met = λ w. exported-value-name-code.met (w .𝓤) (w .H) (w .𝓜) (w .𝓖) (w .𝓡); told = λ κs a r e q. ap f.takenName q }) (λ κs a r r′ x y p q. (p ∙ sym q, refl));
+  entry-value = gives (f.exported .entry-value) _ (record { met = λ w. exported-entry-value-code.met (w .𝓤) (w .H) (w .𝓜) (w .𝓖) (w .𝓡); told = λ κs a r e q. ap f.takenValue q }) (λ κs a r r′ x y p q. (p ∙ sym q, refl));
+  stored-value = gives (f.exported .stored-value) _ (record { met = λ w. exported-stored-value-code.met (w .𝓤) (w .H) (w .𝓜) (w .𝓖) (w .𝓡); told = λ κs a r e q. ap f.takenValue q }) (λ κs a r r′ x y p q. (p ∙ sym q, refl));
+  value-as = gives (f.exported .value-as) _ (record { met = λ w. exported-value-as-code.met (w .𝓤) (w .H) (w .𝓜) (w .𝓖) (w .𝓡); told = λ κs a r e q. ap f.takenValue q }) (λ κs a r r′ x y p q. (p ∙ sym q, refl));
+}
+
 -- ---- the others
 control-name : Proved f.control-name-in (λ a. record { bytes = partBytes (a .stream) (a .label) (calls.part a); place = partPlace (a .stream-place) (a .label-place) (calls.part a) })
 control-name = record {
@@ -188,11 +258,13 @@ widen-met = told (f.widen .function) (λ w κs a r e. widen-clauses.ensures κs 
 pub calls-hold : calls.Calls
 calls-hold = record {
   of-crates = of-crates;
+  of-exported = of-exported;
   control-name = record {
     bytes = every f.control-name-in _ control-name _ (λ a. refl);
     place = every f.control-name-in _ control-name _ (λ a. refl);
     one-result = by-words f.control-name-in _ control-name;
   };
+  exported-control-name = gives f.control-name-part _ (record { met = λ w. exported-control-name-code.met (w .𝓤) (w .H) (w .𝓜) (w .𝓖) (w .𝓡); told = λ κs a r e q. q }) (λ κs a r r′ x y p q. (p ∙ sym q, refl));
   integer-value = gives f.integer-value _ (record { met = λ w. integer-value-code.met (w .𝓤) (w .H) (w .𝓜) (w .𝓖) (w .𝓡); told = λ κs a r e q. q }) (λ κs a r r′ x y p q. (p ∙ sym q, refl));
   widen = record {
     is-widened = gives f.widen _ (record { met = widen-met; told = λ κs a r e q. q .0 }) (λ κs a r r′ x y p q. (p .0 ∙ sym (q .0), refl));

@@ -3,6 +3,7 @@
 -- hold. `a` is what it was handed, by name and as it was at entry (`a .stream`); `seen` is all that a caller sees of it: what it returned, and the slices
 -- that it may write at exit. `OneResult` says that its contract allows one result only, to the last word. Functions.antt has the names.
 -- A call is one of the function's code: the routine that it is on the logic's machine. That the compiler keeps to it is believed.
+-- Each promise stands once. It holds of the functions of the crates (`crates`) and of those that C and Rust have (`exported`).
 use mathlib.Core.Path.{_≡_}
 use mathlib.Core.Bool.{true}
 use mathlib.Core.Logic.{_↔_}
@@ -22,6 +23,7 @@ use Rattle.leaf.specs.Int.{intOf}
 use Rattle.leaf.specs.Wide.{wordsOf, bitsOf}
 use Rattle.names.specs.Lookup.{named}
 use Rattle.blob.specs.Exit.{partPlace}
+use Rattle.oskuramos.specs.Handed.{handedPart}
 use Rattle.claims.specs.Answers.{GuidAnswer, LabelAnswer}
 use Rattle.claims.specs.Demand1.{Blobs, TypeInfos, Texts}
 use Rattle.claims.specs.Demand2.{Given, Enough, Spelled, Judges}
@@ -36,7 +38,9 @@ use Rattle.claims.specs.Functions.{
   ControlName,
   Interface,
   crates,
+  exported,
   control-name-in,
+  control-name-part,
   integer-value,
   widen,
 }
@@ -103,7 +107,7 @@ pub record LabelText (f : Fn Label TextExit) : Type 2 where
   pub demand1 : Every f (λ a seen. Texts (LabelAnswer (a .n) (a .out)) (a .out) seen)
   pub one-result : OneResult (f .function)
 
--- ---- the functions; those of one line are their definitions, with one result
+-- ---- the functions that both the crates and the archive have; those of one line are their definitions, with one result
 pub record Promised (i : Interface) : Type 2 where
   pub read-blob : ReadBlob (i .read-blob)
   pub read-type-info : ReadTypeInfo (i .read-type-info)
@@ -124,7 +128,7 @@ pub record Promised (i : Interface) : Type 2 where
 abbrev pub part : ControlName → Part
 part a = namePart (a .stream) (a .label) (a .mark) (a .start) (a .size)
 
--- a slice: the part's bytes, and its place by the places of the stream and the label buffer
+-- in the crates, a slice: the part's bytes, and its place by the places of the stream and the label buffer
 pub record ControlNameIn : Type 2 where
   pub bytes : Every control-name-in (λ a seen. seen .bytes ≡ partBytes (a .stream) (a .label) (part a))
   pub place : Every control-name-in (λ a seen. seen .place ≡ partPlace (a .stream-place) (a .label-place) (part a))
@@ -139,6 +143,9 @@ pub record Widen : Type 2 where
 -- ---- all of it
 pub record Calls : Type 2 where
   pub of-crates : Promised crates
+  pub of-exported : Promised exported
   pub control-name : ControlNameIn
+  -- for C and Rust a part is source, start and length
+  pub exported-control-name : Gives control-name-part (λ a. handedPart (part a))
   pub integer-value : Gives integer-value (λ bytes. intOf (integerValue bytes))
   pub widen : Widen

@@ -14,6 +14,10 @@ use Rattle.leaf.specs.declared.Int.{Int}
 use Rattle.leaf.specs.declared.Wide.{Wide}
 use Rattle.names.specs.declared.Name.{Name}
 use Rattle.blob.specs.Exit.{Place}
+use Rattle.oskuramos.specs.declared.Answer as c-answer
+use Rattle.oskuramos.specs.declared.Value as c-value
+use Rattle.oskuramos.specs.declared.Name as c-name
+use Rattle.oskuramos.specs.declared.Part.{Part}
 use Rattle.propvalue.proofs.entry_value as entry_value
 use Rattle.propvalue.proofs.stored_value as stored_value
 use Rattle.propvalue.proofs.«value_as» as «value_as»
@@ -31,6 +35,21 @@ use Rattle.codetable.proofs.well_formed as well_formed
 use Rattle.typeinfo.proofs.read_type_info as read_type_info
 use Rattle.blob.proofs.read_blob as read_blob
 use Rattle.blob.proofs.control_name as control_name
+use Rattle.oskuramos.proofs.oskuramos_read_blob as oskuramos_read_blob
+use Rattle.oskuramos.proofs.oskuramos_read_type_info as oskuramos_read_type_info
+use Rattle.oskuramos.proofs.oskuramos_well_formed as oskuramos_well_formed
+use Rattle.oskuramos.proofs.oskuramos_control_name as oskuramos_control_name
+use Rattle.oskuramos.proofs.oskuramos_guid_text as oskuramos_guid_text
+use Rattle.oskuramos.proofs.oskuramos_label_text as oskuramos_label_text
+use Rattle.oskuramos.proofs.oskuramos_is_utf16 as oskuramos_is_utf16
+use Rattle.oskuramos.proofs.oskuramos_text_name as oskuramos_text_name
+use Rattle.oskuramos.proofs.oskuramos_number_name as oskuramos_number_name
+use Rattle.oskuramos.proofs.oskuramos_bytes_name as oskuramos_bytes_name
+use Rattle.oskuramos.proofs.oskuramos_control_type_name as oskuramos_control_type_name
+use Rattle.oskuramos.proofs.oskuramos_value_name as oskuramos_value_name
+use Rattle.oskuramos.proofs.oskuramos_entry_value as oskuramos_entry_value
+use Rattle.oskuramos.proofs.oskuramos_stored_value as oskuramos_stored_value
+use Rattle.oskuramos.proofs.«oskuramos_value_as» as «oskuramos_value_as»
 use Rattle.claims.specs.Always.{Fn}
 
 -- ---- what the functions are handed
@@ -150,7 +169,17 @@ guid-exit r e = record { answer = r; out = guid e .out }
 abbrev label-exit : Answer → ℕ × (Slice × End) → TextExit
 label-exit r e = record { answer = r; out = label e .out }
 
--- ---- the functions
+-- what C is handed has the same fields, in structs laid out as C's
+abbrev pub takenAnswer : c-answer.Answer → Answer
+takenAnswer a = record { number = a .number; first = a .first; second = a .second; third = a .third }
+
+abbrev pub takenValue : c-value.Value → Value
+takenValue v = record { mark = v .mark; low = v .low; high = v .high }
+
+abbrev pub takenName : c-name.Name → Name
+takenName n = record { found = n .found; bytes = n .bytes; len = n .length }
+
+-- ---- the functions that both the crates and the archive have
 pub record Interface : Type 2 where
   pub read-blob : Fn Blob Exit
   pub read-type-info : Fn TypeInfo TypeInfoExit
@@ -242,8 +271,83 @@ crates = record {
   };
 }
 
+-- as C and Rust have them: `oskuramos_read_blob` and so on
+abbrev pub exported : Interface
+exported = record {
+  read-blob = record {
+    function = record { ended = oskuramos_read_blob.ended; routine = oskuramos_read_blob.Symbol.routine; says = oskuramos_read_blob.Reads.Learnt };
+    handed = λ κs a. blob a;
+    seen = λ κs r e. blob-exit (takenAnswer r) e;
+  };
+  read-type-info = record {
+    function = record { ended = oskuramos_read_type_info.ended; routine = oskuramos_read_type_info.Symbol.routine; says = oskuramos_read_type_info.Reads.Learnt };
+    handed = λ κs a. type-info a;
+    seen = λ κs r e. type-info-exit (takenAnswer r) e;
+  };
+  well-formed = record {
+    function = record { ended = oskuramos_well_formed.ended; routine = oskuramos_well_formed.Symbol.routine; says = oskuramos_well_formed.Reads.Learnt };
+    handed = λ κs a. bytes a;
+    seen = λ κs r e. r;
+  };
+  guid-text = record {
+    function = record { ended = oskuramos_guid_text.ended; routine = oskuramos_guid_text.Symbol.routine; says = oskuramos_guid_text.Reads.Learnt };
+    handed = λ κs a. guid a;
+    seen = λ κs r e. guid-exit (takenAnswer r) e;
+  };
+  label-text = record {
+    function = record { ended = oskuramos_label_text.ended; routine = oskuramos_label_text.Symbol.routine; says = oskuramos_label_text.Reads.Learnt };
+    handed = λ κs a. label a;
+    seen = λ κs r e. label-exit (takenAnswer r) e;
+  };
+  is-utf16 = record {
+    function = record { ended = oskuramos_is_utf16.ended; routine = oskuramos_is_utf16.Symbol.routine; says = oskuramos_is_utf16.Reads.Learnt };
+    handed = λ κs a. bytes a;
+    seen = λ κs r e. r;
+  };
+  text-name = record {
+    function = record { ended = oskuramos_text_name.ended; routine = oskuramos_text_name.Symbol.routine; says = oskuramos_text_name.Reads.Learnt };
+    handed = λ κs a. number a;
+    seen = λ κs r e. takenName r;
+  };
+  number-name = record {
+    function = record { ended = oskuramos_number_name.ended; routine = oskuramos_number_name.Symbol.routine; says = oskuramos_number_name.Reads.Learnt };
+    handed = λ κs a. number a;
+    seen = λ κs r e. takenName r;
+  };
+  bytes-name = record {
+    function = record { ended = oskuramos_bytes_name.ended; routine = oskuramos_bytes_name.Symbol.routine; says = oskuramos_bytes_name.Reads.Learnt };
+    handed = λ κs a. number a;
+    seen = λ κs r e. takenName r;
+  };
+  control-type-name = record {
+    function = record { ended = oskuramos_control_type_name.ended; routine = oskuramos_control_type_name.Symbol.routine; says = oskuramos_control_type_name.Reads.Learnt };
+    handed = λ κs a. number a;
+    seen = λ κs r e. takenName r;
+  };
+  value-name = record {
+    function = record { ended = oskuramos_value_name.ended; routine = oskuramos_value_name.Symbol.routine; says = oskuramos_value_name.Reads.Learnt };
+    handed = λ κs a. value-name a;
+    seen = λ κs r e. takenName r;
+  };
+  entry-value = record {
+    function = record { ended = oskuramos_entry_value.ended; routine = oskuramos_entry_value.Symbol.routine; says = oskuramos_entry_value.Reads.Learnt };
+    handed = λ κs a. entry a;
+    seen = λ κs r e. takenValue r;
+  };
+  stored-value = record {
+    function = record { ended = oskuramos_stored_value.ended; routine = oskuramos_stored_value.Symbol.routine; says = oskuramos_stored_value.Reads.Learnt };
+    handed = λ κs a. stored a;
+    seen = λ κs r e. takenValue r;
+  };
+  value-as = record {
+    function = record { ended = «oskuramos_value_as».ended; routine = «oskuramos_value_as».Symbol.routine; says = «oskuramos_value_as».Reads.Learnt };
+    handed = λ κs a. tied a;
+    seen = λ κs r e. takenValue r;
+  };
+}
+
 -- ---- the others
--- the name of a control is returned as a slice: what it holds, and where it starts
+-- the name of a control is returned as a slice in the crates: what it holds, and where it starts
 pub record Returned : Type 0 where
   pub bytes : List ℕ
   pub place : Place
@@ -255,6 +359,15 @@ control-name-in = record {
   seen = λ κs r e. record { bytes = now r; place = r .ptr };
 }
 
+-- and as source, start and length for C and Rust
+abbrev pub control-name-part : Fn ControlName Part
+control-name-part = record {
+  function = record { ended = oskuramos_control_name.ended; routine = oskuramos_control_name.Symbol.routine; says = oskuramos_control_name.Reads.Learnt };
+  handed = λ κs a. control-name a;
+  seen = λ κs r e. r;
+}
+
+-- these the archive hasn't
 abbrev pub integer-value : Fn (List ℕ) Int
 integer-value = record {
   function = record { ended = integer_value.ended; routine = integer_value.Symbol.routine; says = integer_value.Reads.Learnt };
