@@ -13,7 +13,6 @@ use Rattle.rules.specs.Blob.{Exit, exit}
 use Rattle.rules.specs.NamePart.{partBytes}
 use Rattle.blob.specs.Exit.{partPlace}
 use Rattle.oskuramos.specs.Handed.{handedAnswer}
-use Rattle.claims.specs.LaterTree as later
 use Rattle.claims.specs.Demand3.{SameBut, Same}
 use Rattle.claims.specs.Always.{Always, OneResult, Fn, Every, Gives, Call, handed, seen}
 use Rattle.codetable.proofs.well_formed.Met as well-formed-code
@@ -93,14 +92,6 @@ module _ {A B : Type 0} (f : Fn A B) (definition : A → B) (p : Proved f defini
 abbrev exit-of : Blob → Exit
 exit-of a = exit (a .table) (a .stream) (a .controls) (a .properties)
 
-later-call : (a : Blob) → Bytes (a .stream) → later.Given (a .table) (a .stream) → calls.Later a (exit-of a)
-later-call a small g = record {
-  counts = later-tree .counts (a .table) (a .stream) (a .controls) (a .properties) g;
-  shows = later-tree .shows (a .table) (a .stream) (a .controls) (a .properties) g;
-  scan = later-tree .scan (a .table) (a .stream) (a .controls) (a .properties) g small;
-  short = λ h. later-tree .short (a .stream) h .1;
-}
-
 module _ (f : Fn Blob Exit) (p : Proved f exit-of) (one : OneResult (f .function)) (tells : Tells (f .function) (λ κs a. Bytes (f .handed κs a .stream))) (allows : (a : Blob) → (c : Call f) × (handed c ≡ a)) where
   -- the stream of a call is a list of bytes
   every-bytes : (said : Blob → Exit → Type 0) → ((a : Blob) → Bytes (a .stream) → said a (exit-of a)) → Every f said
@@ -119,7 +110,8 @@ module _ (f : Fn Blob Exit) (p : Proved f exit-of) (one : OneResult (f .function
     demand3 = λ c d h o. both-told c d (SameBut _ _ _ _ _) (demand3 .same-but _ _ _ _ _ (h .successor) (h .same-room) o) (h .same-stream);
     demand3-later = λ c d h n. both-told c d (Same _ _) (demand3 .later-same _ _ _ _ _ (h .successor) (h .same-room) n) (h .same-stream);
     counts = every f exit-of p _ (λ a. counts-hold .blobs (a .table) (a .stream) (a .controls) (a .properties));
-    later-tree = every-bytes _ later-call;
+    later-judges = every-bytes _ (λ a small. later-tree .judges (a .table) (a .stream) (a .controls) (a .properties) small);
+    items = every-bytes _ (λ a small. row-checks .items (a .table) (a .stream) (a .controls) (a .properties) small);
     row-checks = every f exit-of p _ (λ a. row-checks .checks (a .table) (a .stream) (a .controls) (a .properties));
     one-result = one;
     by-words = by-words f exit-of p;

@@ -4,13 +4,11 @@
 -- that it may write at exit. `OneResult` says that its contract allows one result only, to the last word. Functions.antt has the names.
 -- A call is one of the function's code: the routine that it is on the logic's machine. That the compiler keeps to it is believed.
 -- Each promise stands once. It holds of the functions of the crates (`crates`) and of those that C and Rust have (`exported`).
-use Prim.Native.Nat.{_≤_, _<_}
 use mathlib.Core.Path.{_≡_}
 use mathlib.Core.Bool.{true}
-use mathlib.Core.List.{[]}
 use mathlib.Core.Logic.{_↔_}
 use lib.Ieee.{binary32, binary64, ofBits}
-use lib.ListN.{length, drop}
+use lib.ListN.{drop}
 use Rattle.rules.specs.Bytes.{Bytes}
 use Rattle.rules.specs.Utf16.{isUtf16}
 use Rattle.rules.specs.Value.{integerValue, entryValue, storedValue, valueAs, widened}
@@ -21,7 +19,6 @@ use Rattle.rules.specs.Names.{nameIn, namesFor}
 use Rattle.rules.specs.TypeInfo.{TypeInfoExit, typeInfoExit}
 use Rattle.rules.specs.CodeTable.{wellFormed}
 use Rattle.rules.specs.NamePart.{Part, namePart, partBytes}
-use Rattle.rules.specs.Later.{laterOf}
 use Rattle.rules.specs.Blob.{Exit, is2000, exit}
 use Rattle.leaf.specs.Int.{intOf}
 use Rattle.leaf.specs.Wide.{wordsOf, bitsOf}
@@ -32,11 +29,10 @@ use Rattle.claims.specs.Answers.{GuidAnswer, LabelAnswer}
 use Rattle.claims.specs.Demand1.{Blobs, TypeInfos, Texts}
 use Rattle.claims.specs.Demand2.{Given, Enough, Spelled, Judges}
 use Rattle.claims.specs.Demand3.{Successor, Lent, SameRoom, SameBut, Same}
-use Rattle.claims.specs.LaterGrammar.{Stream, _spells_}
-use Rattle.claims.specs.LaterScan.{Scanned}
+use Rattle.claims.specs.Grammar.{Stream, _spells_}
 use Rattle.claims.specs.LaterTree as later
 use Rattle.claims.specs.Counts.{Counts, InfoCounts}
-use Rattle.claims.specs.RowChecks.{Checks}
+use Rattle.claims.specs.RowChecks.{Checks, SeenItems}
 use Rattle.claims.specs.Always.{OneResult, Fn, Every, Gives, Call, handed, seen}
 use Rattle.claims.specs.Functions.{
   Blob,
@@ -64,17 +60,6 @@ pub record TwoTables (older newer : Blob) : Type 0 where
   pub same-stream : older .stream ≡ newer .stream
   pub same-room : SameRoom (lent older) (lent newer)
 
--- of a stream of the later layout
-pub record Later (a : Blob) (seen : Exit) : Type 0 where
-  -- one whose bytes from 14 on spell a tree has its counts, whatever the room
-  pub counts : (t : Stream) → drop 14 (a .stream) spells t → later.Counts t (seen .answer)
-  -- and on answer 0 the rows show what is spelled
-  pub shows : (t : Stream) → drop 14 (a .stream) spells t → seen .answer .number ≡ 0 → later.Seen (a .stream) (a .controls) (a .properties) t seen
-  -- one of 14 bytes or more that spells nothing is scanned: on answer 0 the rows are those of the scan
-  pub scan : 14 ≤ length (a .stream) → ¬ later.Spelled (a .stream) → seen .answer .number ≡ 0 → Scanned (a .stream) seen
-  -- in fewer bytes there is nothing
-  pub short : length (a .stream) < 14 → laterOf (a .stream) ≡ ([], [])
-
 pub record ReadBlob (f : Fn Blob Exit) : Type 2 where
   -- its contract is the equation with the definition
   pub is-exit : Every f (λ a seen. seen ≡ exit (a .table) (a .stream) (a .controls) (a .properties))
@@ -101,10 +86,14 @@ pub record ReadBlob (f : Fn Blob Exit) : Type 2 where
       → Same (lent (handed older)) (lent (handed newer)) (seen older) (seen newer)
   -- "counts are those of the reading", and so are the rows
   pub counts : Every f (λ a seen. Counts (a .table) (a .stream) (a .controls) (a .properties) seen)
-  -- a later stream: by its tree, or by the scan
-  pub later-tree : Every f (λ a seen. later.Given (a .table) (a .stream) → Later a seen)
+  -- what is seen of a later stream: its tree, or the scan
+  pub later-judges : Every f (λ a seen. later.Given (a .table) (a .stream) → later.Judges (a .stream) (a .controls) (a .properties) seen)
   -- what a reader can check of the rows
   pub row-checks : Every f (λ a seen. seen .answer .number ≡ 0 → Checks (a .table) (a .stream) seen)
+  -- the controls of an Access 2000 stream are those that its bytes spell
+  pub items : Every f (λ a seen.
+      Given (a .table) (a .stream) → (t : Stream) → drop 10 (a .stream) spells t → seen .answer .number ≡ 0
+      → SeenItems (a .table) (a .stream) (a .controls) (a .properties) t seen)
   -- "any two results it allows are proved equal"
   pub one-result : OneResult (f .function)
   -- wherever the slices stand: the words alone tell what is seen; and the contract allows a call of any words
