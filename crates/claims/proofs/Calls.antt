@@ -124,10 +124,6 @@ module _ (f : Fn Blob Exit) (p : Proved f exit-of) (one : OneResult (f .function
           subst (λ x. R x (seen d)) (sym (call-told f exit-of p c))
           (subst (R (exit-of (handed c))) (sym (call-told f exit-of p d ∙ ap (λ s. exit (handed d .table) s (handed d .controls) (handed d .properties)) (sym e))) h)
 
--- slices of these words, at some place
-abbrev somewhere : List ℕ → RefT (List ℕ)
-somewhere words = record { ptr = (0, 0); name = 0; now = words }
-
 crates-read-blob : Proved (f.crates .read-blob) exit-of
 crates-read-blob = record {
   met = λ w. read-blob-code.met (w .𝓤) (w .H) (w .𝓜) (w .𝓖) (w .𝓡);
@@ -146,30 +142,24 @@ exported-read-blob = record {
 exported-one : OneResult (f.exported .read-blob .function)
 exported-one κs a r r′ x y p q = (p .0 ∙ sym (q .0), λ i. (tt, (tt, ((p .1 .0 ∙ sym (q .1 .0)) i, ((p .1 .1 ∙ sym (q .1 .1)) i, tt)))))
 
--- a call of any words
+-- a call of any words: slices that hold them at some place, and what is left in them
+abbrev somewhere : List ℕ → RefT (List ℕ)
+somewhere words = record { ptr = (0, 0); name = 0; now = words }
+
+abbrev args-of : Blob → RefT (List ℕ) × (RefT (List ℕ) × (RefT (List ℕ) × (RefT (List ℕ) × Unit {0})))
+args-of a = (somewhere (a .table), (somewhere (a .stream), (somewhere (a .controls), (somewhere (a .properties), tt))))
+
+abbrev left-of : Blob → Unit {0} × (Unit {0} × (List ℕ × (List ℕ × Unit {0})))
+left-of a = (tt, (tt, (exit-of a .controls, (exit-of a .properties, tt))))
+
+abbrev lifetimes : Lfts 4
+lifetimes = ([], ([], ([], ([], tt))))
+
 crates-allows : (a : Blob) → (c : Call (f.crates .read-blob)) × (handed c ≡ a)
-crates-allows a = (
-  record {
-    κs = ([], ([], ([], ([], tt))));
-    args = (somewhere (a .table), (somewhere (a .stream), (somewhere (a .controls), (somewhere (a .properties), tt))));
-    result = exit-of a .answer;
-    left = (tt, (tt, (exit-of a .controls, (exit-of a .properties, tt))));
-    allowed = refl;
-  },
-  refl,
-)
+crates-allows a = (record { κs = lifetimes; args = args-of a; result = exit-of a .answer; left = left-of a; allowed = refl }, refl)
 
 exported-allows : (a : Blob) → (c : Call (f.exported .read-blob)) × (handed c ≡ a)
-exported-allows a = (
-  record {
-    κs = ([], ([], ([], ([], tt))));
-    args = (somewhere (a .table), (somewhere (a .stream), (somewhere (a .controls), (somewhere (a .properties), tt))));
-    result = handedAnswer (exit-of a .answer);
-    left = (tt, (tt, (exit-of a .controls, (exit-of a .properties, tt))));
-    allowed = (refl, (refl, refl));
-  },
-  refl,
-)
+exported-allows a = (record { κs = lifetimes; args = args-of a; result = handedAnswer (exit-of a .answer); left = left-of a; allowed = (refl, (refl, refl)) }, refl)
 
 -- ---- the functions of two clauses
 read-type-infos : (f : Fn f.TypeInfo TypeInfoExit) → Proved f (λ a. typeInfoExit (a .stream) (a .rows)) → OneResult (f .function) → calls.ReadTypeInfo f
