@@ -70,7 +70,7 @@ module _ (f : Function) where
     asking w κs a = record { ghost = Unit {0}; requires = λ _. fact (w .𝓤) (Φ κs a); ensures = λ _ r e. fact (w .𝓤) (ψ κs a r e) }
 
     -- where it is asked of the caller
-    asked : Of (λ κs a r e. φ κs a r e) (λ κs a r e. Φ κs a → ψ κs a r e) → Always f φ
+    asked : Of φ (λ κs a r e. Φ κs a → ψ κs a r e) → Always f φ
         → (w : World) → Meets (w .𝓤) (w .H) (w .𝓖 .A) (f .ended .signature) (w .𝓡 .run (f .routine)) (closing (w .𝓤) (w .H) (w .𝓖 .A) (f .ended) (asking w))
     asked h m w =
         weaken-under (w .𝓤) (w .H) (w .𝓖 .A) (f .ended) (givenOf (w .𝓤) (w .H) (w .𝓜) (w .𝓖)) (clauses (says φ) w) (asking w)
@@ -79,7 +79,7 @@ module _ (f : Function) where
         (w .𝓡 .run (f .routine)) (routine-mono (w .𝓤) (w .H) (w .𝓜) (w .𝓡) (f .routine)) (m w)
 
     -- it need not be asked: what is owned at entry tells it
-    pub knowing : Tells Φ → Of (λ κs a r e. φ κs a r e) (λ κs a r e. Φ κs a → ψ κs a r e) → Always f φ → Always f ψ
+    pub knowing : Tells Φ → Of φ (λ κs a r e. Φ κs a → ψ κs a r e) → Always f φ → Always f ψ
     knowing tells h m w y =
         let E : Pr w = onEntry (w .𝓤) (w .H) (w .𝓖 .A) (f .ended .signature) (y .0 .0) (y .0 .1) (y .0 .3) (y .0 .4) in
         let F : Pr w = fact (w .𝓤) (Φ (y .0 .0) (y .0 .3)) in

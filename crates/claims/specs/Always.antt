@@ -45,7 +45,7 @@ module _ {A B : Type 0} (f : Fn A B) where
   pub record Every (said : A → B → Type 0) : Type 2 where
     pub holds : Always (f .function) (λ κs a r e. said (f .handed κs a) (f .seen κs r e))
 
-  -- f is the definition: of every call that is seen which it says, and the contract allows nothing else
+  -- f is the definition: what is seen of every call is what it says, and the contract allows nothing else
   pub record Gives (definition : A → B) : Type 2 where
     pub gives : Every (λ handed seen. seen ≡ definition handed)
     pub one-result : OneResult (f .function)
