@@ -15,6 +15,7 @@ use Rattle.rules.specs.TypeInfo.{typeInfoAnswer}
 use Rattle.rules.specs.Access2000.{lengthAt}
 use Rattle.rules.specs.Blob.{exit}
 use Rattle.rules.specs.Listing.{listing}
+use Rattle.rules.specs.Dump.{dump}
 
 -- a word that stands in a lent slice before the call
 abbrev pub old : ℕ
@@ -22,28 +23,32 @@ old = 0xEEEEEEEE
 
 -- ---- K1's input: the code table and the Blob of the worked example
 abbrev pub table : List ℕ
-table = 0x2A ∷ 0x00 ∷ 0x01 ∷ 0x00 ∷ 0x02 ∷ 0x64 ∷ 0x00 ∷ 0x02 ∷ 0x00
-    ∷ 0x60 ∷ 0x36 ∷ 0x00 ∷ 0x00
-    ∷ 0xDC ∷ 0x14 ∷ 0x00 ∷ 0x01 ∷ []
+table = dump "2A 00 01 00 02 64 00 02 00 60 36 00 00 DC 14 00 01"
 
 abbrev pub blob : List ℕ
-blob = 0x2A ∷ replicate 9 0x00
-    ++ (0x31 ∷ 0x05 ∷ 0xFE ∷ 0x98 ∷ 0x00 ∷ 0xFE ∷ 0x64 ∷ 0x00 ∷ 0x60 ∷ 0xFF ∷ 0xFF ∷ 0xDC ∷ 0x02 ∷ 0x41 ∷ 0x00 ∷ 0xFD ∷ [])
+blob = dump "2A" ++ replicate 9 0x00 ++ dump "31 05 FE 98 00 FE 64 00 60 FF FF DC 02 41 00 FD"
 
--- ---- K7's: a top list with the one entry e
-abbrev pub withEntry : List ℕ → List ℕ
-withEntry e = 0x2A ∷ replicate 9 0x00 ++ (0xFE ∷ e)
+-- ---- K7's: a top list of one entry, without a list and with an empty one
+abbrev pub withoutList : List ℕ
+withoutList = dump "2A" ++ replicate 9 0x00 ++ dump "FE 64 00 FD"
 
--- ---- K8's: 14 bytes, a property of the object whose trailer says one node, a node 0x64 whose trailer says that a count follows, and 0
-abbrev pub flag : ℕ → List ℕ
-flag trailer = 0x05 ∷ 0x00 ∷ 0x01 ∷ replicate 11 0x00 ++ (trailer ∷ 0x00 ∷ 0x00 ∷ 0x00 ∷ [])
+abbrev pub withEmptyList : List ℕ
+withEmptyList = dump "2A" ++ replicate 9 0x00 ++ dump "FE 64 00 FF 00 00"
 
+-- ---- K8's: a later node 0x64 without children
 abbrev pub childless : List ℕ
-childless = replicate 14 0x00 ++ flag 254 ++ (0x64 ∷ replicate 5 0x00) ++ flag 255 ++ (0x00 ∷ 0x00 ∷ [])
+childless =
+    replicate 14 0x00
+    ++ dump "05 00  01 00 00 00  00 00 00 00  00 00 00 00  FE 00 00 00"  -- the object: a flag; trailer 254, one node
+    ++ dump "64 00  00 00 00 00"  -- node 0x64
+    ++ dump "05 00  01 00 00 00  00 00 00 00  00 00 00 00  FF 00 00 00  00 00"  -- a flag; trailer 255, and count 0
 
--- ---- K9's: TypeInfo of 40 bytes
-abbrev pub typeInfo : ℕ → List ℕ
-typeInfo count = 0xF7 ∷ 0xEA ∷ 0xCD ∷ 0xAC ∷ replicate 8 0x00 ++ (count ∷ replicate 27 0x00)
+-- ---- K9's: TypeInfo of 40 bytes, with the count 1 and with 2
+abbrev pub oneEntry : List ℕ
+oneEntry = dump "F7 EA CD AC" ++ replicate 8 0x00 ++ dump "01 00 00 00" ++ replicate 24 0x00
+
+abbrev pub twoEntries : List ℕ
+twoEntries = dump "F7 EA CD AC" ++ replicate 8 0x00 ++ dump "02 00 00 00" ++ replicate 24 0x00
 
 pub record Examples : Type 0 where
   -- K1: the reading above, word for word, and what the listing prints
@@ -57,7 +62,7 @@ pub record Examples : Type 0 where
         ∷ 0x14 ∷ 6 ∷ 0 ∷ 0 ∷ 23 ∷ 2
         ∷ old ∷ old ∷ [];
   }
-  pub k1-printed : listing (0x11 ∷ 0x00 ∷ 0x00 ∷ 0x00 ∷ table ++ blob)
+  pub k1-printed : listing (dump "11 00 00 00" ++ table ++ blob)
       ≡ concat (text "answer 0 2 3 1\n"
       ∷ text "C 0 0098 Detail - 1 0\n"
       ∷ text "C 1 0064 Label 1 1 2\n"
@@ -65,31 +70,31 @@ pub record Examples : Type 0 where
       ∷ text "P 1 0036 Left short -1\n"
       ∷ text "P 2 0014 Name text 1\n" ∷ [])
   -- K2: type 0x02, FF 7F 00 00 is Short 32767; 00 80 00 00 Binary
-  pub k2-fits : entryValue 0x02 (0xFF ∷ 0x7F ∷ 0x00 ∷ 0x00 ∷ []) ≡ shortValue (pos 32767)
-  pub k2-not : entryValue 0x02 (0x00 ∷ 0x80 ∷ 0x00 ∷ 0x00 ∷ []) ≡ binaryValue
+  pub k2-fits : entryValue 0x02 (dump "FF 7F 00 00") ≡ shortValue (pos 32767)
+  pub k2-not : entryValue 0x02 (dump "00 80 00 00") ≡ binaryValue
   -- K3: 0x02, FF is Short 255
-  pub k3 : entryValue 0x02 (0xFF ∷ []) ≡ shortValue (pos 255)
+  pub k3 : entryValue 0x02 (dump "FF") ≡ shortValue (pos 255)
   -- K4: 0x01, 01 00 is Long 1
-  pub k4 : entryValue 0x01 (0x01 ∷ 0x00 ∷ []) ≡ longValue (pos 1)
+  pub k4 : entryValue 0x01 (dump "01 00") ≡ longValue (pos 1)
   -- K5: 0x01 empty is NotDefault
   pub k5 : entryValue 0x01 [] ≡ notDefault
   -- K6: length FD is 253; FF 05 00 is 5
-  pub k6-one : lengthAt (0xFD ∷ []) 0 ≡ some (1, 253)
-  pub k6-two : lengthAt (0xFF ∷ 0x05 ∷ 0x00 ∷ []) 0 ≡ some (3, 5)
+  pub k6-one : lengthAt (dump "FD") 0 ≡ some (1, 253)
+  pub k6-two : lengthAt (dump "FF 05 00") 0 ≡ some (3, 5)
   -- K7: a 2000 top entry 64 00 FD isn't reported, 64 00 FF 00 00 is
-  pub k7-no : exit table (withEntry (0x64 ∷ 0x00 ∷ 0xFD ∷ [])) (replicate 6 old) [] .answer ≡ answer 0 0 0 0
-  pub k7-yes : exit table (withEntry (0x64 ∷ 0x00 ∷ 0xFF ∷ 0x00 ∷ 0x00 ∷ [])) (replicate 6 old) [] .answer ≡ answer 0 1 0 0
+  pub k7-no : exit table withoutList (replicate 6 old) [] .answer ≡ answer 0 0 0 0
+  pub k7-yes : exit table withEmptyList (replicate 6 old) [] .answer ≡ answer 0 1 0 0
   -- K8: a later top node 0x64 with trailer 255 and count 0 isn't reported
   pub k8 : exit table childless (replicate 6 old) (replicate 12 old) .answer ≡ answer 0 0 1 1
   -- K9: TypeInfo of 31 bytes gives 1; 40 bytes with count 1 is read, count 2 gives 3
   pub k9-short : typeInfoAnswer (replicate 31 0x00) 1 ≡ refusal 1
-  pub k9-read : typeInfoAnswer (typeInfo 1) 1 ≡ answer 0 1 0 0
-  pub k9-many : typeInfoAnswer (typeInfo 2) 1 ≡ refusal 3
+  pub k9-read : typeInfoAnswer oneEntry 1 ≡ answer 0 1 0 0
+  pub k9-many : typeInfoAnswer twoEntries 1 ≡ refusal 3
   -- K10: 3D D8 00 DE is UTF-16, 3D D8 isn't
-  pub k10-yes : isUtf16 (0x3D ∷ 0xD8 ∷ 0x00 ∷ 0xDE ∷ []) ≡ true
-  pub k10-no : isUtf16 (0x3D ∷ 0xD8 ∷ []) ≡ false
+  pub k10-yes : isUtf16 (dump "3D D8 00 DE") ≡ true
+  pub k10-no : isUtf16 (dump "3D D8") ≡ false
   -- K11: GUID bytes 00 to 0F give {03020100-0504-0706-0809-0A0B0C0D0E0F}
-  pub k11 : guidText (0x00 ∷ 0x01 ∷ 0x02 ∷ 0x03 ∷ 0x04 ∷ 0x05 ∷ 0x06 ∷ 0x07 ∷ 0x08 ∷ 0x09 ∷ 0x0A ∷ 0x0B ∷ 0x0C ∷ 0x0D ∷ 0x0E ∷ 0x0F ∷ [])
+  pub k11 : guidText (dump "00 01 02 03 04 05 06 07 08 09 0A 0B 0C 0D 0E 0F")
       ≡ text "{03020100-0504-0706-0809-0A0B0C0D0E0F}"
   -- K12: single 00 00 C0 3F is 3FF8000000000000
-  pub k12 : entryValue 0x06 (0x00 ∷ 0x00 ∷ 0xC0 ∷ 0x3F ∷ []) ≡ record { mark = 4; low = 0x00000000; high = 0x3FF80000 }
+  pub k12 : entryValue 0x06 (dump "00 00 C0 3F") ≡ record { mark = 4; low = 0x00000000; high = 0x3FF80000 }

@@ -25,4 +25,5 @@ pub mod ReadLater  -- "Later layout", from nodes to a reading
 pub mod Blob  -- "Answer numbers": a Blob's answer and rows
 pub mod NamePart  -- "Rows": the name as a part of a slice
 pub mod Listing  -- "Names and listing": `formlist`
+pub mod Dump  -- bytes as a hex dump, for the examples
 pub mod Examples  -- "Proved examples"

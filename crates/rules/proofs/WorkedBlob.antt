@@ -1,0 +1,57 @@
+-- Worked answers of a Blob: the refusals of "Answer numbers", in their order.
+use Prim.Native.Nat.{ℕ, _≤_, _<_}
+use native.Mathlib.Omega.{arith}
+use mathlib.Core.Path.{_≡_, refl}
+use mathlib.Core.Bool.{true}
+use mathlib.Core.List.{List, [], _∷_, _++_}
+use borrow.Author.Tests.{lt-ltb, le-ltb}
+use lib.ListN.{length, replicate}
+use Rattle.rules.specs.Answer.{answer, refusal, longest}
+use Rattle.rules.specs.CodeTable.{wellFormed}
+use Rattle.rules.specs.Blob.{readingOf, fit, outcome, exit}
+use Rattle.rules.specs.Dump.{dump}
+use Rattle.rules.specs.Examples.{old, table, blob}
+use Rattle.rules.proofs.OpenStreams.{blob-open}
+use Rattle.rules.proofs.WorkedLater.{unfit}
+
+-- a code table that isn't well formed, and the least that is, whose layout byte is 0
+abbrev badTable : List ℕ
+badTable = dump "2A"
+
+abbrev leastTable : List ℕ
+leastTable = dump "00 00  00 00"
+
+-- streams: the first byte of an Access 2000 one; K1's with a byte more; nothing; 13 bytes of a later one
+abbrev firstByte : List ℕ
+firstByte = dump "2A"
+
+abbrev blobAndMore : List ℕ
+blobAndMore = blob ++ dump "00"
+
+abbrev nothing : List ℕ
+nothing = []
+
+abbrev thirteen : List ℕ
+thirteen = dump "2B" ++ replicate 12 0x00
+
+pub refusals :
+    (exit badTable firstByte [] [] ≡ record { answer = refusal 8; controls = []; properties = [] })
+    × (exit badTable unfit [] [] .answer ≡ refusal 8)
+    × (exit table firstByte (old ∷ []) (old ∷ []) ≡ record { answer = refusal 4; controls = old ∷ []; properties = old ∷ [] })
+    × (exit table blobAndMore [] [] .answer ≡ refusal 4)
+    × (exit table blob (replicate 11 old) [] ≡ record { answer = answer 6 2 3 1; controls = replicate 11 old; properties = [] })
+    × (exit table blob (replicate 12 old) (replicate 17 old) ≡ record { answer = answer 7 2 3 1; controls = replicate 12 old; properties = replicate 17 old })
+    × (exit table nothing [] [] .answer ≡ refusal 0)
+    × (exit leastTable nothing [] [] .answer ≡ refusal 0)
+    × (exit table thirteen [] [] .answer ≡ refusal 0)
+unfolding blob-open
+refusals = (refl, refl, refl, refl, refl, refl, refl, refl, refl)
+
+-- the longest stream that is read has 16,777,216 bytes
+pub too-long : (t s cs ps : List ℕ) → 16777216 < length s → exit t s cs ps .answer ≡ refusal 5
+unfolding exit outcome
+too-long t s cs ps h = rw (lt-ltb longest (length s) (omega arith))
+
+pub not-too-long : (t s : List ℕ) (c p : ℕ) → length s ≤ 16777216 → wellFormed t ≡ true → outcome t s c p ≡ fit c p (readingOf t s)
+unfolding outcome
+not-too-long t s c p h w = rw (le-ltb longest (length s) (omega arith), w)

@@ -1,0 +1,212 @@
+-- Worked streams of "Later layout", by computation. Two blanks part the fields of a property: id, type, 4 bytes, length, value, trailer.
+use Prim.Native.Nat.{ℕ}
+use mathlib.Core.Path.{_≡_, refl}
+use mathlib.Core.Bool.{Bool, true, false, cond}
+use mathlib.Core.List.{List, [], _∷_, _++_, map}
+use mathlib.Core.Option.{Option, none, some}
+use lib.Dec.{eqb}
+use lib.ListN.{length, take, replicate}
+use Rattle.rules.specs.Lists.{_>>=_, concat}
+use Rattle.rules.specs.Answer.{answer}
+use Rattle.rules.specs.Later.{objectGroup, childrenAt, nodesAt, treeOf}
+use Rattle.rules.specs.Blob.{exit}
+use Rattle.rules.specs.Dump.{dump}
+use Rattle.rules.specs.Examples.{old, table}
+use Rattle.rules.proofs.OpenStreams.{blob-open}
+
+-- ---- every value mark, in a tree and in a scan
+-- the object's properties, but for the last one's trailer
+abbrev object : List ℕ
+object =
+    replicate 14 0x00
+    ++ dump "61 00  01 00 00 00  AA AA AA AA  01 00 00 00  07  01 00 00 00"  -- Bool, trailer 1
+    ++ dump "1A 00  01 00 00 00  AA AA AA AA  00 00 00 00  02 00 00 00"  -- NotDefault
+    ++ dump "36 00  02 00 00 00  AA AA AA AA  02 00 00 00  FE FF  03 00 00 00"  -- Short
+    ++ dump "CC 00  04 00 00 00  AA AA AA AA  04 00 00 00  01 02 03 80  04 00 00 00"  -- Long
+    ++ dump "05 00  06 00 00 00  AA AA AA AA  04 00 00 00  00 00 C0 BF  05 00 00 00"  -- Double from a single
+    ++ dump "06 00  08 00 00 00  AA AA AA AA  08 00 00 00  01 00 00 00 02 00 00 40  06 00 00 00"  -- Double
+    ++ dump "78 01  09 00 00 00  AA AA AA AA  10 00 00 00  00 01 02 03 04 05 06 07 08 09 0A 0B 0C 0D 0E 0F  07 00 00 00"  -- Guid
+    ++ dump "11 00  0C 00 00 00  AA AA AA AA  04 00 00 00  3D D8 00 DE  08 00 00 00"  -- Text of type 0x0C
+    ++ dump "AB 00  0B 00 00 00  AA AA AA AA  03 00 00 00  09 09 09  09 00 00 00"  -- Binary
+    ++ dump "14 00  0A 00 00 00  AA AA AA AA  02 00 00 00  5A 00  0A 00 00 00"  -- Text
+    ++ dump "9C 00  0A 00 00 00  AA AA AA AA  01 00 00 00  41"  -- Text that isn't UTF-16
+
+abbrev pub tree : List ℕ
+tree =
+    object ++ dump "FF 00 00 00  04 00"  -- trailer 255, four nodes
+    ++ dump "98 00  01 02 03 04"  -- 0x98
+    ++ dump "14 00  0A 00 00 00  AA AA AA AA  02 00 00 00  41 00  FE 00 00 00"  -- its name; trailer 254, one child
+    ++ dump "6D 00  01 02 03 04"  -- 0x6D
+    ++ dump "14 00  03 00 00 00  AA AA AA AA  01 00 00 00  01  00 00 00 00"  -- its first 0x0014 isn't Text
+    ++ dump "14 00  0A 00 00 00  AA AA AA AA  02 00 00 00  42 00  FD 00 00 00"  -- the second doesn't count; trailer 253, no children
+    ++ dump "64 00  01 02 03 04"  -- 0x64: not reported
+    ++ dump "05 00  01 00 00 00  AA AA AA AA  00 00 00 00  FD 00 00 00"
+    ++ dump "65 00  01 02 03 04"  -- 0x65: reported for its child
+    ++ dump "05 00  01 00 00 00  AA AA AA AA  00 00 00 00  FF 00 00 00  01 00"  -- trailer 255, one child
+    ++ dump "66 00  01 02 03 04"  -- 0x66
+    ++ dump "14 00  0C 00 00 00  AA AA AA AA  01 00 00 00  43  FD 00 00 00"  -- a name that isn't UTF-16
+    ++ dump "9E 00  01 02 03 04"  -- 0x9E
+    ++ dump "05 00  01 00 00 00  AA AA AA AA  03 00 00 00  01 00 00  FF 00 00 00  00 00"  -- three bytes of type 0x01: Binary; count 0
+
+pub a-tree : exit table tree (replicate 31 old) (replicate 104 old) ≡ record {
+  answer = answer 0 5 17 11;
+  controls = 0x98 ∷ 0 ∷ 279 ∷ 2 ∷ 11 ∷ 1
+      ∷ 0x6D ∷ 1 ∷ 1 ∷ 9 ∷ 12 ∷ 2
+      ∷ 0x65 ∷ 1 ∷ 2 ∷ 9 ∷ 14 ∷ 1
+      ∷ 0x66 ∷ 2 ∷ 400 ∷ 1 ∷ 15 ∷ 1
+      ∷ 0x9E ∷ 1 ∷ 4 ∷ 9 ∷ 16 ∷ 1
+      ∷ old ∷ [];
+  properties = 0x61 ∷ 0 ∷ 1 ∷ 0 ∷ 28 ∷ 1
+      ∷ 0x1A ∷ 1 ∷ 0 ∷ 0 ∷ 47 ∷ 0
+      ∷ 0x36 ∷ 2 ∷ 0xFFFFFFFE ∷ 0 ∷ 65 ∷ 2
+      ∷ 0xCC ∷ 3 ∷ 0x80030201 ∷ 0 ∷ 85 ∷ 4
+      ∷ 0x5 ∷ 4 ∷ 0 ∷ 0xBFF80000 ∷ 107 ∷ 4
+      ∷ 0x6 ∷ 4 ∷ 1 ∷ 0x40000002 ∷ 129 ∷ 8
+      ∷ 0x178 ∷ 5 ∷ 0 ∷ 0 ∷ 155 ∷ 16
+      ∷ 0x11 ∷ 6 ∷ 0 ∷ 0 ∷ 189 ∷ 4
+      ∷ 0xAB ∷ 7 ∷ 0 ∷ 0 ∷ 211 ∷ 3
+      ∷ 0x14 ∷ 6 ∷ 0 ∷ 0 ∷ 232 ∷ 2
+      ∷ 0x9C ∷ 8 ∷ 0 ∷ 0 ∷ 252 ∷ 1
+      ∷ 0x14 ∷ 6 ∷ 0 ∷ 0 ∷ 279 ∷ 2
+      ∷ 0x14 ∷ 3 ∷ 1 ∷ 0 ∷ 305 ∷ 1
+      ∷ 0x14 ∷ 6 ∷ 0 ∷ 0 ∷ 324 ∷ 2
+      ∷ 0x5 ∷ 1 ∷ 0 ∷ 0 ∷ 374 ∷ 0
+      ∷ 0x14 ∷ 8 ∷ 0 ∷ 0 ∷ 400 ∷ 1
+      ∷ 0x5 ∷ 7 ∷ 0 ∷ 0 ∷ 425 ∷ 3
+      ∷ old ∷ old ∷ [];
+}
+unfolding blob-open
+a-tree = refl
+
+abbrev scanned : List ℕ
+scanned =
+    object ++ dump "00 00 00 00"  -- trailer 0
+    ++ dump "01 02"  -- no property: the scan starts here
+    ++ dump "14 00  0A 00 00 00  AA AA AA AA  02 00 00 00  44 00  01 00 00 00"  -- a match: a name
+    ++ dump "36 00  02 00 00 00  AA AA AA AA  02 00 00 00  00 80  02 00 00 00"  -- a Short
+    ++ dump "14 00  0A 00 00 00  AA AA AA AA  01 00 00 00  45  01 00 00 00"  -- a match: a name that isn't UTF-16
+    ++ dump "05 00  03 00 00 00  AA AA AA AA  01 00 00 00  FF  FD 00 00 00"  -- a Long, whose trailer ends the group
+    ++ dump "06 00  03 00 00 00  AA AA AA AA  01 00 00 00  01  00 00 00 00"  -- of no group
+    ++ dump "FF FF FF"  -- of no group
+    ++ dump "14 00  0A 00 00 00"  -- a match without a property
+    ++ dump "14 00  0A 00 00 00  AA AA AA AA  02 00 00 00  46 00  05 00 00 00"  -- a match: a name
+    ++ dump "05 00  01 00 00 00  AA AA AA AA  00 00 00 00  14 00 0A 00"  -- a flag, whose trailer would be a match if it weren't cut off
+
+pub a-scan : exit table scanned (replicate 20 old) (replicate 103 old) ≡ record {
+  answer = answer 0 3 17 11;
+  controls = 0x0 ∷ 0 ∷ 273 ∷ 2 ∷ 11 ∷ 2
+      ∷ 0x0 ∷ 2 ∷ 313 ∷ 1 ∷ 13 ∷ 2
+      ∷ 0x0 ∷ 0 ∷ 379 ∷ 2 ∷ 15 ∷ 2
+      ∷ old ∷ old ∷ [];
+  properties = 0x61 ∷ 0 ∷ 1 ∷ 0 ∷ 28 ∷ 1
+      ∷ 0x1A ∷ 1 ∷ 0 ∷ 0 ∷ 47 ∷ 0
+      ∷ 0x36 ∷ 2 ∷ 0xFFFFFFFE ∷ 0 ∷ 65 ∷ 2
+      ∷ 0xCC ∷ 3 ∷ 0x80030201 ∷ 0 ∷ 85 ∷ 4
+      ∷ 0x5 ∷ 4 ∷ 0 ∷ 0xBFF80000 ∷ 107 ∷ 4
+      ∷ 0x6 ∷ 4 ∷ 1 ∷ 0x40000002 ∷ 129 ∷ 8
+      ∷ 0x178 ∷ 5 ∷ 0 ∷ 0 ∷ 155 ∷ 16
+      ∷ 0x11 ∷ 6 ∷ 0 ∷ 0 ∷ 189 ∷ 4
+      ∷ 0xAB ∷ 7 ∷ 0 ∷ 0 ∷ 211 ∷ 3
+      ∷ 0x14 ∷ 6 ∷ 0 ∷ 0 ∷ 232 ∷ 2
+      ∷ 0x9C ∷ 8 ∷ 0 ∷ 0 ∷ 252 ∷ 1
+      ∷ 0x14 ∷ 6 ∷ 0 ∷ 0 ∷ 273 ∷ 2
+      ∷ 0x36 ∷ 2 ∷ 0xFFFF8000 ∷ 0 ∷ 293 ∷ 2
+      ∷ 0x14 ∷ 8 ∷ 0 ∷ 0 ∷ 313 ∷ 1
+      ∷ 0x5 ∷ 3 ∷ 255 ∷ 0 ∷ 332 ∷ 1
+      ∷ 0x14 ∷ 6 ∷ 0 ∷ 0 ∷ 379 ∷ 2
+      ∷ 0x5 ∷ 1 ∷ 0 ∷ 0 ∷ 399 ∷ 0
+      ∷ old ∷ [];
+}
+unfolding blob-open
+a-scan = refl
+
+-- ---- numbers of more than one byte
+abbrev wide : List ℕ
+wide =
+    replicate 14 0x00
+    ++ dump "14 01  0A 01 00 00  AA AA AA AA  02 00 00 00  41 00  FC 00 00 00"  -- type 0x010A is Binary; trailer 252
+    ++ dump "14 00  0B 00 00 00  AA AA AA AA  00 01 00 00" ++ replicate 256 0x00 ++ dump "00 01 00 00"  -- 256 bytes; trailer 256
+    ++ dump "05 00  01 00 00 00  AA AA AA AA  00 00 00 00  FD 01 00 00"  -- trailer 0x01FD
+    ++ dump "06 00  01 00 00 01  AA AA AA AA  00 00 00 00  FF 00 00 00  01 00"  -- type 0x01000001; trailer 255, one node
+    ++ dump "98 01  00 00 00 00"  -- 0x0198
+    ++ dump "05 00  01 00 00 00  00 00 00 00  00 00 00 00  FE 00 00 00"  -- a flag; trailer 254, one child
+    ++ dump "64 00  00 00 00 00"  -- 0x64
+    ++ dump "05 00  05 00 00 00  AA AA AA AA  01 00 00 00  01  FD 00 00 00"  -- type 0x05 is Binary
+
+pub a-wide-tree : exit table wide (replicate 12 old) (replicate 36 old) ≡ record {
+  answer = answer 0 2 6 4;
+  controls = 0x198 ∷ 1 ∷ 0 ∷ 9 ∷ 4 ∷ 1
+      ∷ 0x64 ∷ 1 ∷ 1 ∷ 9 ∷ 5 ∷ 1 ∷ [];
+  properties = 0x114 ∷ 7 ∷ 0 ∷ 0 ∷ 28 ∷ 2
+      ∷ 0x14 ∷ 7 ∷ 0 ∷ 0 ∷ 48 ∷ 256
+      ∷ 5 ∷ 1 ∷ 0 ∷ 0 ∷ 322 ∷ 0
+      ∷ 6 ∷ 7 ∷ 0 ∷ 0 ∷ 340 ∷ 0
+      ∷ 5 ∷ 1 ∷ 0 ∷ 0 ∷ 366 ∷ 0
+      ∷ 5 ∷ 7 ∷ 0 ∷ 0 ∷ 390 ∷ 1 ∷ [];
+}
+unfolding blob-open
+a-wide-tree = refl
+
+-- ---- what is no tree is scanned
+-- the object's group ends by a trailer, but 0x0101 nodes aren't there
+abbrev fewer : List ℕ
+fewer =
+    replicate 14 0x00
+    ++ dump "07 00  01 00 00 00  AA AA AA AA  01 00 00 00  01  FF 00 00 00  01 01"  -- a Bool; trailer 255, 0x0101 nodes
+    ++ dump "98 00  01 02 03 04"  -- 0x98
+    ++ dump "14 00  0A 00 00 00  AA AA AA AA  02 00 00 00  47 00  FD 00 00 00"  -- a name
+
+abbrev pub unfit : List ℕ
+unfit =
+    fewer
+    ++ dump "14 00  0A 00 01 00  AA AA AA AA  01 00 00 00  01  00 00 00 00"  -- no match
+
+-- all of a property but its trailer
+abbrev untrailed : List ℕ
+untrailed = replicate 14 0x00 ++ dump "07 00  01 00 00 00  AA AA AA AA  00 00 00 00"
+
+-- a byte behind the nodes
+abbrev byteMore : List ℕ
+byteMore =
+    replicate 14 0x00
+    ++ dump "05 00  01 00 00 00  00 00 00 00  00 00 00 00  FE 00 00 00"  -- a flag; trailer 254, one node
+    ++ dump "98 00  01 02 03 04"  -- 0x98
+    ++ dump "05 00  01 00 00 00  00 00 00 00  00 00 00 00  FD 00 00 00"  -- a flag; trailer 253
+    ++ dump "00"
+
+pub falls-to-scan :
+    (exit table unfit (replicate 6 old) (replicate 12 old) ≡ record {
+      answer = answer 0 1 2 1;
+      controls = 0 ∷ 0 ∷ 55 ∷ 2 ∷ 1 ∷ 1 ∷ [];
+      properties = 7 ∷ 0 ∷ 1 ∷ 0 ∷ 28 ∷ 1
+          ∷ 0x14 ∷ 6 ∷ 0 ∷ 0 ∷ 55 ∷ 2 ∷ [];
+    })
+    × (exit table fewer (replicate 6 old) (replicate 12 old) .controls ≡ 0 ∷ 0 ∷ 55 ∷ 2 ∷ 1 ∷ 1 ∷ [])
+    × (exit table untrailed [] [] .answer ≡ answer 0 0 0 0)
+    × (exit table byteMore (replicate 6 old) (replicate 12 old) .answer ≡ answer 0 0 1 1)
+unfolding blob-open
+falls-to-scan = (refl, refl, refl, refl)
+
+-- ---- depths
+-- three nodes, each below the one before it
+abbrev chain : List ℕ
+chain =
+    replicate 14 0x00
+    ++ dump "05 00  01 00 00 00  00 00 00 00  00 00 00 00  FE 00 00 00"  -- a flag; trailer 254, one node
+    ++ concat (replicate 2 (dump "98 00  01 02 03 04  05 00  01 00 00 00  00 00 00 00  00 00 00 00  FE 00 00 00"))
+    ++ dump "98 00  01 02 03 04  05 00  01 00 00 00  00 00 00 00  00 00 00 00  FD 00 00 00"
+
+-- it is read where there is a level for each of its nodes; to read 257 nodes word by word would take a minute, so fewer levels stand here
+abbrev isRead : {A : Type 0} → Option A → Bool
+isRead none = false
+isRead (some x) = true
+
+pub deep-nodes : map (λ d. isRead (nodesAt d chain 1 32)) (0 ∷ 1 ∷ 2 ∷ 3 ∷ 4 ∷ []) ≡ false ∷ false ∷ false ∷ true ∷ true ∷ []
+unfolding blob-open
+deep-nodes = refl
+
+-- and that there are 256 levels in a whole stream
+pub node-levels : (s : List ℕ)
+    → treeOf s ≡ (objectGroup s .trailer >>= λ trailer. childrenAt s trailer (objectGroup s .stop) >>= λ x. nodesAt 256 s (x .0) (x .1) >>= λ y. cond (eqb (y .1) (length s)) (some (y .0)) none)
+unfolding treeOf
+node-levels s = refl

@@ -1,0 +1,62 @@
+-- Worked listings: every mark's word and value, and the input's refusals.
+use Prim.Native.Nat.{ℕ, _+_, _≤_, _<_}
+use native.Mathlib.Omega.{arith}
+use mathlib.Core.Path.{_≡_, refl}
+use mathlib.Core.List.{List, [], _∷_, _++_}
+use borrow.Author.Tests.{lt-ltb, le-ltb}
+use lib.ListN.{length}
+use Rattle.rules.specs.Lists.{concat, text}
+use Rattle.rules.specs.Blob.{outcome}
+use Rattle.rules.specs.Listing.{valueColumn, printed, tableLength, tableIn, blobIn, listing}
+use Rattle.rules.specs.Dump.{dump}
+use Rattle.rules.specs.Examples.{table}
+use Rattle.rules.proofs.Open.{rules-open}
+use Rattle.rules.proofs.WorkedLater.{tree}
+
+pub listed : printed tree (outcome table tree 256 1024)
+    ≡ concat (text "answer 0 5 17 11\n"
+    ∷ text "C 0 0098 Detail 1 11 1\n"
+    ∷ text "C 1 006D TextBox - 12 2\n"
+    ∷ text "C 2 0065 Rectangle - 14 1\n"
+    ∷ text "C 3 0066 Line 0 15 1\n"
+    ∷ text "C 4 009E GroupFooter - 16 1\n"
+    ∷ text "P 0 0061 ControlBox bool yes\n"
+    ∷ text "P 1 001A - notdefault -\n"
+    ∷ text "P 2 0036 Left short -2\n"
+    ∷ text "P 3 00CC ForeColor long -2147286527\n"
+    ∷ text "P 4 0005 - double BFF8000000000000\n"
+    ∷ text "P 5 0006 AutoResize double 4000000200000001\n"
+    ∷ text "P 6 0178 GUID guid {03020100-0504-0706-0809-0A0B0C0D0E0F}\n"
+    ∷ text "P 7 0011 Caption text 2\n"
+    ∷ text "P 8 00AB OleData binary 3\n"
+    ∷ text "P 9 0014 Name text 1\n"
+    ∷ text "P 10 009C RecordSource loose 1\n"
+    ∷ text "P 11 0014 Name text 1\n"
+    ∷ text "P 12 0014 - long 1\n"
+    ∷ text "P 13 0014 Name text 1\n"
+    ∷ text "P 14 0005 - notdefault -\n"
+    ∷ text "P 15 0014 Name loose 1\n"
+    ∷ text "P 16 0005 - binary 3\n" ∷ [])
+unfolding rules-open
+listed = refl
+
+-- ---- inputs: the length of the table, the table, a Blob
+pub inputs :
+    (listing (dump "00 00 00") ≡ text "answer 8 0 0 0\n")
+    × (listing (dump "05 00 00 00  01 00 00 00") ≡ text "answer 8 0 0 0\n")
+    × (listing (dump "04 00 00 00  01 00 00 00") ≡ text "answer 0 0 0 0\n")
+    × (listing (dump "04 00 00 00  01 00 00 00  01") ≡ text "answer 4 0 0 0\n")
+    × (listing (dump "04 01 00 00  01 00 00 00") ≡ text "answer 8 0 0 0\n")
+    × (valueColumn 0 0 0 1 (dump "00") ≡ text "no")
+unfolding rules-open
+inputs = (refl, refl, refl, refl, refl, refl)
+
+-- whatever fits the buffer is listed, with room for 256 controls and 1,024 properties
+pub lists : (input : List ℕ) → length input ≤ 32768 → 4 + tableLength input ≤ length input
+    → listing input ≡ printed (blobIn input) (outcome (tableIn input) (blobIn input) 256 1024)
+unfolding listing
+lists input h k = rw (le-ltb 32768 (length input) h, le-ltb (length input) 4 (omega arith), le-ltb (length input) (4 + tableLength input) k)
+
+pub too-much : (input : List ℕ) → 32768 < length input → listing input ≡ text "answer 5 0 0 0\n"
+unfolding rules-open
+too-much input h = rw (lt-ltb 32768 (length input) h)

@@ -1,0 +1,98 @@
+-- Worked streams of "TypeInfo", by computation. Two blanks part the fields of an entry: type code, two bytes, index, names.
+use Prim.Native.Nat.{ℕ, _<_}
+use native.Mathlib.Omega.{arith}
+use mathlib.Core.Path.{_≡_, refl}
+use mathlib.Core.List.{List, [], _∷_, _++_}
+use borrow.Author.Tests.{lt-ltb}
+use lib.ListN.{length, take, replicate}
+use Rattle.rules.specs.Lists.{text}
+use Rattle.rules.specs.Answer.{answer, refusal, longest}
+use Rattle.rules.specs.TypeInfo.{typeInfoAnswer, typeInfoExit}
+use Rattle.rules.specs.Dump.{dump}
+use Rattle.rules.proofs.OpenBytes.{bytes-open}
+use Rattle.rules.proofs.OpenTypeInfo.{type-info-open}
+
+-- a word that stands in a lent slice before the call
+abbrev old : ℕ
+old = 0xEEEEEEEE
+
+abbrev info : List ℕ
+info =
+    dump "F7 EA CD AC" ++ replicate 8 0x00 ++ dump "06 00 00 00" ++ replicate 16 0x00  -- the magic; the count says six
+    ++ dump "6D 12  09 09  01 00 00 00" ++ text "Ab\0\0"  -- a first name
+    ++ dump "FF 1E  00 00  02 00 00 00" ++ text "x\0\0"  -- 0x1EFF: not reported
+    ++ dump "77 02  00 00  03 00 00 00" ++ text "p\0Real\0" ++ replicate 36 0x01  -- a second name; 36 bytes more
+    ++ dump "64 0C  00 00  04 03 02 01" ++ text "\0cut"  -- a name that the stream's end cuts
+
+pub a-type-info : typeInfoExit info (replicate 13 old) ≡ record {
+  answer = answer 0 3 0 0;
+  rows = 0x126D ∷ 1 ∷ 40 ∷ 2
+      ∷ 0x277 ∷ 3 ∷ 65 ∷ 4
+      ∷ 0xC64 ∷ 0x01020304 ∷ 115 ∷ 3
+      ∷ old ∷ [];
+}
+unfolding bytes-open type-info-open
+a-type-info = refl
+
+-- ---- refusals
+-- one byte; 40 of another magic
+abbrev oneByte : List ℕ
+oneByte = dump "F7"
+
+abbrev otherMagic : List ℕ
+otherMagic = replicate 40 0xFF
+
+-- a count of two needs 48 bytes: 47 and 48
+abbrev forty-seven : List ℕ
+forty-seven = dump "F7 EA CD AC" ++ replicate 8 0x00 ++ dump "02 00 00 00" ++ replicate 31 0x00
+
+abbrev forty-eight : List ℕ
+forty-eight = dump "F7 EA CD AC" ++ replicate 8 0x00 ++ dump "02 00 00 00" ++ replicate 32 0x00
+
+-- a header and no more; with the count 0x10000
+abbrev headerOnly : List ℕ
+headerOnly = dump "F7 EA CD AC" ++ replicate 28 0x00
+
+abbrev countThird : List ℕ
+countThird = dump "F7 EA CD AC" ++ replicate 8 0x00 ++ dump "00 00 01 00" ++ replicate 16 0x00
+
+pub type-info-refusals :
+    (typeInfoExit info (replicate 11 old) ≡ record { answer = answer 6 3 0 0; rows = replicate 11 old })
+    × (typeInfoAnswer oneByte 9 ≡ refusal 1)
+    × (typeInfoAnswer otherMagic 9 ≡ refusal 2)
+    × (typeInfoAnswer forty-seven 0 ≡ refusal 3)
+    × (typeInfoAnswer forty-eight 9 ≡ answer 0 1 0 0)
+    × (typeInfoAnswer headerOnly 0 ≡ refusal 0)
+    × (typeInfoAnswer countThird 0 ≡ refusal 3)
+unfolding bytes-open type-info-open
+type-info-refusals = (refl, refl, refl, refl, refl, refl, refl)
+
+pub type-info-too-long : (s : List ℕ) (n : ℕ) → 16777216 < length s → typeInfoAnswer s n ≡ refusal 5
+unfolding typeInfoAnswer
+type-info-too-long s n h = rw (lt-ltb longest (length s) (omega arith))
+
+-- ---- counts
+-- the count 0 with room for an entry
+abbrev countNone : List ℕ
+countNone = dump "F7 EA CD AC" ++ replicate 8 0x00 ++ dump "00 00 00 00" ++ replicate 24 0x00
+
+-- the count 1: 0x1EFF uses it up
+abbrev countUsed : List ℕ
+countUsed =
+    dump "F7 EA CD AC" ++ replicate 8 0x00 ++ dump "01 00 00 00" ++ replicate 16 0x00
+    ++ dump "FF 1E  00 00  00 00 00 00  00 00"
+    ++ dump "64 00  00 00  00 00 00 00  00 00"
+
+-- the count 2: seven bytes that remain are no entry
+abbrev sevenRemain : List ℕ
+sevenRemain =
+    dump "F7 EA CD AC" ++ replicate 8 0x00 ++ dump "02 00 00 00" ++ replicate 16 0x00
+    ++ dump "64 00  00 00  00 00 00 00  00 00"
+    ++ replicate 7 0x64
+
+pub type-info-counts :
+    (typeInfoAnswer countNone 9 ≡ answer 0 0 0 0)
+    × (typeInfoAnswer countUsed 9 ≡ answer 0 0 0 0)
+    × (typeInfoAnswer sevenRemain 9 ≡ answer 0 1 0 0)
+unfolding bytes-open type-info-open
+type-info-counts = (refl, refl, refl)
