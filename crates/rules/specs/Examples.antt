@@ -35,13 +35,15 @@ withoutList = dump "2A" ++ replicate 9 0x00 ++ dump "FE 64 00 FD"
 abbrev pub withEmptyList : List ℕ
 withEmptyList = dump "2A" ++ replicate 9 0x00 ++ dump "FE 64 00 FF 00 00"
 
--- ---- K8's: a later node 0x64 without children
+-- ---- K8's: 0x64 stands before a section that is reported, so that the tree must be read
 abbrev pub childless : List ℕ
 childless =
     replicate 14 0x00
-    ++ dump "05 00  01 00 00 00  00 00 00 00  00 00 00 00  FE 00 00 00"  -- the object: a flag; trailer 254, one node
+    ++ dump "05 00  01 00 00 00  00 00 00 00  00 00 00 00  FF 00 00 00  02 00"  -- the object: a flag; trailer 255, and two nodes
     ++ dump "64 00  00 00 00 00"  -- node 0x64
     ++ dump "05 00  01 00 00 00  00 00 00 00  00 00 00 00  FF 00 00 00  00 00"  -- a flag; trailer 255, and count 0
+    ++ dump "98 00  00 00 00 00"  -- node 0x98
+    ++ dump "05 00  01 00 00 00  00 00 00 00  00 00 00 00  FD 00 00 00"  -- a flag; trailer 253, no children
 
 -- ---- K9's: TypeInfo of 40 bytes, with the count 1 and with 2
 abbrev pub oneEntry : List ℕ
@@ -85,7 +87,12 @@ pub record Examples : Type 0 where
   pub k7-no : exit table withoutList (replicate 6 old) [] .answer ≡ answer 0 0 0 0
   pub k7-yes : exit table withEmptyList (replicate 6 old) [] .answer ≡ answer 0 1 0 0
   -- K8: a later top node 0x64 with trailer 255 and count 0 isn't reported
-  pub k8 : exit table childless (replicate 6 old) (replicate 12 old) .answer ≡ answer 0 0 1 1
+  pub k8 : exit table childless (replicate 6 old) (replicate 12 old) ≡ record {
+    answer = answer 0 1 2 1;
+    controls = 0x98 ∷ 1 ∷ 0 ∷ 9 ∷ 1 ∷ 1 ∷ [];
+    properties = 0x05 ∷ 1 ∷ 0 ∷ 0 ∷ 28 ∷ 0
+        ∷ 0x05 ∷ 1 ∷ 0 ∷ 0 ∷ 80 ∷ 0 ∷ [];
+  }
   -- K9: TypeInfo of 31 bytes gives 1; 40 bytes with count 1 is read, count 2 gives 3
   pub k9-short : typeInfoAnswer (replicate 31 0x00) 1 ≡ refusal 1
   pub k9-read : typeInfoAnswer oneEntry 1 ≡ answer 0 1 0 0
