@@ -1,17 +1,17 @@
 -- The four name tables: their rows, and which table a mark has.
-use Prim.Native.Nat.{ℕ}
+use Prim.Native.Nat.{ℕ, _+_, _*_, _%_}
 use mathlib.Core.Path.{_≡_, refl}
 use mathlib.Core.Bool.{true}
-use mathlib.Core.List.{List, [], _∷_, map}
+use mathlib.Core.List.{List, [], _∷_, _++_, map}
 use lib.Dec.{eqb}
 use lib.ListN.{length, replicate}
-use Rattle.rules.specs.Lists.{all, ascends, text}
-use Rattle.rules.specs.NameTables.{textNames, numberNames, bytesNames, controlTypeNames}
+use Rattle.rules.specs.Lists.{concat, all, ascends, text}
+use Rattle.rules.specs.NameTables.{Table, textNames, numberNames, bytesNames, controlTypeNames}
 use Rattle.rules.specs.Names.{nameIn, filled, namesFor}
 use Rattle.rules.proofs.OpenBytes.{bytes-open}
 use Rattle.rules.proofs.OpenNames.{names-open}
 
--- the first and the last row of each table, and which table a mark has
+-- ---- rows
 pub names :
     (nameIn textNames 0x07 ≡ text "Picture")
     × (nameIn textNames 0x1BB ≡ text "OnDataChange")
@@ -24,9 +24,8 @@ pub names :
     × (nameIn controlTypeNames 0x247F ≡ text "EmptyCell")
     × (nameIn controlTypeNames 0x99 ≡ [])
     × (map length (textNames ∷ numberNames ∷ bytesNames ∷ controlTypeNames ∷ []) ≡ 95 ∷ 114 ∷ 9 ∷ 55 ∷ [])
-    × (map namesFor (0 ∷ 4 ∷ 5 ∷ 6 ∷ 7 ∷ 8 ∷ 9 ∷ []) ≡ numberNames ∷ numberNames ∷ bytesNames ∷ textNames ∷ bytesNames ∷ textNames ∷ [] ∷ [])
 unfolding bytes-open names-open
-names = (refl, refl, refl, refl, refl, refl, refl, refl, refl, refl, refl, refl)
+names = (refl, refl, refl, refl, refl, refl, refl, refl, refl, refl, refl)
 
 -- every name fills 26 bytes with its zeros, and the ids of every table ascend
 pub rows-of-26 : map (all (λ row. eqb (length (filled (text (row .1)))) 26)) (textNames ∷ numberNames ∷ bytesNames ∷ controlTypeNames ∷ []) ≡ replicate 4 true
@@ -36,3 +35,38 @@ rows-of-26 = refl
 pub ids-ascend : map (λ names. ascends 0 (map (λ row. row .0) names)) (textNames ∷ numberNames ∷ bytesNames ∷ controlTypeNames ∷ []) ≡ replicate 4 true
 unfolding bytes-open names-open
 ids-ascend = refl
+
+-- ---- all of a table in one number: every id, every letter and a zero behind each name, taken as the digits to the base 257 of a number, of which the
+-- rest by the prime 2^31 - 1 is left. A change of one id or one letter always changes it. The four numbers were computed from jetdb's tables
+unfoldable pub digest : ℕ → List ℕ → ℕ
+digest so-far [] = so-far
+digest so-far (x ∷ xs) = digest ((so-far * 257 + x) % 2147483647) xs
+
+abbrev letters : Table → List ℕ
+letters names = concat (map (λ row. row .0 ∷ text (row .1) ++ (0 ∷ [])) names)
+
+pub text-digest : digest 0 (letters textNames) ≡ 1395322500
+unfolding digest bytes-open names-open
+text-digest = refl
+
+pub number-digest : digest 0 (letters numberNames) ≡ 1645766775
+unfolding digest bytes-open names-open
+number-digest = refl
+
+pub bytes-digest : digest 0 (letters bytesNames) ≡ 399025140
+unfolding digest bytes-open names-open
+bytes-digest = refl
+
+pub control-type-digest : digest 0 (letters controlTypeNames) ≡ 1333442383
+unfolding digest bytes-open names-open
+control-type-digest = refl
+
+-- ---- which table a mark has; 9 has none
+pub names-by-mark : map namesFor (0 ∷ 1 ∷ 2 ∷ 3 ∷ 4 ∷ 5 ∷ 6 ∷ 7 ∷ 8 ∷ 9 ∷ [])
+    ≡ numberNames ∷ numberNames ∷ numberNames ∷ numberNames ∷ numberNames ∷ bytesNames ∷ textNames ∷ bytesNames ∷ textNames ∷ [] ∷ []
+unfolding bytes-open namesFor
+names-by-mark = refl
+
+-- a name as its row has it
+pub filled-row : filled (text "Tag") ≡ text "Tag" ++ replicate 23 0
+filled-row = refl
