@@ -5,7 +5,7 @@ use mathlib.Core.Bool.{true, false}
 use mathlib.Core.List.{List, [], _∷_, _++_, map}
 use mathlib.Core.Option.{none, some}
 use lib.ListN.{replicate}
-use Rattle.rules.specs.CodeTable.{wellFormed, rowOf}
+use Rattle.rules.specs.CodeTable.{keyOf, layout, header, wellFormed, rowOf}
 use Rattle.rules.specs.Dump.{dump}
 use Rattle.rules.proofs.OpenBytes.{bytes-open}
 use Rattle.rules.proofs.OpenTables.{tables-open}
@@ -47,12 +47,46 @@ pub unformed-tables :
     × (wellFormed (dump "01 00  02 00  02 07 00  00 00  02 07 00  00 00") ≡ false)  -- a scope twice
     × (wellFormed (dump "01 00  02 00  02 00 00  00 00  01 00 00  00 00") ≡ false)  -- kinds descend
     × (wellFormed (dump "01 00  02 00  02 00 01  00 00  02 01 00  00 00") ≡ false)  -- codes descend
+    × (wellFormed (dump "01 00  01 00  00 00 01  00 00") ≡ false)  -- a form with the code 0x0100
+    × (wellFormed (dump "01 00  01 00  01 00 01  00 00") ≡ false)  -- a report with it
+    × (wellFormed (dump "01 02  00 00  02 00  01 00") ≡ false)  -- header codes descend
+    × (wellFormed (dump "01 02  00 00  01 01  02 00") ≡ false)  -- by their high bytes
+    × (wellFormed (dump "01 00  02 00  02 01 00  01 00  02 02 00  01 00  05 00 00 00  FD 00 00 00") ≡ false)  -- id 0xFD in the second scope
+    × (wellFormed (dump "01 00  02 00  00 00 00  00 00  00 00 00  00 00") ≡ false)  -- two forms
     × (wellFormed (dump "01 00  00 01") ≡ false)  -- 256 scopes
     × (wellFormed (dump "01 00  01 00  02 07 00  00 01") ≡ false)  -- 256 rows
 unfolding bytes-open tables-open
-unformed-tables = (refl, refl, refl, refl, refl, refl, refl, refl, refl, refl, refl, refl, refl, refl, refl, refl, refl, refl, refl, refl, refl)
+unformed-tables = (refl, refl, refl, refl, refl, refl, refl, refl, refl, refl, refl, refl, refl, refl, refl, refl, refl, refl, refl, refl, refl, refl, refl, refl, refl, refl, refl)
 
--- a scope's code has two bytes: 0x0164 isn't 0x64
-pub scope-codes : map (λ code. rowOf (dump "01 00  01 00  02 64 01  01 00  00 00 00 00") 2 code 0) (0x64 ∷ 0x164 ∷ []) ≡ none ∷ some (record { id = 0; target = 0; kind = 0 }) ∷ []
+-- ---- look-up
+-- form, report and entries 0x0000, 0x0164, each with a row of the id 0x40, and the report with one more
+abbrev scoped : List ℕ
+scoped =
+    dump "01 01  04 00  63 0A"  -- one header code; four scopes
+    ++ dump "00 00 00  01 00"  -- form: one row
+    ++ dump "01 00 00  02 00"  -- report: two
+    ++ dump "02 00 00  01 00"  -- entry 0x0000: one
+    ++ dump "02 64 01  01 00"  -- entry 0x0164: one
+    ++ dump "40  10 01  00"  -- of the form: target 0x0110
+    ++ dump "40  11 02  01"  -- of the report
+    ++ dump "41  12 03  02"
+    ++ dump "40  13 04  03"  -- of entry 0x0000
+    ++ dump "40  14 05  04"  -- of entry 0x0164
+
+pub scopes-looked-up :
+    (rowOf scoped 0 0 0x40 ≡ some (record { id = 0x40; target = 0x0110; kind = 0 }))
+    × (rowOf scoped 0 0 0x41 ≡ none)
+    × (rowOf scoped 1 0 0x40 ≡ some (record { id = 0x40; target = 0x0211; kind = 1 }))
+    × (rowOf scoped 1 0 0x41 ≡ some (record { id = 0x41; target = 0x0312; kind = 2 }))
+    × (rowOf scoped 2 0 0x40 ≡ some (record { id = 0x40; target = 0x0413; kind = 3 }))
+    × (rowOf scoped 2 0x0164 0x40 ≡ some (record { id = 0x40; target = 0x0514; kind = 4 }))
+    × (rowOf scoped 2 0x64 0x40 ≡ none)  -- a scope's code has two bytes
+    × (header scoped ≡ 0x0A63 ∷ [])
+    × (layout scoped ≡ 1)
+    × (wellFormed scoped ≡ true)
 unfolding bytes-open tables-open
-scope-codes = refl
+scopes-looked-up = (refl, refl, refl, refl, refl, refl, refl, refl, refl, refl)
+
+-- the first kind's largest code is below the next kind's least
+pub keys : (keyOf 0 0xFFFF ≡ 0xFFFF) × (keyOf 1 0 ≡ 0x10000) × (keyOf 2 0x64 ≡ 0x20064)
+keys = (refl, refl, refl)
