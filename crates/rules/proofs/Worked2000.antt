@@ -2,12 +2,17 @@
 use Prim.Native.Nat.{ℕ}
 use mathlib.Core.Path.{_≡_, refl}
 use mathlib.Core.List.{List, [], _∷_, _++_, map}
-use lib.ListN.{replicate}
+use mathlib.Core.Option.{none, some}
+use lib.ListN.{take, replicate}
+use Prim.Native.String.{String}
 use Rattle.rules.specs.Lists.{concat}
 use Rattle.rules.specs.Answer.{answer, refusal}
-use Rattle.rules.specs.Blob.{exit}
+use Rattle.rules.specs.Tree.{end}
+use Rattle.rules.specs.Access2000.{lengthAt, extentAt, runAt, headAt, streamOf}
+use Rattle.rules.specs.Read2000.{Spot}
+use Rattle.rules.specs.Blob.{exit, spots}
 use Rattle.rules.specs.Dump.{dump}
-use Rattle.rules.specs.Examples.{old, table}
+use Rattle.rules.specs.Examples.{old, table, blob}
 use Rattle.rules.proofs.OpenStreams.{blob-open}
 
 -- ---- a report
@@ -138,6 +143,165 @@ pub a-form : exit formTable form (replicate 47 old) (replicate 49 old) ≡ recor
 unfolding blob-open
 a-form = refl
 
+-- ---- scopes and header codes
+abbrev scopeTable : List ℕ
+scopeTable =
+    dump "31 03  05 00  63 00  99 00  63 0A"  -- layout byte; three header codes; five scopes; the header codes 0x63, 0x99, 0x0A63
+    ++ dump "00 00 00  01 00"  -- form: one row
+    ++ dump "01 00 00  01 00"  -- report: one
+    ++ dump "02 00 00  01 00"  -- entry 0x0000: one
+    ++ dump "02 63 00  01 00"  -- entry 0x0063: one
+    ++ dump "02 63 0A  01 00"  -- entry 0x0A63: one
+    ++ dump "40  10 00  00"  -- form: 0x40 Number
+    ++ dump "40  11 00  00"  -- report: 0x40 Number
+    ++ dump "40  12 00  00"  -- entry 0x0000: 0x40 Number
+    ++ dump "40  13 00  00"  -- entry 0x0063: 0x40 Number
+    ++ dump "40  14 00  00"  -- entry 0x0A63: 0x40 Number
+
+-- what stands in both a form and a report
+abbrev scopeEntries : List ℕ
+scopeEntries =
+    dump "40 01"  -- the object
+    ++ dump "FF 06 00"  -- a list of six
+    ++ dump "63 00 40 02 FF 00 00"  -- 0x0063: a header code that is no section
+    ++ dump "63 01 40 03 FF 00 00"  -- 0x0163: no header code, no scope
+    ++ dump "63 0A 40 04 FF 00 00"  -- 0x0A63: joined to all of it
+    ++ dump "00 00 40 05 FF 00 00"  -- 0x0000: an entry's scope
+    ++ dump "98 01 40 06 DF 02 41 00 DC 02 42 00 FE"  -- 0x0198 is no section: its name is 0xDC; one entry below it
+    ++ dump "99 00 40 07 FD"  -- 0x0099: a header code below another entry
+    ++ dump "FD FE 40 08 FF 00 00"  -- 0xFEFD: a type's bytes end nothing
+
+abbrev scopesOfForm : List ℕ
+scopesOfForm = dump "31  97 97 97 97 97 97 97  96 97" ++ scopeEntries  -- byte 8 alone says that it is no report
+
+pub form-scopes : exit scopeTable scopesOfForm (replicate 42 old) (replicate 60 old) ≡ record {
+  answer = answer 0 7 10 1;
+  controls = 0x1863 ∷ 1 ∷ 0 ∷ 9 ∷ 1 ∷ 1
+      ∷ 0x0163 ∷ 1 ∷ 1 ∷ 9 ∷ 2 ∷ 1
+      ∷ 0x1A63 ∷ 1 ∷ 2 ∷ 9 ∷ 3 ∷ 1
+      ∷ 0x0000 ∷ 1 ∷ 3 ∷ 9 ∷ 4 ∷ 1
+      ∷ 0x0198 ∷ 0 ∷ 53 ∷ 2 ∷ 5 ∷ 3
+      ∷ 0x1899 ∷ 1 ∷ 5 ∷ 9 ∷ 8 ∷ 1
+      ∷ 0xFEFD ∷ 1 ∷ 6 ∷ 9 ∷ 9 ∷ 1 ∷ [];
+  properties = 0x10 ∷ 2 ∷ 1 ∷ 0 ∷ 11 ∷ 1
+      ∷ 0x13 ∷ 2 ∷ 2 ∷ 0 ∷ 18 ∷ 1
+      ∷ 0x8040 ∷ 2 ∷ 3 ∷ 0 ∷ 25 ∷ 1
+      ∷ 0x14 ∷ 2 ∷ 4 ∷ 0 ∷ 32 ∷ 1
+      ∷ 0x12 ∷ 2 ∷ 5 ∷ 0 ∷ 39 ∷ 1
+      ∷ 0x8040 ∷ 2 ∷ 6 ∷ 0 ∷ 46 ∷ 1
+      ∷ 0x80DF ∷ 7 ∷ 0 ∷ 0 ∷ 49 ∷ 2
+      ∷ 0x80DC ∷ 7 ∷ 0 ∷ 0 ∷ 53 ∷ 2
+      ∷ 0x8040 ∷ 2 ∷ 7 ∷ 0 ∷ 59 ∷ 1
+      ∷ 0x8040 ∷ 2 ∷ 8 ∷ 0 ∷ 64 ∷ 1 ∷ [];
+}
+unfolding blob-open
+form-scopes = refl
+
+abbrev scopesOfReport : List ℕ
+scopesOfReport = dump "31  96 96 96 96 96 96 96  97 96" ++ scopeEntries  -- byte 8 alone says that it is a report
+
+pub report-scopes : exit scopeTable scopesOfReport (replicate 42 old) (replicate 60 old) ≡ record {
+  answer = answer 0 7 10 1;
+  controls = 0x1963 ∷ 1 ∷ 0 ∷ 9 ∷ 1 ∷ 1
+      ∷ 0x0163 ∷ 1 ∷ 1 ∷ 9 ∷ 2 ∷ 1
+      ∷ 0x1B63 ∷ 1 ∷ 2 ∷ 9 ∷ 3 ∷ 1
+      ∷ 0x0000 ∷ 1 ∷ 3 ∷ 9 ∷ 4 ∷ 1
+      ∷ 0x0198 ∷ 0 ∷ 53 ∷ 2 ∷ 5 ∷ 3
+      ∷ 0x1999 ∷ 1 ∷ 5 ∷ 9 ∷ 8 ∷ 1
+      ∷ 0xFEFD ∷ 1 ∷ 6 ∷ 9 ∷ 9 ∷ 1 ∷ [];
+  properties = 0x11 ∷ 2 ∷ 1 ∷ 0 ∷ 11 ∷ 1
+      ∷ 0x13 ∷ 2 ∷ 2 ∷ 0 ∷ 18 ∷ 1
+      ∷ 0x8040 ∷ 2 ∷ 3 ∷ 0 ∷ 25 ∷ 1
+      ∷ 0x14 ∷ 2 ∷ 4 ∷ 0 ∷ 32 ∷ 1
+      ∷ 0x12 ∷ 2 ∷ 5 ∷ 0 ∷ 39 ∷ 1
+      ∷ 0x8040 ∷ 2 ∷ 6 ∷ 0 ∷ 46 ∷ 1
+      ∷ 0x80DF ∷ 7 ∷ 0 ∷ 0 ∷ 49 ∷ 2
+      ∷ 0x80DC ∷ 7 ∷ 0 ∷ 0 ∷ 53 ∷ 2
+      ∷ 0x8040 ∷ 2 ∷ 7 ∷ 0 ∷ 59 ∷ 1
+      ∷ 0x8040 ∷ 2 ∷ 8 ∷ 0 ∷ 64 ∷ 1 ∷ [];
+}
+unfolding blob-open
+report-scopes = refl
+
+-- ---- streams that fit no reading
+-- an Access 2000 stream by what stands behind its first ten bytes
+abbrev behind : String → List ℕ
+behind tail = dump "2A" ++ replicate 9 0x00 ++ dump tail
+
+pub no-reading :
+    map (λ tail. streamOf (behind tail))
+    (""  -- nothing
+    ∷ "01"  -- a run and no list
+    ∷ "FD"  -- no list in the place of the top list
+    ∷ "30"  -- a value of one byte that isn't there
+    ∷ "60 01"  -- one of two
+    ∷ "80 01 02 03"  -- one of four
+    ∷ "BD"  -- a length that isn't there
+    ∷ "BD FF 01"  -- one of two bytes
+    ∷ "BD 02 41"  -- bytes that aren't there
+    ∷ "FF"  -- a count that isn't there
+    ∷ "FF 01"
+    ∷ "FE"  -- an entry that isn't there
+    ∷ "FF 02 00 98 00 FD"  -- the second of two
+    ∷ "FE 98"  -- a type of one byte
+    ∷ "FE 98 00"  -- an entry that ends by nothing
+    ∷ "FF 00 00 00"  -- a byte behind the list
+    ∷ [])
+    ≡ replicate 16 none
+unfolding blob-open
+no-reading = refl
+
+-- an empty top list is one
+pub empty-reading : streamOf (behind "FF 00 00") ≡ some ([], end)
+unfolding blob-open
+empty-reading = refl
+
+-- ---- parts of a stream
+pub lengths :
+    (lengthAt (dump "00 FC") 1 ≡ some (2, 252))
+    × (lengthAt (dump "00 FE") 1 ≡ some (2, 254))
+    × (lengthAt (dump "00 FF 05 01") 1 ≡ some (4, 0x0105))
+    × (lengthAt (dump "00 FF 05") 1 ≡ none)
+    × (lengthAt (dump "00") 1 ≡ none)
+unfolding blob-open
+lengths = (refl, refl, refl, refl, refl)
+
+pub heads :
+    (headAt (dump "00 FD") 1 ≡ some (none, 2))
+    × (headAt (dump "00 FE") 1 ≡ some (some 1, 2))
+    × (headAt (dump "00 FF 05 01") 1 ≡ some (some 0x0105, 4))
+    × (headAt (dump "00 FC") 1 ≡ none)
+    × (headAt (dump "00 FF 05") 1 ≡ none)
+unfolding blob-open
+heads = (refl, refl, refl, refl, refl)
+
+-- where a value starts and how many bytes it has, by an id on either side of each limit; it may end where the stream ends
+pub extents :
+    map (λ id. extentAt (dump "01 02 03") id 1) (0x00 ∷ 0x2F ∷ 0x30 ∷ 0x5F ∷ 0x60 ∷ 0x7F ∷ 0x80 ∷ 0xBC ∷ 0xBD ∷ 0xFC ∷ [])
+    ≡ some (1, 0) ∷ some (1, 0) ∷ some (1, 1) ∷ some (1, 1) ∷ some (1, 2) ∷ some (1, 2) ∷ some (1, 4) ∷ some (1, 4) ∷ some (2, 2) ∷ some (2, 2) ∷ []
+unfolding blob-open
+extents = refl
+
+pub runs :
+    (runAt (dump "00 01 30 07") 1 ≡ some (record { id = 0x01; start = 2; size = 0 } ∷ record { id = 0x30; start = 3; size = 1 } ∷ [], 4))
+    × (runAt (dump "00 01 FD 02") 1 ≡ some (record { id = 0x01; start = 2; size = 0 } ∷ [], 2))
+    × (runAt (dump "FC 00 FE") 0 ≡ some (record { id = 0xFC; start = 2; size = 0 } ∷ [], 2))
+    × (runAt (dump "01") 1 ≡ some ([], 1))
+unfolding blob-open
+runs = (refl, refl, refl, refl)
+
+-- ---- which scope and stored property each property row comes from
+abbrev spot : ℕ → ℕ → ℕ → ℕ → ℕ → Spot
+spot kind code id start size = record { scope = record { kind = kind; code = code }; prop = record { id = id; start = start; size = size } }
+
+pub spots-of-K1 : spots blob ≡ spot 0 0 0x31 11 1 ∷ spot 2 0x64 0x60 19 2 ∷ spot 2 0x64 0xDC 23 2 ∷ []
+unfolding blob-open
+spots-of-K1 = refl
+
+pub spots-of-report : take 2 (spots report) ≡ spot 1 0 0xE0 12 16 ∷ spot 1 0 0x01 29 0 ∷ []
+unfolding blob-open
+spots-of-report = refl
+
 -- ---- eleven sections without a name: the label of the last has ten letters
 abbrev sections : List ℕ
 sections = dump "2A" ++ replicate 9 0x00 ++ dump "FF 0B 00" ++ concat (replicate 11 (dump "98 00 FD"))
@@ -158,9 +322,14 @@ level255Empty = dump "2A" ++ replicate 9 0x00 ++ concat (replicate 256 (dump "FE
 abbrev level256 : List ℕ
 level256 = dump "2A" ++ replicate 9 0x00 ++ concat (replicate 257 (dump "FE 98 00")) ++ dump "FD"
 
-pub depths :
-    (exit table level255 [] [] .answer ≡ answer 6 256 0 0)
-    × (exit table level255Empty [] [] .answer ≡ answer 6 256 0 0)
-    × (exit table level256 [] [] .answer ≡ refusal 4)
+pub depth-255 : exit table level255 [] [] .answer ≡ answer 6 256 0 0
 unfolding blob-open
-depths = (refl, refl, refl)
+depth-255 = refl
+
+pub depth-255-empty : exit table level255Empty [] [] .answer ≡ answer 6 256 0 0
+unfolding blob-open
+depth-255-empty = refl
+
+pub depth-256 : exit table level256 [] [] .answer ≡ refusal 4
+unfolding blob-open
+depth-256 = refl

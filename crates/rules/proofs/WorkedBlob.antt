@@ -34,18 +34,45 @@ nothing = []
 abbrev thirteen : List ℕ
 thirteen = dump "2B" ++ replicate 12 0x00
 
-pub refusals :
-    (exit badTable firstByte [] [] ≡ record { answer = refusal 8; controls = []; properties = [] })
-    × (exit badTable unfit [] [] .answer ≡ refusal 8)
-    × (exit table firstByte (old ∷ []) (old ∷ []) ≡ record { answer = refusal 4; controls = old ∷ []; properties = old ∷ [] })
-    × (exit table blobAndMore [] [] .answer ≡ refusal 4)
-    × (exit table blob (replicate 11 old) [] ≡ record { answer = answer 6 2 3 1; controls = replicate 11 old; properties = [] })
-    × (exit table blob (replicate 12 old) (replicate 17 old) ≡ record { answer = answer 7 2 3 1; controls = replicate 12 old; properties = replicate 17 old })
-    × (exit table nothing [] [] .answer ≡ refusal 0)
-    × (exit leastTable nothing [] [] .answer ≡ refusal 0)
-    × (exit table thirteen [] [] .answer ≡ refusal 0)
+-- 8 before 4, and before the layout is asked
+pub refused-8 : exit badTable firstByte [] [] ≡ record { answer = refusal 8; controls = []; properties = [] }
 unfolding blob-open
-refusals = (refl, refl, refl, refl, refl, refl, refl, refl, refl)
+refused-8 = refl
+
+pub refused-8-later : exit badTable unfit [] [] .answer ≡ refusal 8
+unfolding blob-open
+refused-8-later = refl
+
+-- 4 before 6
+pub refused-4 : exit table firstByte (old ∷ []) (old ∷ []) ≡ record { answer = refusal 4; controls = old ∷ []; properties = old ∷ [] }
+unfolding blob-open
+refused-4 = refl
+
+pub refused-4-more : exit table blobAndMore [] [] .answer ≡ refusal 4
+unfolding blob-open
+refused-4-more = refl
+
+-- 6 before 7: eleven words have room for one control; 17 have room for two properties
+pub refused-6 : exit table blob (replicate 11 old) [] ≡ record { answer = answer 6 2 3 1; controls = replicate 11 old; properties = [] }
+unfolding blob-open
+refused-6 = refl
+
+pub refused-7 : exit table blob (replicate 12 old) (replicate 17 old) ≡ record { answer = answer 7 2 3 1; controls = replicate 12 old; properties = replicate 17 old }
+unfolding blob-open
+refused-7 = refl
+
+-- what is of the later layout is read, under 14 bytes as nothing
+pub reads-nothing : exit table nothing [] [] .answer ≡ refusal 0
+unfolding blob-open
+reads-nothing = refl
+
+pub reads-nothing-by-0 : exit leastTable nothing [] [] .answer ≡ refusal 0
+unfolding blob-open
+reads-nothing-by-0 = refl
+
+pub reads-thirteen : exit table thirteen [] [] .answer ≡ refusal 0
+unfolding blob-open
+reads-thirteen = refl
 
 -- the longest stream that is read has 16,777,216 bytes
 pub too-long : (t s cs ps : List ℕ) → 16777216 < length s → exit t s cs ps .answer ≡ refusal 5

@@ -8,7 +8,7 @@ use lib.Dec.{eqb}
 use lib.ListN.{length, take, replicate}
 use Rattle.rules.specs.Lists.{_>>=_, concat}
 use Rattle.rules.specs.Answer.{answer}
-use Rattle.rules.specs.Later.{objectGroup, childrenAt, nodesAt, treeOf}
+use Rattle.rules.specs.Later.{propertyAt, endAt, trailerAt, endsGroup, objectGroup, childrenAt, nodesAt, treeOf}
 use Rattle.rules.specs.Blob.{exit}
 use Rattle.rules.specs.Dump.{dump}
 use Rattle.rules.specs.Examples.{old, table}
@@ -147,6 +147,35 @@ pub a-wide-tree : exit table wide (replicate 12 old) (replicate 36 old) ≡ reco
 unfolding blob-open
 a-wide-tree = refl
 
+-- the third and the fourth byte of a trailer and of a length
+abbrev thirdByte : List ℕ
+thirdByte =
+    replicate 14 0x00
+    ++ dump "05 00  01 00 00 00  AA AA AA AA  00 00 00 00  FD 00 01 00"  -- trailer 0x000100FD ends no group
+    ++ dump "06 00  01 00 00 00  AA AA AA AA  00 00 00 00  FE 00 00 01"  -- nor does 0x010000FE
+    ++ dump "07 00  01 00 01 00  AA AA AA AA  01 00 00 00  01  FF 01 00 00"  -- nor 0x01FF; type 0x00010001 is Binary
+    ++ dump "08 00  01 00 00 00  AA AA AA AA  01 00 01 00  01  FD 00 00 00"  -- length 0x00010001: not inside
+
+abbrev fourthByte : List ℕ
+fourthByte =
+    replicate 14 0x00
+    ++ dump "05 00  01 00 00 00  AA AA AA AA  01 00 00 00  01  00 00 00 00"  -- a Bool
+    ++ dump "08 00  01 00 00 00  AA AA AA AA  01 00 00 01  01  FD 00 00 00"  -- length 0x01000001: not inside
+
+pub third-byte : exit table thirdByte [] (replicate 18 old) ≡ record {
+  answer = answer 0 0 3 3;
+  controls = [];
+  properties = 5 ∷ 1 ∷ 0 ∷ 0 ∷ 28 ∷ 0
+      ∷ 6 ∷ 1 ∷ 0 ∷ 0 ∷ 46 ∷ 0
+      ∷ 7 ∷ 7 ∷ 0 ∷ 0 ∷ 64 ∷ 1 ∷ [];
+}
+unfolding blob-open
+third-byte = refl
+
+pub fourth-byte : exit table fourthByte [] (replicate 6 old) ≡ record { answer = answer 0 0 1 1; controls = []; properties = 5 ∷ 0 ∷ 1 ∷ 0 ∷ 28 ∷ 1 ∷ [] }
+unfolding blob-open
+fourth-byte = refl
+
 -- ---- what is no tree is scanned
 -- the object's group ends by a trailer, but 0x0101 nodes aren't there
 abbrev fewer : List ℕ
@@ -174,18 +203,116 @@ byteMore =
     ++ dump "05 00  01 00 00 00  00 00 00 00  00 00 00 00  FD 00 00 00"  -- a flag; trailer 253
     ++ dump "00"
 
-pub falls-to-scan :
-    (exit table unfit (replicate 6 old) (replicate 12 old) ≡ record {
-      answer = answer 0 1 2 1;
-      controls = 0 ∷ 0 ∷ 55 ∷ 2 ∷ 1 ∷ 1 ∷ [];
-      properties = 7 ∷ 0 ∷ 1 ∷ 0 ∷ 28 ∷ 1
-          ∷ 0x14 ∷ 6 ∷ 0 ∷ 0 ∷ 55 ∷ 2 ∷ [];
-    })
-    × (exit table fewer (replicate 6 old) (replicate 12 old) .controls ≡ 0 ∷ 0 ∷ 55 ∷ 2 ∷ 1 ∷ 1 ∷ [])
-    × (exit table untrailed [] [] .answer ≡ answer 0 0 0 0)
-    × (exit table byteMore (replicate 6 old) (replicate 12 old) .answer ≡ answer 0 0 1 1)
+pub scan-unfit : exit table unfit (replicate 6 old) (replicate 12 old) ≡ record {
+  answer = answer 0 1 2 1;
+  controls = 0 ∷ 0 ∷ 55 ∷ 2 ∷ 1 ∷ 1 ∷ [];
+  properties = 7 ∷ 0 ∷ 1 ∷ 0 ∷ 28 ∷ 1
+      ∷ 0x14 ∷ 6 ∷ 0 ∷ 0 ∷ 55 ∷ 2 ∷ [];
+}
 unfolding blob-open
-falls-to-scan = (refl, refl, refl, refl)
+scan-unfit = refl
+
+pub scan-fewer : exit table fewer (replicate 6 old) (replicate 12 old) .controls ≡ 0 ∷ 0 ∷ 55 ∷ 2 ∷ 1 ∷ 1 ∷ []
+unfolding blob-open
+scan-fewer = refl
+
+pub scan-untrailed : exit table untrailed [] [] .answer ≡ answer 0 0 0 0
+unfolding blob-open
+scan-untrailed = refl
+
+pub scan-byte-more : exit table byteMore (replicate 6 old) (replicate 12 old) .answer ≡ answer 0 0 1 1
+unfolding blob-open
+scan-byte-more = refl
+
+-- ---- where the scan starts, and what it finds
+-- the object has no property: what stands before 14 is not scanned
+abbrev noObject : List ℕ
+noObject =
+    replicate 13 0x00
+    ++ dump "14 00  0A 00 00 00  AA AA AA AA  02 00 00 00  41 00  01 00 00 00"  -- at 13; from 14 on it is no property
+    ++ dump "14 00  0A 00 00 00  AA AA AA AA  02 00 00 00  42 00  05 00 00 00"  -- a match: a name
+
+pub from-fourteen : exit table noObject (replicate 6 old) (replicate 6 old) ≡ record {
+  answer = answer 0 1 1 0;
+  controls = 0 ∷ 0 ∷ 47 ∷ 2 ∷ 0 ∷ 1 ∷ [];
+  properties = 0x14 ∷ 6 ∷ 0 ∷ 0 ∷ 47 ∷ 2 ∷ [];
+}
+unfolding blob-open
+from-fourteen = refl
+
+abbrev near : List ℕ
+near =
+    replicate 14 0x00
+    ++ dump "05 00  01 00 00 00  AA AA AA AA  00 00 00 00  00 00 00 00"  -- the object: a flag
+    ++ dump "FF FF FF"  -- no property
+    ++ dump "14 00  0A 00 00 00  AA AA AA AA  00 00 00 00  01 00 00 00"  -- a match: an empty name
+    ++ dump "14 01  0A 00 00 00  AA AA AA AA  00 00 00 00  01 00 00 00"  -- no match: id 0x0114
+    ++ dump "13 00  0A 00 00 00  AA AA AA AA  00 00 00 00  01 00 00 00"  -- id 0x0013
+    ++ dump "14 00  0B 00 00 00  AA AA AA AA  00 00 00 00  01 00 00 00"  -- type 0x0B
+    ++ dump "14 00  0A 01 00 00  AA AA AA AA  00 00 00 00  01 00 00 00"  -- type 0x010A
+    ++ dump "14 00  0A 00 01 00  AA AA AA AA  00 00 00 00  01 00 00 00"  -- type 0x0001000A
+    ++ dump "14 00  0A 00 00 01  AA AA AA AA  00 00 00 00  01 00 00 00"  -- type 0x0100000A
+    ++ dump "11 00  0B 00 00 00  AA AA AA AA  06 00 00 00"  -- cut off by the match in its value
+    ++ dump "14 00  0A 00 00 00  01 00 00 00  02 00 00 00  43 00  FE 00 00 00"  -- a match: a name; trailer 254 ends the group
+    ++ dump "64 00  01 02 03 04"  -- its child is not looked for
+
+pub near-matches : exit table near (replicate 12 old) (replicate 54 old) ≡ record {
+  answer = answer 0 2 9 1;
+  controls = 0 ∷ 0 ∷ 49 ∷ 0 ∷ 1 ∷ 7
+      ∷ 0 ∷ 0 ∷ 189 ∷ 2 ∷ 8 ∷ 1 ∷ [];
+  properties = 0x05 ∷ 1 ∷ 0 ∷ 0 ∷ 28 ∷ 0
+      ∷ 0x14 ∷ 6 ∷ 0 ∷ 0 ∷ 49 ∷ 0
+      ∷ 0x114 ∷ 6 ∷ 0 ∷ 0 ∷ 67 ∷ 0
+      ∷ 0x13 ∷ 6 ∷ 0 ∷ 0 ∷ 85 ∷ 0
+      ∷ 0x14 ∷ 7 ∷ 0 ∷ 0 ∷ 103 ∷ 0
+      ∷ 0x14 ∷ 7 ∷ 0 ∷ 0 ∷ 121 ∷ 0
+      ∷ 0x14 ∷ 7 ∷ 0 ∷ 0 ∷ 139 ∷ 0
+      ∷ 0x14 ∷ 7 ∷ 0 ∷ 0 ∷ 157 ∷ 0
+      ∷ 0x14 ∷ 6 ∷ 0 ∷ 0 ∷ 189 ∷ 2 ∷ [];
+}
+unfolding blob-open
+near-matches = refl
+
+-- a node's group that ends by no trailer: the tree fails, and the scan finds the name
+abbrev unended : List ℕ
+unended =
+    replicate 14 0x00
+    ++ dump "05 00  01 00 00 00  AA AA AA AA  00 00 00 00  FE 00 00 00"  -- the object: a flag; trailer 254, one node
+    ++ dump "98 00  01 02 03 04"  -- 0x98
+    ++ dump "14 00  0A 00 00 00  AA AA AA AA  02 00 00 00  43 00  FC 00 00 00"  -- a name; trailer 252
+
+pub unended-node : exit table unended (replicate 6 old) (replicate 12 old) .controls ≡ 0 ∷ 0 ∷ 52 ∷ 2 ∷ 1 ∷ 1 ∷ []
+unfolding blob-open
+unended-node = refl
+
+-- the scan starts behind the trailer that speaks of nodes which aren't there, not behind their count: a match may begin in it
+abbrev countIsMatch : List ℕ
+countIsMatch =
+    replicate 14 0x00
+    ++ dump "05 00  01 00 00 00  AA AA AA AA  00 00 00 00  FF 00 00 00"  -- the object: a flag; trailer 255
+    ++ dump "14 00  0A 00 00 00  AA AA AA AA  02 00 00 00  44 00  00 00 00 00"  -- 20 nodes aren't there: a match, a name
+
+pub count-is-match : exit table countIsMatch (replicate 6 old) (replicate 12 old) .controls ≡ 0 ∷ 0 ∷ 46 ∷ 2 ∷ 1 ∷ 1 ∷ []
+unfolding blob-open
+count-is-match = refl
+
+-- ---- parts of a stream
+-- a property at 1, by its bytes
+pub later-property :
+    (propertyAt (dump "00  02 03  04 05 06 07  08 09 0A 0B  0C 0D 0E 0F") 1 ≡ record { id = 0x0302; type = 0x07060504; start = 15; size = 0x0F0E0D0C })
+    × (trailerAt (dump "00  02 03  04 05 06 07  08 09 0A 0B  01 00 00 00  99  12 13 14 15") 1 ≡ 0x15141312)
+    × (endAt (dump "00  02 03  04 05 06 07  08 09 0A 0B  01 00 00 00") 1 ≡ 20)
+    × (map endsGroup (252 ∷ 253 ∷ 254 ∷ 255 ∷ 256 ∷ []) ≡ false ∷ true ∷ true ∷ true ∷ false ∷ [])
+unfolding blob-open
+later-property = (refl, refl, refl, refl)
+
+pub children :
+    (childrenAt (dump "05 01 02") 253 1 ≡ some (0, 1))
+    × (childrenAt (dump "05 01 02") 254 1 ≡ some (1, 1))
+    × (childrenAt (dump "05 01 02") 255 1 ≡ some (0x0201, 3))
+    × (childrenAt (dump "05 01 02") 255 2 ≡ none)
+unfolding blob-open
+children = (refl, refl, refl, refl)
 
 -- ---- depths
 -- three nodes, each below the one before it

@@ -2,12 +2,12 @@
 use Prim.Native.Nat.{ℕ, _+_, _≤_, _<_}
 use native.Mathlib.Omega.{arith}
 use mathlib.Core.Path.{_≡_, refl}
-use mathlib.Core.List.{List, [], _∷_, _++_}
+use mathlib.Core.List.{List, [], _∷_, _++_, map}
 use borrow.Author.Tests.{lt-ltb, le-ltb}
 use lib.ListN.{length}
 use Rattle.rules.specs.Lists.{concat, text}
 use Rattle.rules.specs.Blob.{outcome}
-use Rattle.rules.specs.Listing.{valueColumn, printed, tableLength, tableIn, blobIn, listing}
+use Rattle.rules.specs.Listing.{line, nameColumn, markWord, valueColumn, printed, tableLength, tableIn, blobIn, listing}
 use Rattle.rules.specs.Dump.{dump}
 use Rattle.rules.specs.Examples.{table}
 use Rattle.rules.proofs.Open.{rules-open}
@@ -42,14 +42,29 @@ listed = refl
 
 -- ---- inputs: the length of the table, the table, a Blob
 pub inputs :
-    (listing (dump "00 00 00") ≡ text "answer 8 0 0 0\n")
-    × (listing (dump "05 00 00 00  01 00 00 00") ≡ text "answer 8 0 0 0\n")
-    × (listing (dump "04 00 00 00  01 00 00 00") ≡ text "answer 0 0 0 0\n")
+    (listing (dump "00 00 00") ≡ text "answer 8 0 0 0\n")  -- under four bytes
+    × (listing (dump "05 00 00 00  01 00 00 00") ≡ text "answer 8 0 0 0\n")  -- a byte of the table is missing
+    × (listing (dump "04 00 00 00  01 00 00 00") ≡ text "answer 0 0 0 0\n")  -- no Blob
     × (listing (dump "04 00 00 00  01 00 00 00  01") ≡ text "answer 4 0 0 0\n")
-    × (listing (dump "04 01 00 00  01 00 00 00") ≡ text "answer 8 0 0 0\n")
-    × (valueColumn 0 0 0 1 (dump "00") ≡ text "no")
+    × (listing (dump "04 01 00 00  01 00 00 00") ≡ text "answer 8 0 0 0\n")  -- a length of two bytes
+    × (listing (dump "04 00 01 00  01 00 00 00") ≡ text "answer 8 0 0 0\n")  -- of three
+    × (listing (dump "04 00 00 01  01 00 00 00") ≡ text "answer 8 0 0 0\n")  -- of four
 unfolding rules-open
-inputs = (refl, refl, refl, refl, refl, refl)
+inputs = (refl, refl, refl, refl, refl, refl, refl)
+
+-- ---- fields: a value by mark, low, high, length and bytes; a control's name by mark and length
+pub fields :
+    (map (λ low. valueColumn 0 low 0 1 []) (0 ∷ 1 ∷ []) ≡ text "no" ∷ text "yes" ∷ [])
+    × (valueColumn 1 7 7 7 [] ≡ text "-")
+    × (map (λ low. valueColumn 2 low 7 2 []) (0 ∷ 32767 ∷ 0xFFFF8000 ∷ []) ≡ text "0" ∷ text "32767" ∷ text "-32768" ∷ [])
+    × (map (λ low. valueColumn 3 low 7 4 []) (0x7FFFFFFF ∷ 0x80000000 ∷ 0xFFFFFFFF ∷ []) ≡ text "2147483647" ∷ text "-2147483648" ∷ text "-1" ∷ [])
+    × (valueColumn 4 0x9ABCDEF0 0x12345678 8 [] ≡ text "123456789ABCDEF0")
+    × (map (λ mark. valueColumn mark 0 0 15 []) (6 ∷ 7 ∷ 8 ∷ []) ≡ text "7" ∷ text "15" ∷ text "15" ∷ [])
+    × (map (λ mark. nameColumn mark 9) (0 ∷ 1 ∷ 2 ∷ []) ≡ text "4" ∷ text "-" ∷ text "4" ∷ [])
+    × (map markWord (0 ∷ 1 ∷ 2 ∷ 3 ∷ 4 ∷ 5 ∷ 6 ∷ 7 ∷ 8 ∷ []) ≡ text "bool" ∷ text "notdefault" ∷ text "short" ∷ text "long" ∷ text "double" ∷ text "guid" ∷ text "text" ∷ text "binary" ∷ text "loose" ∷ [])
+    × (line [] ≡ text "\n")
+unfolding rules-open
+fields = (refl, refl, refl, refl, refl, refl, refl, refl, refl)
 
 -- whatever fits the buffer is listed, with room for 256 controls and 1,024 properties
 pub lists : (input : List ℕ) → length input ≤ 32768 → 4 + tableLength input ≤ length input

@@ -2,12 +2,15 @@
 use Prim.Native.Nat.{ℕ, _<_}
 use native.Mathlib.Omega.{arith}
 use mathlib.Core.Path.{_≡_, refl}
-use mathlib.Core.List.{List, [], _∷_, _++_}
+use mathlib.Core.Bool.{false}
+use mathlib.Core.List.{List, [], _∷_, _++_, map}
 use borrow.Author.Tests.{lt-ltb}
-use lib.ListN.{length, take, replicate}
+use lib.Dec.{eqb}
+use lib.ListN.{length, take, drop, replicate}
 use Rattle.rules.specs.Lists.{text}
+use Rattle.rules.specs.Bytes.{u32}
 use Rattle.rules.specs.Answer.{answer, refusal, longest}
-use Rattle.rules.specs.TypeInfo.{typeInfoAnswer, typeInfoExit}
+use Rattle.rules.specs.TypeInfo.{typeInfoOf, typeInfoAnswer, typeInfoExit}
 use Rattle.rules.specs.Dump.{dump}
 use Rattle.rules.proofs.OpenBytes.{bytes-open}
 use Rattle.rules.proofs.OpenTypeInfo.{type-info-open}
@@ -34,6 +37,34 @@ pub a-type-info : typeInfoExit info (replicate 13 old) ≡ record {
 unfolding bytes-open type-info-open
 a-type-info = refl
 
+-- ---- types, and names that are empty
+abbrev types : List ℕ
+types =
+    dump "F7 EA CD AC" ++ replicate 8 0x00 ++ dump "09 00 00 00" ++ replicate 16 0x00  -- the count says nine
+    ++ dump "FF 00  00 00  01 00 00 00  41 00  00"  -- 0x00FF is reported
+    ++ dump "00 1E  00 00  02 00 00 00  00  00"  -- 0x1E00; both names are empty: the first one's place
+    ++ dump "FE 1E  00 00  03 00 00 00  00  42 00"  -- 0x1EFE; the second name
+    ++ dump "00 1F  00 00  04 00 00 00  43 00  44 00"  -- 0x1F00; both: the second
+    ++ dump "FF 1E  00 00  05 00 00 00  00  00"  -- 0x1EFF is not reported
+    ++ dump "02 77  00 00  06 00 00 00  00  00"  -- 0x7702: no 36 bytes
+    ++ dump "76 00  00 00  07 00 00 00  00  00"  -- 0x76: none
+    ++ dump "78 00  00 00  08 00 00 00  00  00"  -- 0x78: none
+    ++ dump "77 00  00 00  09 00 00 00  00  00" ++ replicate 35 0x41  -- 0x77: of 36 bytes one is missing
+
+pub types-and-names : typeInfoExit types (replicate 32 old) ≡ record {
+  answer = answer 0 8 0 0;
+  rows = 0x00FF ∷ 1 ∷ 40 ∷ 1
+      ∷ 0x1E00 ∷ 2 ∷ 51 ∷ 0
+      ∷ 0x1EFE ∷ 3 ∷ 62 ∷ 1
+      ∷ 0x1F00 ∷ 4 ∷ 74 ∷ 1
+      ∷ 0x7702 ∷ 6 ∷ 94 ∷ 0
+      ∷ 0x76 ∷ 7 ∷ 104 ∷ 0
+      ∷ 0x78 ∷ 8 ∷ 114 ∷ 0
+      ∷ 0x77 ∷ 9 ∷ 124 ∷ 0 ∷ [];
+}
+unfolding bytes-open type-info-open
+types-and-names = refl
+
 -- ---- refusals
 -- one byte; 40 of another magic
 abbrev oneByte : List ℕ
@@ -41,6 +72,10 @@ oneByte = dump "F7"
 
 abbrev otherMagic : List ℕ
 otherMagic = replicate 40 0xFF
+
+-- a count of one, in 40 bytes
+abbrev oneEntry : List ℕ
+oneEntry = dump "F7 EA CD AC" ++ replicate 8 0x00 ++ dump "01 00 00 00" ++ replicate 24 0x00
 
 -- a count of two needs 48 bytes: 47 and 48
 abbrev forty-seven : List ℕ
@@ -56,20 +91,28 @@ headerOnly = dump "F7 EA CD AC" ++ replicate 28 0x00
 abbrev countThird : List ℕ
 countThird = dump "F7 EA CD AC" ++ replicate 8 0x00 ++ dump "00 00 01 00" ++ replicate 16 0x00
 
+pub type-info-no-room : typeInfoExit info (replicate 11 old) ≡ record { answer = answer 6 3 0 0; rows = replicate 11 old }
+unfolding bytes-open type-info-open
+type-info-no-room = refl
+
 pub type-info-refusals :
-    (typeInfoExit info (replicate 11 old) ≡ record { answer = answer 6 3 0 0; rows = replicate 11 old })
-    × (typeInfoAnswer oneByte 9 ≡ refusal 1)
+    (typeInfoAnswer oneByte 9 ≡ refusal 1)
     × (typeInfoAnswer otherMagic 9 ≡ refusal 2)
     × (typeInfoAnswer forty-seven 0 ≡ refusal 3)
     × (typeInfoAnswer forty-eight 9 ≡ answer 0 1 0 0)
     × (typeInfoAnswer headerOnly 0 ≡ refusal 0)
     × (typeInfoAnswer countThird 0 ≡ refusal 3)
 unfolding bytes-open type-info-open
-type-info-refusals = (refl, refl, refl, refl, refl, refl, refl)
+type-info-refusals = (refl, refl, refl, refl, refl, refl)
 
 pub type-info-too-long : (s : List ℕ) (n : ℕ) → 16777216 < length s → typeInfoAnswer s n ≡ refusal 5
 unfolding typeInfoAnswer
 type-info-too-long s n h = rw (lt-ltb longest (length s) (omega arith))
+
+-- 16,777,216 bytes of another magic
+pub type-info-not-too-long : (s : List ℕ) (n : ℕ) → length s ≡ 16777216 → eqb (u32 s 0) 0xACCDEAF7 ≡ false → typeInfoAnswer s n ≡ refusal 2
+unfolding typeInfoAnswer
+type-info-not-too-long s n h other = rw (h, other)
 
 -- ---- counts
 -- the count 0 with room for an entry
@@ -96,3 +139,11 @@ pub type-info-counts :
     × (typeInfoAnswer sevenRemain 9 ≡ answer 0 1 0 0)
 unfolding bytes-open type-info-open
 type-info-counts = (refl, refl, refl)
+
+-- all four bytes of the count: of so many entries the stream has one
+pub counts-of-four-bytes :
+    map (λ count. length (typeInfoOf (take 12 oneEntry ++ dump count ++ drop 16 oneEntry)))
+    ("00 00 00 00" ∷ "00 01 00 00" ∷ "00 00 01 00" ∷ "00 00 00 01" ∷ [])
+    ≡ 0 ∷ 1 ∷ 1 ∷ 1 ∷ []
+unfolding bytes-open type-info-open
+counts-of-four-bytes = refl
