@@ -146,26 +146,27 @@ a-form = refl
 -- ---- scopes and header codes
 abbrev scopeTable : List ℕ
 scopeTable =
-    dump "31 03  05 00  63 00  99 00  63 0A"  -- layout byte; three header codes; five scopes; the header codes 0x63, 0x99, 0x0A63
-    ++ dump "00 00 00  01 00"  -- form: one row
+    dump "31 03  05 00  63 00  99 00  63 6A"  -- layout byte; three header codes; five scopes; the header codes 0x63, 0x99, 0x6A63
+    ++ dump "00 00 00  02 00"  -- form: two rows
     ++ dump "01 00 00  01 00"  -- report: one
     ++ dump "02 00 00  01 00"  -- entry 0x0000: one
     ++ dump "02 63 00  01 00"  -- entry 0x0063: one
-    ++ dump "02 63 0A  01 00"  -- entry 0x0A63: one
+    ++ dump "02 63 6A  01 00"  -- entry 0x6A63: one
     ++ dump "40  10 00  00"  -- form: 0x40 Number
+    ++ dump "41  15 00  00"  -- 0x41 Number
     ++ dump "40  11 00  00"  -- report: 0x40 Number
     ++ dump "40  12 00  00"  -- entry 0x0000: 0x40 Number
     ++ dump "40  13 00  00"  -- entry 0x0063: 0x40 Number
-    ++ dump "40  14 00  00"  -- entry 0x0A63: 0x40 Number
+    ++ dump "40  14 00  00"  -- entry 0x6A63: 0x40 Number
 
 -- what stands in both a form and a report
 abbrev scopeEntries : List ℕ
 scopeEntries =
-    dump "40 01"  -- the object
+    dump "40 01  41 09"  -- the object: 0x41 is the form's alone
     ++ dump "FF 06 00"  -- a list of six
     ++ dump "63 00 40 02 FF 00 00"  -- 0x0063: a header code that is no section
     ++ dump "63 01 40 03 FF 00 00"  -- 0x0163: no header code, no scope
-    ++ dump "63 0A 40 04 FF 00 00"  -- 0x0A63: joined to all of it
+    ++ dump "63 6A 40 04 FF 00 00"  -- 0x6A63: joined to all of it
     ++ dump "00 00 40 05 FF 00 00"  -- 0x0000: an entry's scope
     ++ dump "98 01 40 06 DF 02 41 00 DC 02 42 00 FE"  -- 0x0198 is no section: its name is 0xDC; one entry below it
     ++ dump "99 00 40 07 FD"  -- 0x0099: a header code below another entry
@@ -174,25 +175,26 @@ scopeEntries =
 abbrev scopesOfForm : List ℕ
 scopesOfForm = dump "31  97 97 97 97 97 97 97  96 97" ++ scopeEntries  -- byte 8 alone says that it is no report
 
-pub form-scopes : exit scopeTable scopesOfForm (replicate 42 old) (replicate 60 old) ≡ record {
-  answer = answer 0 7 10 1;
-  controls = 0x1863 ∷ 1 ∷ 0 ∷ 9 ∷ 1 ∷ 1
-      ∷ 0x0163 ∷ 1 ∷ 1 ∷ 9 ∷ 2 ∷ 1
-      ∷ 0x1A63 ∷ 1 ∷ 2 ∷ 9 ∷ 3 ∷ 1
-      ∷ 0x0000 ∷ 1 ∷ 3 ∷ 9 ∷ 4 ∷ 1
-      ∷ 0x0198 ∷ 0 ∷ 53 ∷ 2 ∷ 5 ∷ 3
-      ∷ 0x1899 ∷ 1 ∷ 5 ∷ 9 ∷ 8 ∷ 1
-      ∷ 0xFEFD ∷ 1 ∷ 6 ∷ 9 ∷ 9 ∷ 1 ∷ [];
+pub form-scopes : exit scopeTable scopesOfForm (replicate 42 old) (replicate 66 old) ≡ record {
+  answer = answer 0 7 11 2;
+  controls = 0x1863 ∷ 1 ∷ 0 ∷ 9 ∷ 2 ∷ 1
+      ∷ 0x0163 ∷ 1 ∷ 1 ∷ 9 ∷ 3 ∷ 1
+      ∷ 0x7A63 ∷ 1 ∷ 2 ∷ 9 ∷ 4 ∷ 1
+      ∷ 0x0000 ∷ 1 ∷ 3 ∷ 9 ∷ 5 ∷ 1
+      ∷ 0x0198 ∷ 0 ∷ 55 ∷ 2 ∷ 6 ∷ 3
+      ∷ 0x1899 ∷ 1 ∷ 5 ∷ 9 ∷ 9 ∷ 1
+      ∷ 0xFEFD ∷ 1 ∷ 6 ∷ 9 ∷ 10 ∷ 1 ∷ [];
   properties = 0x10 ∷ 2 ∷ 1 ∷ 0 ∷ 11 ∷ 1
-      ∷ 0x13 ∷ 2 ∷ 2 ∷ 0 ∷ 18 ∷ 1
-      ∷ 0x8040 ∷ 2 ∷ 3 ∷ 0 ∷ 25 ∷ 1
-      ∷ 0x14 ∷ 2 ∷ 4 ∷ 0 ∷ 32 ∷ 1
-      ∷ 0x12 ∷ 2 ∷ 5 ∷ 0 ∷ 39 ∷ 1
-      ∷ 0x8040 ∷ 2 ∷ 6 ∷ 0 ∷ 46 ∷ 1
-      ∷ 0x80DF ∷ 7 ∷ 0 ∷ 0 ∷ 49 ∷ 2
-      ∷ 0x80DC ∷ 7 ∷ 0 ∷ 0 ∷ 53 ∷ 2
-      ∷ 0x8040 ∷ 2 ∷ 7 ∷ 0 ∷ 59 ∷ 1
-      ∷ 0x8040 ∷ 2 ∷ 8 ∷ 0 ∷ 64 ∷ 1 ∷ [];
+      ∷ 0x15 ∷ 2 ∷ 9 ∷ 0 ∷ 13 ∷ 1
+      ∷ 0x13 ∷ 2 ∷ 2 ∷ 0 ∷ 20 ∷ 1
+      ∷ 0x8040 ∷ 2 ∷ 3 ∷ 0 ∷ 27 ∷ 1
+      ∷ 0x14 ∷ 2 ∷ 4 ∷ 0 ∷ 34 ∷ 1
+      ∷ 0x12 ∷ 2 ∷ 5 ∷ 0 ∷ 41 ∷ 1
+      ∷ 0x8040 ∷ 2 ∷ 6 ∷ 0 ∷ 48 ∷ 1
+      ∷ 0x80DF ∷ 7 ∷ 0 ∷ 0 ∷ 51 ∷ 2
+      ∷ 0x80DC ∷ 7 ∷ 0 ∷ 0 ∷ 55 ∷ 2
+      ∷ 0x8040 ∷ 2 ∷ 7 ∷ 0 ∷ 61 ∷ 1
+      ∷ 0x8040 ∷ 2 ∷ 8 ∷ 0 ∷ 66 ∷ 1 ∷ [];
 }
 unfolding blob-open
 form-scopes = refl
@@ -200,28 +202,37 @@ form-scopes = refl
 abbrev scopesOfReport : List ℕ
 scopesOfReport = dump "31  96 96 96 96 96 96 96  97 96" ++ scopeEntries  -- byte 8 alone says that it is a report
 
-pub report-scopes : exit scopeTable scopesOfReport (replicate 42 old) (replicate 60 old) ≡ record {
-  answer = answer 0 7 10 1;
-  controls = 0x1963 ∷ 1 ∷ 0 ∷ 9 ∷ 1 ∷ 1
-      ∷ 0x0163 ∷ 1 ∷ 1 ∷ 9 ∷ 2 ∷ 1
-      ∷ 0x1B63 ∷ 1 ∷ 2 ∷ 9 ∷ 3 ∷ 1
-      ∷ 0x0000 ∷ 1 ∷ 3 ∷ 9 ∷ 4 ∷ 1
-      ∷ 0x0198 ∷ 0 ∷ 53 ∷ 2 ∷ 5 ∷ 3
-      ∷ 0x1999 ∷ 1 ∷ 5 ∷ 9 ∷ 8 ∷ 1
-      ∷ 0xFEFD ∷ 1 ∷ 6 ∷ 9 ∷ 9 ∷ 1 ∷ [];
+pub report-scopes : exit scopeTable scopesOfReport (replicate 42 old) (replicate 66 old) ≡ record {
+  answer = answer 0 7 11 2;
+  controls = 0x1963 ∷ 1 ∷ 0 ∷ 9 ∷ 2 ∷ 1
+      ∷ 0x0163 ∷ 1 ∷ 1 ∷ 9 ∷ 3 ∷ 1
+      ∷ 0x7B63 ∷ 1 ∷ 2 ∷ 9 ∷ 4 ∷ 1
+      ∷ 0x0000 ∷ 1 ∷ 3 ∷ 9 ∷ 5 ∷ 1
+      ∷ 0x0198 ∷ 0 ∷ 55 ∷ 2 ∷ 6 ∷ 3
+      ∷ 0x1999 ∷ 1 ∷ 5 ∷ 9 ∷ 9 ∷ 1
+      ∷ 0xFEFD ∷ 1 ∷ 6 ∷ 9 ∷ 10 ∷ 1 ∷ [];
   properties = 0x11 ∷ 2 ∷ 1 ∷ 0 ∷ 11 ∷ 1
-      ∷ 0x13 ∷ 2 ∷ 2 ∷ 0 ∷ 18 ∷ 1
-      ∷ 0x8040 ∷ 2 ∷ 3 ∷ 0 ∷ 25 ∷ 1
-      ∷ 0x14 ∷ 2 ∷ 4 ∷ 0 ∷ 32 ∷ 1
-      ∷ 0x12 ∷ 2 ∷ 5 ∷ 0 ∷ 39 ∷ 1
-      ∷ 0x8040 ∷ 2 ∷ 6 ∷ 0 ∷ 46 ∷ 1
-      ∷ 0x80DF ∷ 7 ∷ 0 ∷ 0 ∷ 49 ∷ 2
-      ∷ 0x80DC ∷ 7 ∷ 0 ∷ 0 ∷ 53 ∷ 2
-      ∷ 0x8040 ∷ 2 ∷ 7 ∷ 0 ∷ 59 ∷ 1
-      ∷ 0x8040 ∷ 2 ∷ 8 ∷ 0 ∷ 64 ∷ 1 ∷ [];
+      ∷ 0x8041 ∷ 2 ∷ 9 ∷ 0 ∷ 13 ∷ 1
+      ∷ 0x13 ∷ 2 ∷ 2 ∷ 0 ∷ 20 ∷ 1
+      ∷ 0x8040 ∷ 2 ∷ 3 ∷ 0 ∷ 27 ∷ 1
+      ∷ 0x14 ∷ 2 ∷ 4 ∷ 0 ∷ 34 ∷ 1
+      ∷ 0x12 ∷ 2 ∷ 5 ∷ 0 ∷ 41 ∷ 1
+      ∷ 0x8040 ∷ 2 ∷ 6 ∷ 0 ∷ 48 ∷ 1
+      ∷ 0x80DF ∷ 7 ∷ 0 ∷ 0 ∷ 51 ∷ 2
+      ∷ 0x80DC ∷ 7 ∷ 0 ∷ 0 ∷ 55 ∷ 2
+      ∷ 0x8040 ∷ 2 ∷ 7 ∷ 0 ∷ 61 ∷ 1
+      ∷ 0x8040 ∷ 2 ∷ 8 ∷ 0 ∷ 66 ∷ 1 ∷ [];
 }
 unfolding blob-open
 report-scopes = refl
+
+-- byte 8 of 0x98 is no report's either
+abbrev ninety-eight : List ℕ
+ninety-eight = dump "31  00 00 00 00 00 00 00  98 00" ++ dump "40 01  41 09" ++ dump "FF 00 00"
+
+pub no-report : exit scopeTable ninety-eight [] (replicate 12 old) ≡ record { answer = answer 0 0 2 2; controls = []; properties = 0x10 ∷ 2 ∷ 1 ∷ 0 ∷ 11 ∷ 1 ∷ 0x15 ∷ 2 ∷ 9 ∷ 0 ∷ 13 ∷ 1 ∷ [] }
+unfolding blob-open
+no-report = refl
 
 -- ---- streams that fit no reading
 -- an Access 2000 stream by what stands behind its first ten bytes

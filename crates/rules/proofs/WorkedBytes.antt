@@ -1,11 +1,12 @@
 -- Worked bytes: the hex dumps that the examples are written in, numbers of two and four bytes, UTF-16.
-use Prim.Native.Nat.{ℕ}
+use Prim.Native.Nat.{ℕ, zero, suc, _<_}
+use native.Mathlib.Omega.{arith}
 use mathlib.Core.Path.{_≡_, refl}
 use mathlib.Core.Bool.{true, false}
 use mathlib.Core.List.{List, [], _∷_, map}
 use mathlib.Core.Option.{none, some}
 use Rattle.rules.specs.Lists.{concat, all, keep, find, has, ascends}
-use Rattle.rules.specs.Bytes.{byte, u16, u32, part, byteAt, halfAt}
+use Rattle.rules.specs.Bytes.{Bytes, byte, u16, u32, part, byteAt, halfAt}
 use Rattle.rules.specs.Utf16.{isUtf16}
 use Rattle.rules.specs.Rows.{room, written, rowAt}
 use Rattle.rules.specs.Dump.{dump}
@@ -26,6 +27,14 @@ pub numbers :
     × (part (dump "11 22 33") 2 3 ≡ dump "33")
 unfolding bytes-open
 numbers = (refl, refl, refl, refl, refl, refl, refl)
+
+-- a list of bytes has numbers up to 255
+pub up-to-255 : Bytes (255 ∷ [])
+up-to-255 zero = omega arith
+up-to-255 (suc i) = omega arith
+
+pub not-256 : ¬ Bytes (256 ∷ [])
+not-256 h = let wrong : 256 < 256 = h 0 in omega arith
 
 -- ---- lists: tests, the first that is found, ascending from a least one
 pub lists :
@@ -58,5 +67,6 @@ pub utf16 :
     × (isUtf16 (dump "00 D8 00 E0") ≡ false)  -- a first half, and one that is no second
     × (isUtf16 (dump "D8 00 DC 00 D8") ≡ false)  -- the high byte is the second
     × (isUtf16 (dump "D8 00 DC 00") ≡ true)
+    × (isUtf16 (dump "00 00") ≡ true)  -- a NUL
 unfolding bytes-open
-utf16 = (refl, refl, refl, refl, refl, refl, refl, refl, refl, refl, refl, refl, refl)
+utf16 = (refl, refl, refl, refl, refl, refl, refl, refl, refl, refl, refl, refl, refl, refl)

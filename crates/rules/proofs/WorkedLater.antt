@@ -147,6 +147,33 @@ pub a-wide-tree : exit table wide (replicate 12 old) (replicate 36 old) ≡ reco
 unfolding blob-open
 a-wide-tree = refl
 
+-- a node of type 0 with children, whose first property isn't its name
+abbrev typeZero : List ℕ
+typeZero =
+    replicate 14 0x00
+    ++ dump "05 00  01 00 00 00  AA AA AA AA  00 00 00 00  FE 00 00 00"  -- the object: a flag; trailer 254, one node
+    ++ dump "00 00  01 02 03 04"  -- 0x0000
+    ++ dump "11 00  0A 00 00 00  AA AA AA AA  02 00 00 00  41 00  00 00 00 00"  -- Text
+    ++ dump "14 00  0A 00 00 00  AA AA AA AA  00 00 00 00  FF 00 00 00  02 00"  -- an empty name; trailer 255, two children
+    ++ dump "64 00  01 02 03 04"  -- 0x64
+    ++ dump "14 01  0A 00 00 00  AA AA AA AA  02 00 00 00  42 00  FD 00 00 00"  -- 0x0114 is not its name
+    ++ dump "65 00  01 02 03 04"  -- 0x65
+    ++ dump "14 00  0C 00 00 00  AA AA AA AA  02 00 00 00  43 00  FD 00 00 00"  -- a name of type 0x0C
+
+pub type-zero : exit table typeZero (replicate 18 old) (replicate 30 old) ≡ record {
+  answer = answer 0 3 5 1;
+  controls = 0 ∷ 0 ∷ 72 ∷ 0 ∷ 1 ∷ 2
+      ∷ 0x64 ∷ 1 ∷ 1 ∷ 9 ∷ 3 ∷ 1
+      ∷ 0x65 ∷ 0 ∷ 124 ∷ 2 ∷ 4 ∷ 1 ∷ [];
+  properties = 0x05 ∷ 1 ∷ 0 ∷ 0 ∷ 28 ∷ 0
+      ∷ 0x11 ∷ 6 ∷ 0 ∷ 0 ∷ 52 ∷ 2
+      ∷ 0x14 ∷ 6 ∷ 0 ∷ 0 ∷ 72 ∷ 0
+      ∷ 0x114 ∷ 6 ∷ 0 ∷ 0 ∷ 98 ∷ 2
+      ∷ 0x14 ∷ 6 ∷ 0 ∷ 0 ∷ 124 ∷ 2 ∷ [];
+}
+unfolding blob-open
+type-zero = refl
+
 -- the third and the fourth byte of a trailer and of a length
 abbrev thirdByte : List ℕ
 thirdByte =
@@ -175,6 +202,14 @@ third-byte = refl
 pub fourth-byte : exit table fourthByte [] (replicate 6 old) ≡ record { answer = answer 0 0 1 1; controls = []; properties = 5 ∷ 0 ∷ 1 ∷ 0 ∷ 28 ∷ 1 ∷ [] }
 unfolding blob-open
 fourth-byte = refl
+
+-- lengths that would be inside if their sums had 32 bits
+abbrev wrapping : List ℕ
+wrapping = replicate 14 0x00 ++ dump "05 00  01 00 00 00  AA AA AA AA  F0 FF FF FF  FD 00 00 00"
+
+pub no-wrapping : exit table wrapping [] [] .answer ≡ answer 0 0 0 0
+unfolding blob-open
+no-wrapping = refl
 
 -- ---- what is no tree is scanned
 -- the object's group ends by a trailer, but 0x0101 nodes aren't there
@@ -285,6 +320,18 @@ pub unended-node : exit table unended (replicate 6 old) (replicate 12 old) .cont
 unfolding blob-open
 unended-node = refl
 
+-- a tree that reports nothing is no reason to scan
+abbrev silent : List ℕ
+silent =
+    replicate 14 0x00
+    ++ dump "05 00  01 00 00 00  AA AA AA AA  00 00 00 00  FE 00 00 00"  -- the object: a flag; trailer 254, one node
+    ++ dump "64 00  01 02 03 04"  -- 0x64: not reported
+    ++ dump "14 00  0A 00 00 00  AA AA AA AA  02 00 00 00  43 00  FD 00 00 00"  -- its name; trailer 253
+
+pub silent-tree : exit table silent [] (replicate 6 old) .answer ≡ answer 0 0 1 1
+unfolding blob-open
+silent-tree = refl
+
 -- the scan starts behind the trailer that speaks of nodes which aren't there, not behind their count: a match may begin in it
 abbrev countIsMatch : List ℕ
 countIsMatch =
@@ -299,8 +346,8 @@ count-is-match = refl
 -- ---- parts of a stream
 -- a property at 1, by its bytes
 pub later-property :
-    (propertyAt (dump "00  02 03  04 05 06 07  08 09 0A 0B  0C 0D 0E 0F") 1 ≡ record { id = 0x0302; type = 0x07060504; start = 15; size = 0x0F0E0D0C })
-    × (trailerAt (dump "00  02 03  04 05 06 07  08 09 0A 0B  01 00 00 00  99  12 13 14 15") 1 ≡ 0x15141312)
+    (propertyAt (dump "00  82 83  84 85 86 87  08 09 0A 0B  8C 8D 8E 8F") 1 ≡ record { id = 0x8382; type = 0x87868584; start = 15; size = 0x8F8E8D8C })
+    × (trailerAt (dump "00  02 03  04 05 06 07  08 09 0A 0B  01 00 00 00  99  92 93 94 95") 1 ≡ 0x95949392)
     × (endAt (dump "00  02 03  04 05 06 07  08 09 0A 0B  01 00 00 00") 1 ≡ 20)
     × (map endsGroup (252 ∷ 253 ∷ 254 ∷ 255 ∷ 256 ∷ []) ≡ false ∷ true ∷ true ∷ true ∷ false ∷ [])
 unfolding blob-open

@@ -4,7 +4,7 @@ use native.Mathlib.Omega.{arith}
 use mathlib.Core.Path.{_≡_, refl}
 use mathlib.Core.List.{List, [], _∷_, _++_, map}
 use borrow.Author.Tests.{lt-ltb, le-ltb}
-use lib.ListN.{length}
+use lib.ListN.{length, replicate}
 use Rattle.rules.specs.Lists.{concat, text}
 use Rattle.rules.specs.Blob.{outcome}
 use Rattle.rules.specs.Listing.{line, nameColumn, markWord, valueColumn, printed, tableLength, tableIn, blobIn, listing}
@@ -40,6 +40,18 @@ pub listed : printed tree (outcome table tree 256 1024)
 unfolding rules-open
 listed = refl
 
+-- an untied id has no name, whatever its raw code has; a type's name goes by both of its bytes, as shown
+abbrev unnamed : List ℕ
+unnamed = dump "2A" ++ replicate 9 0x00 ++ dump "36 05" ++ dump "FF 02 00" ++ dump "64 01 FF 00 00" ++ dump "99 18 FF 00 00"
+
+pub listed-unnamed : printed unnamed (outcome table unnamed 256 1024)
+    ≡ concat (text "answer 0 2 1 1\n"
+    ∷ text "C 0 0164 - - 1 0\n"
+    ∷ text "C 1 1899 FormHeader - 1 0\n"
+    ∷ text "P 0 8036 - short 5\n" ∷ [])
+unfolding rules-open
+listed-unnamed = refl
+
 -- ---- inputs: the length of the table, the table, a Blob
 pub inputs :
     (listing (dump "00 00 00") ≡ text "answer 8 0 0 0\n")  -- under four bytes
@@ -49,8 +61,9 @@ pub inputs :
     × (listing (dump "04 01 00 00  01 00 00 00") ≡ text "answer 8 0 0 0\n")  -- a length of two bytes
     × (listing (dump "04 00 01 00  01 00 00 00") ≡ text "answer 8 0 0 0\n")  -- of three
     × (listing (dump "04 00 00 01  01 00 00 00") ≡ text "answer 8 0 0 0\n")  -- of four
+    × (listing (dump "FC FF FF FF  01 00 00 00") ≡ text "answer 8 0 0 0\n")  -- with the four bytes before it more than 32 bits
 unfolding rules-open
-inputs = (refl, refl, refl, refl, refl, refl, refl)
+inputs = (refl, refl, refl, refl, refl, refl, refl, refl)
 
 -- ---- fields: a value by mark, low, high, length and bytes; a control's name by mark and length
 pub fields :
@@ -60,11 +73,12 @@ pub fields :
     × (map (λ low. valueColumn 3 low 7 4 []) (0x7FFFFFFF ∷ 0x80000000 ∷ 0xFFFFFFFF ∷ []) ≡ text "2147483647" ∷ text "-2147483648" ∷ text "-1" ∷ [])
     × (valueColumn 4 0x9ABCDEF0 0x12345678 8 [] ≡ text "123456789ABCDEF0")
     × (map (λ mark. valueColumn mark 0 0 15 []) (6 ∷ 7 ∷ 8 ∷ []) ≡ text "7" ∷ text "15" ∷ text "15" ∷ [])
+    × (nameColumn 0 0 ≡ text "0")
     × (map (λ mark. nameColumn mark 9) (0 ∷ 1 ∷ 2 ∷ []) ≡ text "4" ∷ text "-" ∷ text "4" ∷ [])
     × (map markWord (0 ∷ 1 ∷ 2 ∷ 3 ∷ 4 ∷ 5 ∷ 6 ∷ 7 ∷ 8 ∷ []) ≡ text "bool" ∷ text "notdefault" ∷ text "short" ∷ text "long" ∷ text "double" ∷ text "guid" ∷ text "text" ∷ text "binary" ∷ text "loose" ∷ [])
     × (line [] ≡ text "\n")
 unfolding rules-open
-fields = (refl, refl, refl, refl, refl, refl, refl, refl, refl)
+fields = (refl, refl, refl, refl, refl, refl, refl, refl, refl, refl)
 
 -- whatever fits the buffer is listed, with room for 256 controls and 1,024 properties
 pub lists : (input : List ℕ) → length input ≤ 32768 → 4 + tableLength input ≤ length input

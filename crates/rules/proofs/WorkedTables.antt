@@ -18,6 +18,7 @@ many n (suc m) = 2 ∷ n ∷ 0 ∷ 0 ∷ 0 ∷ many (n + 1) m
 pub formed-tables :
     (wellFormed (dump "01 00  00 00") ≡ true)  -- no scope
     × (wellFormed (dump "01 04  00 00  01 00  02 00  00 01  01 01") ≡ true)  -- four header codes
+    × (wellFormed (dump "01 01  00 00  00 00") ≡ true)  -- the header code 0
     × (wellFormed (dump "01 00  40 00" ++ many 1 64) ≡ true)  -- 64 scopes
     × (wellFormed (dump "01 00  01 00  02 07 00  02 00  00 00 00 00  FC FF 7F 04") ≡ true)  -- the first and the last row
     × (wellFormed (dump "01 00  01 00  00 00 00  02 00  00 00 00 00  FC FF 7F 04") ≡ true)  -- of a form
@@ -25,7 +26,7 @@ pub formed-tables :
     × (wellFormed (dump "01 00  03 00  00 00 00  00 00  01 00 00  00 00  02 00 00  00 00") ≡ true)  -- ascending by kind
     × (wellFormed (dump "01 00  02 00  02 01 00  00 00  02 00 01  00 00") ≡ true)  -- then by code
 unfolding bytes-open tables-open
-formed-tables = (refl, refl, refl, refl, refl, refl, refl, refl)
+formed-tables = (refl, refl, refl, refl, refl, refl, refl, refl, refl)
 
 pub unformed-tables :
     (wellFormed [] ≡ false)

@@ -56,8 +56,12 @@ pub parts :
     × (namePart stream buffer 1 5 2 ≡ ofLabel 0 2)  -- a label that fills its buffer
     × (namePart stream buffer 1 0 3 ≡ ofStream 0 0)
     × (namePart stream buffer 3 0 1 ≡ ofStream 0 0)
+    × (namePart stream [] 1 5 0 ≡ ofLabel 0 0)  -- no bytes of an empty label
+    × (namePart [] buffer 2 0 0 ≡ ofStream 0 0)
+    × (namePart stream buffer 0 0xFFFFFFFF 1 ≡ ofStream 0 0)  -- a sum of more than 32 bits
+    × (namePart stream buffer 2 1 0xFFFFFFFF ≡ ofStream 0 0)
 unfolding bytes-open namePart
-parts = (refl, refl, refl, refl, refl, refl, refl, refl, refl, refl, refl, refl)
+parts = (refl, refl, refl, refl, refl, refl, refl, refl, refl, refl, refl, refl, refl, refl, refl, refl)
 
 pub part-bytes : map (partBytes stream buffer) (ofStream 1 2 ∷ ofStream 3 0 ∷ ofLabel 0 1 ∷ ofLabel 1 1 ∷ []) ≡ dump "02 03" ∷ [] ∷ dump "07" ∷ dump "08" ∷ []
 unfolding bytes-open

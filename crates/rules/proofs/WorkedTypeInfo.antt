@@ -40,11 +40,11 @@ a-type-info = refl
 -- ---- types, and names that are empty
 abbrev types : List ℕ
 types =
-    dump "F7 EA CD AC" ++ replicate 8 0x00 ++ dump "09 00 00 00" ++ replicate 16 0x00  -- the count says nine
+    dump "F7 EA CD AC" ++ replicate 8 0x00 ++ dump "0A 00 00 00" ++ replicate 16 0x00  -- the count says ten
     ++ dump "FF 00  00 00  01 00 00 00  41 00  00"  -- 0x00FF is reported
     ++ dump "00 1E  00 00  02 00 00 00  00  00"  -- 0x1E00; both names are empty: the first one's place
     ++ dump "FE 1E  00 00  03 00 00 00  00  42 00"  -- 0x1EFE; the second name
-    ++ dump "00 1F  00 00  04 00 00 00  43 00  44 00"  -- 0x1F00; both: the second
+    ++ dump "00 1F  00 00  04 00 00 00  43 43 00  44 00"  -- 0x1F00; both: the second
     ++ dump "FF 1E  00 00  05 00 00 00  00  00"  -- 0x1EFF is not reported
     ++ dump "02 77  00 00  06 00 00 00  00  00"  -- 0x7702: no 36 bytes
     ++ dump "76 00  00 00  07 00 00 00  00  00"  -- 0x76: none
@@ -56,11 +56,11 @@ pub types-and-names : typeInfoExit types (replicate 32 old) ≡ record {
   rows = 0x00FF ∷ 1 ∷ 40 ∷ 1
       ∷ 0x1E00 ∷ 2 ∷ 51 ∷ 0
       ∷ 0x1EFE ∷ 3 ∷ 62 ∷ 1
-      ∷ 0x1F00 ∷ 4 ∷ 74 ∷ 1
-      ∷ 0x7702 ∷ 6 ∷ 94 ∷ 0
-      ∷ 0x76 ∷ 7 ∷ 104 ∷ 0
-      ∷ 0x78 ∷ 8 ∷ 114 ∷ 0
-      ∷ 0x77 ∷ 9 ∷ 124 ∷ 0 ∷ [];
+      ∷ 0x1F00 ∷ 4 ∷ 75 ∷ 1
+      ∷ 0x7702 ∷ 6 ∷ 95 ∷ 0
+      ∷ 0x76 ∷ 7 ∷ 105 ∷ 0
+      ∷ 0x78 ∷ 8 ∷ 115 ∷ 0
+      ∷ 0x77 ∷ 9 ∷ 125 ∷ 0 ∷ [];
 }
 unfolding bytes-open type-info-open
 types-and-names = refl

@@ -90,7 +90,10 @@ pub kinds :
     (valueAs 1 0xBC (dump "41 00 42 00") ≡ value 3 0x00420041 0)
     × (valueAs 1 0xBD (dump "41 00 42 00") ≡ value 6 0 0)
     × (valueAs 1 0xBD (dump "00 D8") ≡ value 7 0 0)
+    × (valueAs 1 0xBD [] ≡ value 6 0 0)
     × (valueAs 0 0xFC (dump "41 00") ≡ value 7 0 0)
+    × (valueAs 0 0xFC (dump "41 00 00 00") ≡ value 7 0 0)
+    × (valueAs 3 0xBD (dump "00 00 80 3F") ≡ value 7 0 0)
     × (valueAs 4 0xFC (dump "41 00") ≡ value 7 0 0)
     × (valueAs 2 0xBC (replicate 16 0x00) ≡ value 3 0 0)
     × (valueAs 2 0xBD (replicate 15 0x00) ≡ value 7 0 0)
@@ -101,7 +104,7 @@ pub kinds :
     × (valueAs 3 0xBD (replicate 7 0x00) ≡ value 7 0 0)
     × (valueAs 3 0xBD (replicate 9 0x00) ≡ value 7 0 0)
 unfolding bytes-open
-kinds = (refl, refl, refl, refl, refl, refl, refl, refl, refl, refl, refl, refl, refl)
+kinds = (refl, refl, refl, refl, refl, refl, refl, refl, refl, refl, refl, refl, refl, refl, refl, refl)
 
 -- the mark that each kind gives eight, and sixteen, bytes of 0x41
 pub marks-by-kind :
