@@ -3,12 +3,31 @@
 use crate::batch;
 use crate::cases::build::*;
 use crate::cases::rng::Rng;
-use crate::cases::{Case, Kind};
+use crate::cases::{worked, Case, Kind};
 use crate::expect::Judge;
 use crate::plain::codes::Codes;
 use crate::plain::{self, value, Name, Shape};
 use crate::program::Run;
 use crate::{listing, long, oracle, speed};
+
+// ---- what is proved of the definitions
+
+#[test]
+fn every_worked_stream_is_taken() {
+    let (all, left) = worked::claims();
+    // Left out are two code tables that a function makes, of 64 and of 65 scopes, and a law.
+    assert!(all > 100 && left.len() == 3, "{all} claims, left out {left:#?}");
+}
+
+#[test]
+fn name_tables_have_the_numbers_that_are_proved() {
+    let proved = include_str!("../../crates/rules/proofs/WorkedNames.antt");
+    for (name, table) in ["textNames", "numberNames", "bytesNames", "controlTypeNames"].iter().zip(crate::form::name_tables()) {
+        let letters = table.iter().flat_map(|(id, name)| [*id as u64].into_iter().chain(name.bytes().map(u64::from)).chain([0]));
+        let digest = letters.fold(0, |so_far, x| (so_far * 257 + x) % 2_147_483_647);
+        assert!(proved.contains(&format!("digest 0 (letters {name}) ≡ {digest}\n")), "{name} {digest}");
+    }
+}
 
 // ---- the code table
 

@@ -3,8 +3,9 @@
 use super::build::*;
 use super::{strings, Case, Sink};
 
-/// Streams that must be in every selection: the examples of document 01, the depths, the lengths.
+/// Streams that must be in every selection: the worked ones, the examples of document 01, the depths, the lengths.
 pub fn telling(out: Sink) {
+    super::worked::streams(out);
     examples(out);
     whole_forms(out);
     depths(out);

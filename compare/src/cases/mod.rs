@@ -6,6 +6,7 @@ pub mod leaves;
 pub mod random;
 pub mod rng;
 pub mod typeinfo;
+pub mod worked;
 
 use crate::listing::{CONTROL_WORDS, PROPERTY_WORDS};
 use std::rc::Rc;

@@ -4,7 +4,6 @@ use mathlib.Core.Path.{_≡_, refl}
 use mathlib.Core.List.{List, [], _∷_, _++_, map}
 use mathlib.Core.Option.{none, some}
 use lib.ListN.{take, replicate}
-use Prim.Native.String.{String}
 use Rattle.rules.specs.Lists.{concat}
 use Rattle.rules.specs.Answer.{answer, refusal}
 use Rattle.rules.specs.Tree.{end}
@@ -235,35 +234,32 @@ unfolding blob-open
 no-report = refl
 
 -- ---- streams that fit no reading
--- an Access 2000 stream by what stands behind its first ten bytes
-abbrev behind : String → List ℕ
-behind tail = dump "2A" ++ replicate 9 0x00 ++ dump tail
+-- the first ten bytes of one under K1's table
+abbrev head : List ℕ
+head = dump "2A" ++ replicate 9 0x00
 
 pub no-reading :
-    map (λ tail. streamOf (behind tail))
-    (""  -- nothing
-    ∷ "01"  -- a run and no list
-    ∷ "FD"  -- no list in the place of the top list
-    ∷ "30"  -- a value of one byte that isn't there
-    ∷ "60 01"  -- one of two
-    ∷ "80 01 02 03"  -- one of four
-    ∷ "BD"  -- a length that isn't there
-    ∷ "BD FF 01"  -- one of two bytes
-    ∷ "BD 02 41"  -- bytes that aren't there
-    ∷ "FF"  -- a count that isn't there
-    ∷ "FF 01"
-    ∷ "FE"  -- an entry that isn't there
-    ∷ "FF 02 00 98 00 FD"  -- the second of two
-    ∷ "FE 98"  -- a type of one byte
-    ∷ "FE 98 00"  -- an entry that ends by nothing
-    ∷ "FF 00 00 00"  -- a byte behind the list
-    ∷ [])
-    ≡ replicate 16 none
+    (streamOf (head ++ dump "") ≡ none)  -- nothing
+    × (streamOf (head ++ dump "01") ≡ none)  -- a run and no list
+    × (streamOf (head ++ dump "FD") ≡ none)  -- no list in the place of the top list
+    × (streamOf (head ++ dump "30") ≡ none)  -- a value of one byte that isn't there
+    × (streamOf (head ++ dump "60 01") ≡ none)  -- one of two
+    × (streamOf (head ++ dump "80 01 02 03") ≡ none)  -- one of four
+    × (streamOf (head ++ dump "BD") ≡ none)  -- a length that isn't there
+    × (streamOf (head ++ dump "BD FF 01") ≡ none)  -- one of two bytes
+    × (streamOf (head ++ dump "BD 02 41") ≡ none)  -- bytes that aren't there
+    × (streamOf (head ++ dump "FF") ≡ none)  -- a count that isn't there
+    × (streamOf (head ++ dump "FF 01") ≡ none)  -- one of two bytes, of which one is
+    × (streamOf (head ++ dump "FE") ≡ none)  -- an entry that isn't there
+    × (streamOf (head ++ dump "FF 02 00 98 00 FD") ≡ none)  -- the second of two
+    × (streamOf (head ++ dump "FE 98") ≡ none)  -- a type of one byte
+    × (streamOf (head ++ dump "FE 98 00") ≡ none)  -- an entry that ends by nothing
+    × (streamOf (head ++ dump "FF 00 00 00") ≡ none)  -- a byte behind the list
 unfolding blob-open
-no-reading = refl
+no-reading = (refl, refl, refl, refl, refl, refl, refl, refl, refl, refl, refl, refl, refl, refl, refl, refl)
 
 -- an empty top list is one
-pub empty-reading : streamOf (behind "FF 00 00") ≡ some ([], end)
+pub empty-reading : streamOf (head ++ dump "FF 00 00") ≡ some ([], end)
 unfolding blob-open
 empty-reading = refl
 
@@ -315,7 +311,7 @@ spots-of-report = refl
 
 -- ---- eleven sections without a name: the label of the last has ten letters
 abbrev sections : List ℕ
-sections = dump "2A" ++ replicate 9 0x00 ++ dump "FF 0B 00" ++ concat (replicate 11 (dump "98 00 FD"))
+sections = head ++ dump "FF 0B 00" ++ concat (replicate 11 (dump "98 00 FD"))
 
 pub eleven : exit table sections (replicate 66 old) [] .controls
     ≡ concat (map (λ n. 0x98 ∷ 1 ∷ n ∷ 9 ∷ 0 ∷ 0 ∷ []) (0 ∷ 1 ∷ 2 ∷ 3 ∷ 4 ∷ 5 ∷ 6 ∷ 7 ∷ 8 ∷ 9 ∷ [])) ++ (0x98 ∷ 1 ∷ 10 ∷ 10 ∷ 0 ∷ 0 ∷ [])
@@ -324,14 +320,14 @@ eleven = refl
 
 -- ---- depths: so many entries, each below the one before it, and the deepest at level 255 or 256
 abbrev level255 : List ℕ
-level255 = dump "2A" ++ replicate 9 0x00 ++ concat (replicate 256 (dump "FE 98 00")) ++ dump "FD"
+level255 = head ++ concat (replicate 256 (dump "FE 98 00")) ++ dump "FD"
 
 -- an empty list at level 256
 abbrev level255Empty : List ℕ
-level255Empty = dump "2A" ++ replicate 9 0x00 ++ concat (replicate 256 (dump "FE 98 00")) ++ dump "FF 00 00"
+level255Empty = head ++ concat (replicate 256 (dump "FE 98 00")) ++ dump "FF 00 00"
 
 abbrev level256 : List ℕ
-level256 = dump "2A" ++ replicate 9 0x00 ++ concat (replicate 257 (dump "FE 98 00")) ++ dump "FD"
+level256 = head ++ concat (replicate 257 (dump "FE 98 00")) ++ dump "FD"
 
 pub depth-255 : exit table level255 [] [] .answer ≡ answer 6 256 0 0
 unfolding blob-open
