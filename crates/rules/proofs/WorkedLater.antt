@@ -308,6 +308,43 @@ pub near-matches : exit table near (replicate 12 old) (replicate 54 old) ≡ rec
 unfolding blob-open
 near-matches = refl
 
+-- a match of which the stream has all six bytes, and no more: it ends the group before it
+abbrev endsByMatch : List ℕ
+endsByMatch =
+    replicate 14 0x00
+    ++ dump "05 00  01 00 00 00  AA AA AA AA  00 00 00 00  00 00 00 00"  -- the object: a flag
+    ++ dump "FF FF FF"  -- no property
+    ++ dump "14 00  0A 00 00 00  AA AA AA AA  00 00 00 00  01 00 00 00"  -- a match: an empty name
+    ++ dump "11 00  0B 00 00 00  AA AA AA AA  02 00 00 00  14 00  0A 00 00 00"  -- cut off by the match at its end
+
+pub ends-by-match : exit table endsByMatch (replicate 6 old) (replicate 12 old) ≡ record {
+  answer = answer 0 1 2 1;
+  controls = 0 ∷ 0 ∷ 49 ∷ 0 ∷ 1 ∷ 1 ∷ [];
+  properties = 0x05 ∷ 1 ∷ 0 ∷ 0 ∷ 28 ∷ 0
+      ∷ 0x14 ∷ 6 ∷ 0 ∷ 0 ∷ 49 ∷ 0 ∷ [];
+}
+unfolding blob-open
+ends-by-match = refl
+
+-- five of them are no match
+abbrev endsByFive : List ℕ
+endsByFive =
+    replicate 14 0x00
+    ++ dump "05 00  01 00 00 00  AA AA AA AA  00 00 00 00  00 00 00 00"  -- the object: a flag
+    ++ dump "FF FF FF"  -- no property
+    ++ dump "14 00  0A 00 00 00  AA AA AA AA  00 00 00 00  01 00 00 00"  -- a match: an empty name
+    ++ dump "11 00  0B 00 00 00  AA AA AA AA  01 00 00 00  14  00 0A 00 00"  -- Binary; trailer 0x0A00
+
+pub ends-by-five : exit table endsByFive (replicate 6 old) (replicate 18 old) ≡ record {
+  answer = answer 0 1 3 1;
+  controls = 0 ∷ 0 ∷ 49 ∷ 0 ∷ 1 ∷ 2 ∷ [];
+  properties = 0x05 ∷ 1 ∷ 0 ∷ 0 ∷ 28 ∷ 0
+      ∷ 0x14 ∷ 6 ∷ 0 ∷ 0 ∷ 49 ∷ 0
+      ∷ 0x11 ∷ 7 ∷ 0 ∷ 0 ∷ 67 ∷ 1 ∷ [];
+}
+unfolding blob-open
+ends-by-five = refl
+
 -- a node's group that ends by no trailer: the tree fails, and the scan finds the name
 abbrev unended : List ℕ
 unended =

@@ -7,7 +7,7 @@ use borrow.Author.Tests.{lt-ltb, le-ltb}
 use lib.ListN.{length, replicate}
 use Rattle.rules.specs.Lists.{concat, text}
 use Rattle.rules.specs.Blob.{outcome}
-use Rattle.rules.specs.Listing.{line, nameColumn, markWord, valueColumn, printed, tableLength, tableIn, blobIn, listing}
+use Rattle.rules.specs.Listing.{line, word, nameColumn, markWord, valueColumn, printed, tableLength, tableIn, blobIn, listing}
 use Rattle.rules.specs.Dump.{dump}
 use Rattle.rules.specs.Examples.{table}
 use Rattle.rules.proofs.Open.{rules-open}
@@ -77,8 +77,9 @@ pub fields :
     × (map (λ mark. nameColumn mark 9) (0 ∷ 1 ∷ 2 ∷ []) ≡ text "4" ∷ text "-" ∷ text "4" ∷ [])
     × (map markWord (0 ∷ 1 ∷ 2 ∷ 3 ∷ 4 ∷ 5 ∷ 6 ∷ 7 ∷ 8 ∷ []) ≡ text "bool" ∷ text "notdefault" ∷ text "short" ∷ text "long" ∷ text "double" ∷ text "guid" ∷ text "text" ∷ text "binary" ∷ text "loose" ∷ [])
     × (line [] ≡ text "\n")
+    × (map (word (1 ∷ 2 ∷ [])) (0 ∷ 1 ∷ 2 ∷ []) ≡ 1 ∷ 2 ∷ 0 ∷ [])
 unfolding rules-open
-fields = (refl, refl, refl, refl, refl, refl, refl, refl, refl, refl)
+fields = (refl, refl, refl, refl, refl, refl, refl, refl, refl, refl, refl)
 
 -- whatever fits the buffer is listed, with room for 256 controls and 1,024 properties
 pub lists : (input : List ℕ) → length input ≤ 32768 → 4 + tableLength input ≤ length input

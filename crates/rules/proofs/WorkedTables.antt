@@ -2,10 +2,10 @@
 use Prim.Native.Nat.{ℕ, zero, suc, _+_}
 use mathlib.Core.Path.{_≡_, refl}
 use mathlib.Core.Bool.{true, false}
-use mathlib.Core.List.{List, [], _∷_, _++_, map}
+use mathlib.Core.List.{List, [], _∷_, _++_, map, List·Memᴰ·head, List·Memᴰ·tail}
 use mathlib.Core.Option.{none, some}
 use lib.ListN.{replicate}
-use Rattle.rules.specs.CodeTable.{keyOf, layout, header, wellFormed, rowOf}
+use Rattle.rules.specs.CodeTable.{Tie, Holds, Extends, keyOf, layout, header, wellFormed, rowOf}
 use Rattle.rules.specs.Dump.{dump}
 use Rattle.rules.proofs.OpenBytes.{bytes-open}
 use Rattle.rules.proofs.OpenTables.{tables-open}
@@ -91,3 +91,22 @@ scopes-looked-up = (refl, refl, refl, refl, refl, refl, refl, refl, refl, refl)
 -- the first kind's largest code is below the next kind's least
 pub keys : (keyOf 0 0xFFFF ≡ 0xFFFF) × (keyOf 1 0 ≡ 0x10000) × (keyOf 2 0x64 ≡ 0x20064)
 keys = (refl, refl, refl)
+
+-- ---- what a table holds, said without looking up: the second row of the report's scope
+abbrev tie : ℕ → ℕ → ℕ → Tie
+tie id target kind = record { id = id; target = target; kind = kind }
+
+pub held : Holds scoped 1 0 (tie 0x41 0x0312 2)
+unfolding bytes-open tables-open
+held = record {
+  scope = record { kind = 1; code = 0; rows = tie 0x40 0x0211 1 ∷ tie 0x41 0x0312 2 ∷ [] };
+  listed = List·Memᴰ·tail (List·Memᴰ·head refl);
+  its-kind = refl;
+  its-code = refl;
+  row = List·Memᴰ·tail (List·Memᴰ·head refl);
+}
+
+-- a table that has learned the form's scope holds every row of the one before it
+pub extended : Extends (dump "01 00  01 00  02 64 00  01 00  60 36 00 00") (dump "01 00  02 00  00 00 00  01 00  02 64 00  01 00  31 2D 00 00  60 36 00 00")
+unfolding bytes-open tables-open
+extended kind code r h = record { scope = h .scope; listed = List·Memᴰ·tail (h .listed); its-kind = h .its-kind; its-code = h .its-code; row = h .row }
