@@ -185,8 +185,10 @@ impl<'a> File<'a> {
                 out(Case::other("worked", Kind::TypeInfo, [4 * room.first()?, 0], bytes(&stream)));
             }
             Word("printed") => {
-                let [stream] = self.atoms(at + 1)?;
-                out(Case::listing("worked", &bytes(table), &bytes(&stream)));
+                // (outcome TABLE STREAM ..) stands behind it
+                let (stream, end) = self.atom(at + 1)?;
+                let [table] = self.atoms(end + 2)?;
+                out(Case::listing("worked", &bytes(&table), &bytes(&stream)));
             }
             Word("listing") => {
                 let [input] = self.atoms(at + 1)?;

@@ -1,13 +1,14 @@
 -- Worked streams of "Access 2000 layout", by computation. A line of a stream is one part of it, with what it is; docs/WRONG-READINGS.md says what they notice.
 use Prim.Native.Nat.{ℕ}
 use mathlib.Core.Path.{_≡_, refl}
+use mathlib.Core.Bool.{true, false}
 use mathlib.Core.List.{List, [], _∷_, _++_, map}
 use mathlib.Core.Option.{none, some}
 use lib.ListN.{take, replicate}
 use Rattle.rules.specs.Lists.{concat}
 use Rattle.rules.specs.Answer.{answer, refusal}
 use Rattle.rules.specs.Tree.{end}
-use Rattle.rules.specs.Access2000.{lengthAt, extentAt, runAt, headAt, streamOf}
+use Rattle.rules.specs.Access2000.{lengthAt, extentAt, propertyAt, goesOn, runAt, headAt, streamOf}
 use Rattle.rules.specs.Read2000.{Spot}
 use Rattle.rules.specs.Blob.{exit, spots}
 use Rattle.rules.specs.Dump.{dump}
@@ -145,7 +146,7 @@ a-form = refl
 -- ---- scopes and header codes
 abbrev scopeTable : List ℕ
 scopeTable =
-    dump "31 03  05 00  63 00  99 00  63 6A"  -- layout byte; three header codes; five scopes; the header codes 0x63, 0x99, 0x6A63
+    dump "31 03  05 00  63 00  9A 00  63 6A"  -- layout byte; three header codes; five scopes; the header codes 0x63, 0x9A, 0x6A63
     ++ dump "00 00 00  02 00"  -- form: two rows
     ++ dump "01 00 00  01 00"  -- report: one
     ++ dump "02 00 00  01 00"  -- entry 0x0000: one
@@ -168,7 +169,7 @@ scopeEntries =
     ++ dump "63 6A 40 04 FF 00 00"  -- 0x6A63: joined to all of it
     ++ dump "00 00 40 05 FF 00 00"  -- 0x0000: an entry's scope
     ++ dump "98 01 40 06 DF 02 41 00 DC 02 42 00 FE"  -- 0x0198 is no section: its name is 0xDC; one entry below it
-    ++ dump "99 00 40 07 FD"  -- 0x0099: a header code below another entry
+    ++ dump "9A 00 40 07 FD"  -- 0x009A: a header code below another entry
     ++ dump "FD FE 40 08 FF 00 00"  -- 0xFEFD: a type's bytes end nothing
 
 abbrev scopesOfForm : List ℕ
@@ -181,7 +182,7 @@ pub form-scopes : exit scopeTable scopesOfForm (replicate 42 old) (replicate 66 
       ∷ 0x7A63 ∷ 1 ∷ 2 ∷ 9 ∷ 4 ∷ 1
       ∷ 0x0000 ∷ 1 ∷ 3 ∷ 9 ∷ 5 ∷ 1
       ∷ 0x0198 ∷ 0 ∷ 55 ∷ 2 ∷ 6 ∷ 3
-      ∷ 0x1899 ∷ 1 ∷ 5 ∷ 9 ∷ 9 ∷ 1
+      ∷ 0x189A ∷ 1 ∷ 5 ∷ 9 ∷ 9 ∷ 1
       ∷ 0xFEFD ∷ 1 ∷ 6 ∷ 9 ∷ 10 ∷ 1 ∷ [];
   properties = 0x10 ∷ 2 ∷ 1 ∷ 0 ∷ 11 ∷ 1
       ∷ 0x15 ∷ 2 ∷ 9 ∷ 0 ∷ 13 ∷ 1
@@ -208,7 +209,7 @@ pub report-scopes : exit scopeTable scopesOfReport (replicate 42 old) (replicate
       ∷ 0x7B63 ∷ 1 ∷ 2 ∷ 9 ∷ 4 ∷ 1
       ∷ 0x0000 ∷ 1 ∷ 3 ∷ 9 ∷ 5 ∷ 1
       ∷ 0x0198 ∷ 0 ∷ 55 ∷ 2 ∷ 6 ∷ 3
-      ∷ 0x1999 ∷ 1 ∷ 5 ∷ 9 ∷ 9 ∷ 1
+      ∷ 0x199A ∷ 1 ∷ 5 ∷ 9 ∷ 9 ∷ 1
       ∷ 0xFEFD ∷ 1 ∷ 6 ∷ 9 ∷ 10 ∷ 1 ∷ [];
   properties = 0x11 ∷ 2 ∷ 1 ∷ 0 ∷ 11 ∷ 1
       ∷ 0x8041 ∷ 2 ∷ 9 ∷ 0 ∷ 13 ∷ 1
@@ -277,7 +278,7 @@ pub heads :
     (headAt (dump "00 FD") 1 ≡ some (none, 2))
     × (headAt (dump "00 FE") 1 ≡ some (some 1, 2))
     × (headAt (dump "00 FF 05 01") 1 ≡ some (some 0x0105, 4))
-    × (headAt (dump "00 FC") 1 ≡ none)
+    × (headAt (dump "00 FC 05 01") 1 ≡ none)
     × (headAt (dump "00 FF 05") 1 ≡ none)
 unfolding blob-open
 heads = (refl, refl, refl, refl, refl)
@@ -288,6 +289,14 @@ pub extents :
     ≡ some (1, 0) ∷ some (1, 0) ∷ some (1, 1) ∷ some (1, 1) ∷ some (1, 2) ∷ some (1, 2) ∷ some (1, 4) ∷ some (1, 4) ∷ some (2, 2) ∷ some (2, 2) ∷ []
 unfolding blob-open
 extents = refl
+
+pub values-inside :
+    (propertyAt (dump "00 00 60 01") 2 ≡ none)
+    × (propertyAt (dump "00 00 60 01 02") 2 ≡ some (record { id = 0x60; start = 3; size = 2 }))
+    × (propertyAt (dump "00 BD 02 41 00") 1 ≡ some (record { id = 0xBD; start = 3; size = 2 }))
+    × (map (goesOn (dump "01 FC FD")) (0 ∷ 1 ∷ 2 ∷ 3 ∷ []) ≡ true ∷ true ∷ false ∷ false ∷ [])
+unfolding blob-open
+values-inside = (refl, refl, refl, refl)
 
 pub runs :
     (runAt (dump "00 01 30 07") 1 ≡ some (record { id = 0x01; start = 2; size = 0 } ∷ record { id = 0x30; start = 3; size = 1 } ∷ [], 4))

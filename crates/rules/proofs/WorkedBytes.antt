@@ -5,6 +5,7 @@ use mathlib.Core.Path.{_≡_, refl}
 use mathlib.Core.Bool.{true, false}
 use mathlib.Core.List.{List, [], _∷_, map}
 use mathlib.Core.Option.{none, some}
+use lib.Dec.{leb}
 use Rattle.rules.specs.Lists.{concat, all, keep, find, has, ascends}
 use Rattle.rules.specs.Bytes.{Bytes, byte, u16, u32, part, byteAt, halfAt}
 use Rattle.rules.specs.Utf16.{isUtf16}
@@ -40,9 +41,13 @@ not-256 h = let wrong : 256 < 256 = h 0 in omega arith
 pub lists :
     (map (has 5) ([] ∷ (4 ∷ []) ∷ (5 ∷ 4 ∷ []) ∷ (4 ∷ 5 ∷ []) ∷ []) ≡ false ∷ false ∷ true ∷ true ∷ [])
     × (map (ascends 3) ([] ∷ (2 ∷ []) ∷ (3 ∷ 4 ∷ []) ∷ (3 ∷ 3 ∷ []) ∷ (4 ∷ 6 ∷ 5 ∷ []) ∷ []) ≡ true ∷ false ∷ true ∷ false ∷ false ∷ [])
+    × (keep (leb 5) (5 ∷ 1 ∷ 6 ∷ 2 ∷ []) ≡ 5 ∷ 6 ∷ [])
+    × (keep (leb 5) (1 ∷ 5 ∷ 2 ∷ []) ≡ 5 ∷ [])
+    × (map (find (leb 5)) ([] ∷ (1 ∷ 2 ∷ []) ∷ (1 ∷ 6 ∷ 5 ∷ []) ∷ []) ≡ none ∷ none ∷ some 6 ∷ [])
+    × (map (all (leb 5)) ([] ∷ (5 ∷ 6 ∷ []) ∷ (5 ∷ 4 ∷ []) ∷ (4 ∷ 5 ∷ []) ∷ []) ≡ true ∷ true ∷ false ∷ false ∷ [])
     × (concat (dump "01 02" ∷ [] ∷ dump "03" ∷ []) ≡ dump "01 02 03")
 unfolding bytes-open
-lists = (refl, refl, refl)
+lists = (refl, refl, refl, refl, refl, refl, refl)
 
 -- ---- rows: how many have room, what is written, row i
 pub rows :

@@ -8,7 +8,7 @@ use lib.Dec.{eqb}
 use lib.ListN.{length, take, replicate}
 use Rattle.rules.specs.Lists.{_>>=_, concat}
 use Rattle.rules.specs.Answer.{answer}
-use Rattle.rules.specs.Later.{propertyAt, endAt, trailerAt, endsGroup, objectGroup, childrenAt, nodesAt, treeOf}
+use Rattle.rules.specs.Later.{propertyAt, endAt, trailerAt, endsGroup, groupOf, matchAt, objectGroup, childrenAt, nodesAt, treeOf}
 use Rattle.rules.specs.Blob.{exit}
 use Rattle.rules.specs.Dump.{dump}
 use Rattle.rules.specs.Examples.{old, table}
@@ -284,6 +284,7 @@ near =
     ++ dump "14 01  0A 00 00 00  AA AA AA AA  00 00 00 00  01 00 00 00"  -- no match: id 0x0114
     ++ dump "13 00  0A 00 00 00  AA AA AA AA  00 00 00 00  01 00 00 00"  -- id 0x0013
     ++ dump "14 00  0B 00 00 00  AA AA AA AA  00 00 00 00  01 00 00 00"  -- type 0x0B
+    ++ dump "14 00  09 00 00 00  AA AA AA AA  00 00 00 00  01 00 00 00"  -- type 0x09
     ++ dump "14 00  0A 01 00 00  AA AA AA AA  00 00 00 00  01 00 00 00"  -- type 0x010A
     ++ dump "14 00  0A 00 01 00  AA AA AA AA  00 00 00 00  01 00 00 00"  -- type 0x0001000A
     ++ dump "14 00  0A 00 00 01  AA AA AA AA  00 00 00 00  01 00 00 00"  -- type 0x0100000A
@@ -291,10 +292,10 @@ near =
     ++ dump "14 00  0A 00 00 00  01 00 00 00  02 00 00 00  43 00  FE 00 00 00"  -- a match: a name; trailer 254 ends the group
     ++ dump "64 00  01 02 03 04"  -- its child is not looked for
 
-pub near-matches : exit table near (replicate 12 old) (replicate 54 old) ≡ record {
-  answer = answer 0 2 9 1;
-  controls = 0 ∷ 0 ∷ 49 ∷ 0 ∷ 1 ∷ 7
-      ∷ 0 ∷ 0 ∷ 189 ∷ 2 ∷ 8 ∷ 1 ∷ [];
+pub near-matches : exit table near (replicate 12 old) (replicate 60 old) ≡ record {
+  answer = answer 0 2 10 1;
+  controls = 0 ∷ 0 ∷ 49 ∷ 0 ∷ 1 ∷ 8
+      ∷ 0 ∷ 0 ∷ 207 ∷ 2 ∷ 9 ∷ 1 ∷ [];
   properties = 0x05 ∷ 1 ∷ 0 ∷ 0 ∷ 28 ∷ 0
       ∷ 0x14 ∷ 6 ∷ 0 ∷ 0 ∷ 49 ∷ 0
       ∷ 0x114 ∷ 6 ∷ 0 ∷ 0 ∷ 67 ∷ 0
@@ -303,7 +304,8 @@ pub near-matches : exit table near (replicate 12 old) (replicate 54 old) ≡ rec
       ∷ 0x14 ∷ 7 ∷ 0 ∷ 0 ∷ 121 ∷ 0
       ∷ 0x14 ∷ 7 ∷ 0 ∷ 0 ∷ 139 ∷ 0
       ∷ 0x14 ∷ 7 ∷ 0 ∷ 0 ∷ 157 ∷ 0
-      ∷ 0x14 ∷ 6 ∷ 0 ∷ 0 ∷ 189 ∷ 2 ∷ [];
+      ∷ 0x14 ∷ 7 ∷ 0 ∷ 0 ∷ 175 ∷ 0
+      ∷ 0x14 ∷ 6 ∷ 0 ∷ 0 ∷ 207 ∷ 2 ∷ [];
 }
 unfolding blob-open
 near-matches = refl
@@ -357,6 +359,18 @@ pub unended-node : exit table unended (replicate 6 old) (replicate 12 old) .cont
 unfolding blob-open
 unended-node = refl
 
+-- a node's count that isn't there
+abbrev cutCount : List ℕ
+cutCount =
+    replicate 14 0x00
+    ++ dump "05 00  01 00 00 00  AA AA AA AA  00 00 00 00  FE 00 00 00"  -- the object: a flag; trailer 254, one node
+    ++ dump "98 00  01 02 03 04"  -- 0x98
+    ++ dump "14 00  0A 00 00 00  AA AA AA AA  02 00 00 00  43 00  FF 00 00 00"  -- a name; trailer 255 and no count
+
+pub cut-count : exit table cutCount (replicate 6 old) (replicate 12 old) .controls ≡ 0 ∷ 0 ∷ 52 ∷ 2 ∷ 1 ∷ 1 ∷ []
+unfolding blob-open
+cut-count = refl
+
 -- a tree that reports nothing is no reason to scan
 abbrev silent : List ℕ
 silent =
@@ -389,6 +403,20 @@ pub later-property :
     × (map endsGroup (252 ∷ 253 ∷ 254 ∷ 255 ∷ 256 ∷ []) ≡ false ∷ true ∷ true ∷ true ∷ false ∷ [])
 unfolding blob-open
 later-property = (refl, refl, refl, refl)
+
+-- how far a group is read, and where it stops
+pub groups :
+    (groupOf 0 (replicate 40 0x00) 40 3 .stop ≡ 3)
+    × (groupOf 1 (replicate 40 0x00) 40 3 .stop ≡ 21)
+    × (groupOf 2 (replicate 40 0x00) 38 3 .stop ≡ 21)
+    × (groupOf 2 (replicate 40 0x00) 39 3 .stop ≡ 39)
+unfolding blob-open
+groups = (refl, refl, refl, refl)
+
+pub matches :
+    map (matchAt (dump "00  14 00  0A 00 00 00  14 00  0A 00 00")) (0 ∷ 1 ∷ 2 ∷ 7 ∷ []) ≡ false ∷ true ∷ false ∷ false ∷ []
+unfolding blob-open
+matches = refl
 
 pub children :
     (childrenAt (dump "05 01 02") 253 1 ≡ some (0, 1))

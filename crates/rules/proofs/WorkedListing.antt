@@ -52,6 +52,18 @@ pub listed-unnamed : printed unnamed (outcome table unnamed 256 1024)
 unfolding rules-open
 listed-unnamed = refl
 
+-- a Guid that starts at 12
+abbrev guid : List ℕ
+guid = dump "2A" ++ replicate 9 0x00 ++ dump "BD 10  10 11 12 13 14 15 16 17 18 19 1A 1B 1C 1D 1E 1F" ++ dump "FF 00 00"
+
+-- form: 0xBD Guid
+abbrev guidTable : List ℕ
+guidTable = dump "2A 00  01 00  00 00 00  01 00  BD 78 01 02"
+
+pub listed-guid : printed guid (outcome guidTable guid 256 1024) ≡ text "answer 0 0 1 1\nP 0 0178 GUID guid {13121110-1514-1716-1819-1A1B1C1D1E1F}\n"
+unfolding rules-open
+listed-guid = refl
+
 -- ---- inputs: the length of the table, the table, a Blob
 pub inputs :
     (listing (dump "00 00 00") ≡ text "answer 8 0 0 0\n")  -- under four bytes

@@ -5,7 +5,7 @@ use mathlib.Core.Bool.{true, false}
 use mathlib.Core.List.{List, [], _∷_, _++_, map, List·Memᴰ·head, List·Memᴰ·tail}
 use mathlib.Core.Option.{none, some}
 use lib.ListN.{replicate}
-use Rattle.rules.specs.CodeTable.{Tie, Holds, Extends, keyOf, layout, header, wellFormed, rowOf}
+use Rattle.rules.specs.CodeTable.{Tie, Holds, Extends, keyOf, key, layout, header, wellFormed, rowOf}
 use Rattle.rules.specs.Dump.{dump}
 use Rattle.rules.proofs.OpenBytes.{bytes-open}
 use Rattle.rules.proofs.OpenTables.{tables-open}
@@ -89,8 +89,16 @@ unfolding bytes-open tables-open
 scopes-looked-up = (refl, refl, refl, refl, refl, refl, refl, refl, refl, refl)
 
 -- the first kind's largest code is below the next kind's least
-pub keys : (keyOf 0 0xFFFF ≡ 0xFFFF) × (keyOf 1 0 ≡ 0x10000) × (keyOf 2 0x64 ≡ 0x20064)
+pub keys : (keyOf 0 0xFFFF ≡ 0xFFFF) × (keyOf 1 0 ≡ 0x10000) × (key (record { kind = 2; code = 0x64; rows = [] }) ≡ 0x20064)
 keys = (refl, refl, refl)
+
+-- a report's scope is no form's; where a table that isn't well formed has two scopes or two rows for one, the first is found
+pub first-found :
+    (rowOf (dump "01 00  01 00  01 00 00  01 00  40 11 00 00") 0 0 0x40 ≡ none)
+    × (rowOf (dump "01 00  02 00  02 64 00  01 00  02 64 00  01 00  40 11 00 00  40 12 00 00") 2 0x64 0x40 ≡ some (record { id = 0x40; target = 0x11; kind = 0 }))
+    × (rowOf (dump "01 00  01 00  02 64 00  02 00  40 11 00 00  40 12 00 00") 2 0x64 0x40 ≡ some (record { id = 0x40; target = 0x11; kind = 0 }))
+unfolding bytes-open tables-open
+first-found = (refl, refl, refl)
 
 -- ---- what a table holds, said without looking up: the second row of the report's scope
 abbrev tie : ℕ → ℕ → ℕ → Tie

@@ -98,12 +98,13 @@ type-info-no-room = refl
 pub type-info-refusals :
     (typeInfoAnswer oneByte 9 ≡ refusal 1)
     × (typeInfoAnswer otherMagic 9 ≡ refusal 2)
+    × (typeInfoAnswer (replicate 40 0x00) 9 ≡ refusal 2)
     × (typeInfoAnswer forty-seven 0 ≡ refusal 3)
     × (typeInfoAnswer forty-eight 9 ≡ answer 0 1 0 0)
     × (typeInfoAnswer headerOnly 0 ≡ refusal 0)
     × (typeInfoAnswer countThird 0 ≡ refusal 3)
 unfolding bytes-open type-info-open
-type-info-refusals = (refl, refl, refl, refl, refl, refl)
+type-info-refusals = (refl, refl, refl, refl, refl, refl, refl)
 
 pub type-info-too-long : (s : List ℕ) (n : ℕ) → 16777216 < length s → typeInfoAnswer s n ≡ refusal 5
 unfolding typeInfoAnswer

@@ -22,6 +22,7 @@ pub values :
     × (entryValue 0x03 [] ≡ value 7 0 0)
     × (entryValue 0x04 (dump "00 00 00 80") ≡ value 3 0x80000000 0)
     × (entryValue 0x06 (dump "01 02 B3 3E") ≡ value 4 0x20000000 0x3FD66040)
+    × (entryValue 0x06 (dump "0F 02 B3 3E") ≡ value 4 0xE0000000 0x3FD66041)
     × (entryValue 0x08 (dump "11 22 33 44 55 66 77 88") ≡ value 4 0x44332211 0x88776655)
     × (entryValue 0x07 (replicate 8 0x00) ≡ value 7 0 0)
     × (entryValue 0x08 (replicate 4 0x00) ≡ value 7 0 0)
@@ -35,7 +36,7 @@ pub values :
     × (entryValue 0x08 (replicate 9 0x00) ≡ value 7 0 0)
     × (entryValue 0x09 (replicate 17 0x00) ≡ value 7 0 0)
 unfolding bytes-open
-values = (refl, refl, refl, refl, refl, refl, refl, refl, refl, refl, refl, refl, refl, refl, refl, refl, refl, refl, refl, refl, refl)
+values = (refl, refl, refl, refl, refl, refl, refl, refl, refl, refl, refl, refl, refl, refl, refl, refl, refl, refl, refl, refl, refl, refl)
 
 -- the mark that a type gives so many bytes of 0xFF
 abbrev marks : ℕ → List ℕ
