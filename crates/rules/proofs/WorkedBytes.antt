@@ -1,9 +1,9 @@
 -- Worked bytes: the hex dumps that the examples are written in, numbers of two and four bytes, UTF-16.
-use Prim.Native.Nat.{ℕ, zero, suc, _<_}
+use Prim.Native.Nat.{zero, suc, _<_}
 use native.Mathlib.Omega.{arith}
 use mathlib.Core.Path.{_≡_, refl}
 use mathlib.Core.Bool.{true, false}
-use mathlib.Core.List.{List, [], _∷_, map}
+use mathlib.Core.List.{[], _∷_, map}
 use mathlib.Core.Option.{none, some}
 use lib.Dec.{leb}
 use Rattle.rules.specs.Lists.{concat, all, keep, find, has, ascends}

@@ -1,14 +1,13 @@
 -- Worked streams of "Later layout", by computation. Two blanks part the fields of a property: id, type, 4 bytes, length, value, trailer.
 use Prim.Native.Nat.{ℕ}
 use mathlib.Core.Path.{_≡_, refl}
-use mathlib.Core.Bool.{Bool, true, false, cond}
+use mathlib.Core.Bool.{Bool, true, false}
 use mathlib.Core.List.{List, [], _∷_, _++_, map}
 use mathlib.Core.Option.{Option, none, some}
-use lib.Dec.{eqb}
-use lib.ListN.{length, take, replicate}
-use Rattle.rules.specs.Lists.{_>>=_, concat}
+use lib.ListN.{replicate}
+use Rattle.rules.specs.Lists.{concat}
 use Rattle.rules.specs.Answer.{answer}
-use Rattle.rules.specs.Later.{propertyAt, endAt, trailerAt, endsGroup, groupOf, matchAt, objectGroup, childrenAt, nodesAt, treeOf}
+use Rattle.rules.specs.Later.{propertyAt, endAt, trailerAt, endsGroup, groupOf, matchAt, childrenAt, nodesAt}
 use Rattle.rules.specs.Blob.{exit}
 use Rattle.rules.specs.Dump.{dump}
 use Rattle.rules.specs.Examples.{old, table}
@@ -428,24 +427,18 @@ children = (refl, refl, refl, refl)
 
 -- ---- depths
 -- three nodes, each below the one before it
-abbrev chain : List ℕ
+abbrev pub chain : List ℕ
 chain =
     replicate 14 0x00
     ++ dump "05 00  01 00 00 00  00 00 00 00  00 00 00 00  FE 00 00 00"  -- a flag; trailer 254, one node
     ++ concat (replicate 2 (dump "98 00  01 02 03 04  05 00  01 00 00 00  00 00 00 00  00 00 00 00  FE 00 00 00"))
     ++ dump "98 00  01 02 03 04  05 00  01 00 00 00  00 00 00 00  00 00 00 00  FD 00 00 00"
 
--- it is read where there is a level for each of its nodes; to read 257 nodes word by word would take a minute, so fewer levels stand here
-abbrev isRead : {A : Type 0} → Option A → Bool
+-- it is read where there is a level for each of its nodes; that a whole stream has 256 levels is a law (`DepthLaws.depth`)
+abbrev pub isRead : {A : Type 0} → Option A → Bool
 isRead none = false
 isRead (some x) = true
 
 pub deep-nodes : map (λ d. isRead (nodesAt d chain 1 32)) (0 ∷ 1 ∷ 2 ∷ 3 ∷ 4 ∷ []) ≡ false ∷ false ∷ false ∷ true ∷ true ∷ []
 unfolding blob-open
 deep-nodes = refl
-
--- and that there are 256 levels in a whole stream
-pub node-levels : (s : List ℕ)
-    → treeOf s ≡ (objectGroup s .trailer >>= λ trailer. childrenAt s trailer (objectGroup s .stop) >>= λ x. nodesAt 256 s (x .0) (x .1) >>= λ y. cond (eqb (y .1) (length s)) (some (y .0)) none)
-unfolding treeOf
-node-levels s = refl

@@ -4,11 +4,10 @@ use mathlib.Core.Path.{_≡_, refl}
 use mathlib.Core.Bool.{true, false}
 use mathlib.Core.List.{List, [], _∷_, map}
 use mathlib.Core.Option.{none, some}
-use lib.IntN.{ℤ, pos, negsuc}
-use lib.ListN.{take, replicate}
-use Rattle.rules.specs.Value.{value, signed, word32, fits16, integerValue, widened, entryValue, storedValue, valueAs}
+use lib.IntN.{pos, negsuc}
+use lib.ListN.{replicate}
+use Rattle.rules.specs.Value.{value, word32, fits16, integerValue, widened, entryValue, storedValue, valueAs}
 use Rattle.rules.specs.Dump.{dump}
-use Rattle.rules.specs.declared.Value.{Value}
 use Rattle.rules.proofs.OpenBytes.{bytes-open}
 
 -- ---- the later layout: values at their limits, by type and bytes

@@ -9,7 +9,7 @@ use lib.ListN.{replicate}
 use Rattle.rules.specs.Lists.{concat, text}
 use Rattle.rules.specs.Answer.{answer, refusal}
 use Rattle.rules.specs.Utf16.{isUtf16}
-use Rattle.rules.specs.Value.{shortValue, longValue, notDefault, binaryValue, entryValue, widened}
+use Rattle.rules.specs.Value.{shortValue, longValue, notDefault, binaryValue, entryValue}
 use Rattle.rules.specs.Texts.{guidText}
 use Rattle.rules.specs.TypeInfo.{typeInfoAnswer}
 use Rattle.rules.specs.Access2000.{lengthAt}
