@@ -23,6 +23,7 @@ pub mod Reading  -- "Rows": a reading, and its rows
 pub mod Read2000  -- "Access 2000 layout", from the tree to a reading
 pub mod ReadLater  -- "Later layout", from nodes to a reading
 pub mod Blob  -- "Answer numbers": a Blob's answer and rows
+pub mod Room  -- wish 14 of document 02: how much room is enough
 pub mod NamePart  -- "Rows": the name as a part of a slice
 pub mod Listing  -- "Names and listing": `formlist`
 pub mod Dump  -- bytes as a hex dump, for the examples

@@ -29,3 +29,9 @@ pub enum Name {
     Numbered,
     Loose { start: u32, size: u32 },
 }
+
+// How many rows a caller lends.
+pub struct Room {
+    pub controls: u32,
+    pub properties: u32,
+}
