@@ -64,8 +64,9 @@ impl Judge {
             self.same_places(table, stream)?;
         }
         let rows = plain::read_blob(table, stream, words[0], words[1]);
-        let shape = Codes::parse(table).and_then(|codes| plain::reading(&codes, stream)).map(|found| found.shape);
-        Ok(Expected { text: print(stream, &rows), shape, by_jetdb })
+        let found = Codes::parse(table).and_then(|codes| plain::reading(&codes, stream));
+        found.iter().try_for_each(|found| plain::room::bounded(found, stream.len()))?;
+        Ok(Expected { text: print(stream, &rows), shape: found.map(|found| found.shape), by_jetdb })
     }
 
     /// Under another table with jetdb's layout byte, jetdb still judges what no table changes: the places and the counts.

@@ -4,6 +4,7 @@
 pub mod access2000;
 pub mod codes;
 pub mod later;
+pub mod room;
 pub mod typeinfo;
 pub mod value;
 
