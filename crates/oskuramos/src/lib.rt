@@ -5,12 +5,13 @@ ghost use Rattle.rules.specs.CodeTable.{wellFormed};
 ghost use Rattle.rules.specs.NamePart.{namePart};
 ghost use Rattle.rules.specs.NameTables.{textNames, numberNames, bytesNames, controlTypeNames};
 ghost use Rattle.rules.specs.Names.{nameIn, namesFor};
+ghost use Rattle.rules.specs.Room.{room2000, roomLater, roomFor, typeInfoRoom};
 ghost use Rattle.rules.specs.Texts.{guidExit, labelExit};
 ghost use Rattle.rules.specs.TypeInfo.{typeInfoExit};
 ghost use Rattle.rules.specs.Utf16.{isUtf16};
 ghost use Rattle.rules.specs.Value.{entryValue, storedValue, valueAs};
 ghost use Rattle.names.specs.Lookup.{named};
-ghost use Rattle.oskuramos.specs.Handed.{handedAnswer, handedValue, handedName, handedPart, partOr};
+ghost use Rattle.oskuramos.specs.Handed.{handedAnswer, handedValue, handedName, handedPart, handedRoom, partOr};
 
 // ---- structs laid out as C's
 // Document 01's answer number with its three counts.
@@ -46,6 +47,13 @@ pub struct Part {
     pub length: u32,
 }
 
+// Rows to lend, not words.
+#[repr(C)]
+pub struct Room {
+    pub controls: u32,
+    pub properties: u32,
+}
+
 fn handed_answer(a: rules::Answer) -> Answer
     ensures { λ r. ⌜ r ≡ handedAnswer a ⌝ }
 {
@@ -78,6 +86,15 @@ fn handed_name(n: names::Name) -> Name
     }
 }
 
+fn handed_room(r: rules::Room) -> Room
+    ensures { λ x. ⌜ x ≡ handedRoom r ⌝ }
+{
+    Room {
+        controls: r.controls,
+        properties: r.properties,
+    }
+}
+
 // ---- streams
 #[no_mangle]
 pub extern "C" fn oskuramos_read_blob(
@@ -106,6 +123,36 @@ pub extern "C" fn oskuramos_well_formed(table: &[u8]) -> bool
     ensures { λ r. ⌜ r ≡ wellFormed (now (table .entry)) ⌝ }
 {
     codetable::well_formed(table)
+}
+
+// ---- room for every stream of at most so many bytes
+// Of either layout.
+#[no_mangle]
+pub extern "C" fn oskuramos_room(length: usize) -> Room
+    ensures { λ r. ⌜ r ≡ handedRoom (roomFor length) ⌝ }
+{
+    handed_room(room::room_for(length))
+}
+
+#[no_mangle]
+pub extern "C" fn oskuramos_room_2000(length: usize) -> Room
+    ensures { λ r. ⌜ r ≡ handedRoom (room2000 length) ⌝ }
+{
+    handed_room(room::room_2000(length))
+}
+
+#[no_mangle]
+pub extern "C" fn oskuramos_room_later(length: usize) -> Room
+    ensures { λ r. ⌜ r ≡ handedRoom (roomLater length) ⌝ }
+{
+    handed_room(room::room_later(length))
+}
+
+#[no_mangle]
+pub extern "C" fn oskuramos_type_info_room(length: usize) -> u32
+    ensures { λ r. ⌜ r ≡ typeInfoRoom length ⌝ }
+{
+    room::type_info_room(length)
 }
 
 // ---- the name of a control

@@ -1,0 +1,11 @@
+use mathlib.Core.Path.{ap, _∙_}
+use Rattle.oskuramos.specs.Handed.{handedRoom}
+use borrow.Author.Needs.{needs}
+use Rattle.oskuramos.proofs.oskuramos_room_2000.Statement.{statement}
+use Rattle.oskuramos.proofs.oskuramos_room_2000.Tie as tie
+
+returns : tie.Need-returns
+returns c = c .handed-room .ensures ∙ ap handedRoom (c .before .room-2000 .ensures)
+
+pub oskuramos-room-2000-spec : {M : Type 1} → statement M
+oskuramos-room-2000-spec = tie.close (tie.spec (λ c κs. search needs) (λ c κs. search needs) returns)
