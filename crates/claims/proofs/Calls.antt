@@ -16,6 +16,10 @@ use Rattle.oskuramos.specs.Handed.{handedAnswer}
 use Rattle.claims.specs.Demand3.{SameBut, Same}
 use Rattle.claims.specs.Always.{Always, OneResult, Fn, Every, Gives, Call, handed, seen}
 use Rattle.codetable.proofs.well_formed.Met as well-formed-code
+use Rattle.room.proofs.room_for.Met as room-code
+use Rattle.room.proofs.room_2000.Met as room-2000-code
+use Rattle.room.proofs.room_later.Met as room-later-code
+use Rattle.room.proofs.type_info_room.Met as type-info-room-code
 use Rattle.names.proofs.text_name.Met as text-name-code
 use Rattle.names.proofs.number_name.Met as number-name-code
 use Rattle.names.proofs.bytes_name.Met as bytes-name-code
@@ -35,6 +39,10 @@ use Rattle.blob.proofs.control_name.Met as control-name-code
 use Rattle.oskuramos.proofs.oskuramos_read_blob.Met as exported-read-blob-code
 use Rattle.oskuramos.proofs.oskuramos_read_type_info.Met as exported-read-type-info-code
 use Rattle.oskuramos.proofs.oskuramos_well_formed.Met as exported-well-formed-code
+use Rattle.oskuramos.proofs.oskuramos_room.Met as exported-room-code
+use Rattle.oskuramos.proofs.oskuramos_room_2000.Met as exported-room-2000-code
+use Rattle.oskuramos.proofs.oskuramos_room_later.Met as exported-room-later-code
+use Rattle.oskuramos.proofs.oskuramos_type_info_room.Met as exported-type-info-room-code
 use Rattle.oskuramos.proofs.oskuramos_control_name.Met as exported-control-name-code
 use Rattle.oskuramos.proofs.oskuramos_guid_text.Met as exported-guid-text-code
 use Rattle.oskuramos.proofs.oskuramos_label_text.Met as exported-label-text-code
@@ -67,6 +75,7 @@ use Rattle.claims.proofs.Demand3.{demand3}
 use Rattle.claims.proofs.LaterTree.{later-tree}
 use Rattle.claims.proofs.Counts.{counts-hold}
 use Rattle.claims.proofs.RowChecks.{row-checks}
+use Rattle.claims.proofs.Rooms.{rooms}
 
 -- ---- a function whose contract is an equation with a definition
 record Proved {A B : Type 0} (f : Fn A B) (definition : A → B) : Type 2 where
@@ -113,6 +122,8 @@ module _ (f : Fn Blob Exit) (p : Proved f exit-of) (one : OneResult (f .function
     later-judges = every-bytes _ (λ a small. later-tree .judges (a .table) (a .stream) (a .controls) (a .properties) small);
     items = every-bytes _ (λ a small. row-checks .items (a .table) (a .stream) (a .controls) (a .properties) small);
     row-checks = every f exit-of p _ (λ a. row-checks .checks (a .table) (a .stream) (a .controls) (a .properties));
+    bounds = every f exit-of p _ (λ a. rooms .bounds (a .table) (a .stream) (a .controls) (a .properties));
+    room-enough = every f exit-of p _ (λ a. rooms .enough (a .table) (a .stream) (a .controls) (a .properties));
     one-result = one;
     by-words = by-words f exit-of p;
     allows = allows;
@@ -167,6 +178,7 @@ read-type-infos f p one = record {
   is-exit = every f _ p _ (λ a. refl);
   demand1 = every f _ p _ (λ a. demand1 .type-infos (a .stream) (a .rows));
   counts = every f _ p _ (λ a. counts-hold .type-infos (a .stream) (a .rows));
+  room-enough = every f _ p _ (λ a. rooms .enough-infos (a .stream) (a .rows));
   one-result = one;
 }
 
@@ -201,6 +213,10 @@ of-crates = record {
     told = λ κs a r e q i. record { answer = q .0 i; out = q .1 i };
   }) (λ κs a r r′ x y p q. (p .0 ∙ sym (q .0), λ i. (tt, ((p .1 ∙ sym (q .1)) i, tt))));
   well-formed = gives (f.crates .well-formed) _ (record { met = λ w. well-formed-code.met (w .𝓤) (w .H) (w .𝓜) (w .𝓖) (w .𝓡); told = λ κs a r e q. q }) (λ κs a r r′ x y p q. (p ∙ sym q, refl));
+  room = gives (f.crates .room) _ (record { met = λ w. room-code.met (w .𝓤) (w .H) (w .𝓜) (w .𝓖) (w .𝓡); told = λ κs a r e q. q }) (λ κs a r r′ x y p q. (p ∙ sym q, refl));
+  room-2000 = gives (f.crates .room-2000) _ (record { met = λ w. room-2000-code.met (w .𝓤) (w .H) (w .𝓜) (w .𝓖) (w .𝓡); told = λ κs a r e q. q }) (λ κs a r r′ x y p q. (p ∙ sym q, refl));
+  room-later = gives (f.crates .room-later) _ (record { met = λ w. room-later-code.met (w .𝓤) (w .H) (w .𝓜) (w .𝓖) (w .𝓡); told = λ κs a r e q. q }) (λ κs a r r′ x y p q. (p ∙ sym q, refl));
+  type-info-room = gives (f.crates .type-info-room) _ (record { met = λ w. type-info-room-code.met (w .𝓤) (w .H) (w .𝓜) (w .𝓖) (w .𝓡); told = λ κs a r e q. q }) (λ κs a r r′ x y p q. (p ∙ sym q, refl));
   is-utf16 = gives (f.crates .is-utf16) _ (record { met = λ w. is-utf16-code.met (w .𝓤) (w .H) (w .𝓜) (w .𝓖) (w .𝓡); told = λ κs a r e q. q }) (λ κs a r r′ x y p q. (p ∙ sym q, refl));
   text-name = gives (f.crates .text-name) _ (record { met = λ w. text-name-code.met (w .𝓤) (w .H) (w .𝓜) (w .𝓖) (w .𝓡); told = λ κs a r e q. q }) (λ κs a r r′ x y p q. (p ∙ sym q, refl));
   number-name = gives (f.crates .number-name) _ (record { met = λ w. number-name-code.met (w .𝓤) (w .H) (w .𝓜) (w .𝓖) (w .𝓡); told = λ κs a r e q. q }) (λ κs a r r′ x y p q. (p ∙ sym q, refl));
@@ -229,6 +245,10 @@ of-exported = record {
     told = λ κs a r e q i. record { answer = f.takenAnswer (q .0 i); out = q .1 i };
   }) (λ κs a r r′ x y p q. (p .0 ∙ sym (q .0), λ i. (tt, ((p .1 ∙ sym (q .1)) i, tt))));
   well-formed = gives (f.exported .well-formed) _ (record { met = λ w. exported-well-formed-code.met (w .𝓤) (w .H) (w .𝓜) (w .𝓖) (w .𝓡); told = λ κs a r e q. q }) (λ κs a r r′ x y p q. (p ∙ sym q, refl));
+  room = gives (f.exported .room) _ (record { met = λ w. exported-room-code.met (w .𝓤) (w .H) (w .𝓜) (w .𝓖) (w .𝓡); told = λ κs a r e q. ap f.takenRoom q }) (λ κs a r r′ x y p q. (p ∙ sym q, refl));
+  room-2000 = gives (f.exported .room-2000) _ (record { met = λ w. exported-room-2000-code.met (w .𝓤) (w .H) (w .𝓜) (w .𝓖) (w .𝓡); told = λ κs a r e q. ap f.takenRoom q }) (λ κs a r r′ x y p q. (p ∙ sym q, refl));
+  room-later = gives (f.exported .room-later) _ (record { met = λ w. exported-room-later-code.met (w .𝓤) (w .H) (w .𝓜) (w .𝓖) (w .𝓡); told = λ κs a r e q. ap f.takenRoom q }) (λ κs a r r′ x y p q. (p ∙ sym q, refl));
+  type-info-room = gives (f.exported .type-info-room) _ (record { met = λ w. exported-type-info-room-code.met (w .𝓤) (w .H) (w .𝓜) (w .𝓖) (w .𝓡); told = λ κs a r e q. q }) (λ κs a r r′ x y p q. (p ∙ sym q, refl));
   is-utf16 = gives (f.exported .is-utf16) _ (record { met = λ w. exported-is-utf16-code.met (w .𝓤) (w .H) (w .𝓜) (w .𝓖) (w .𝓡); told = λ κs a r e q. q }) (λ κs a r r′ x y p q. (p ∙ sym q, refl));
   text-name = gives (f.exported .text-name) _ (record { met = λ w. exported-text-name-code.met (w .𝓤) (w .H) (w .𝓜) (w .𝓖) (w .𝓡); told = λ κs a r e q. ap f.takenName q }) (λ κs a r r′ x y p q. (p ∙ sym q, refl));
   number-name = gives (f.exported .number-name) _ (record { met = λ w. exported-number-name-code.met (w .𝓤) (w .H) (w .𝓜) (w .𝓖) (w .𝓡); told = λ κs a r e q. ap f.takenName q }) (λ κs a r r′ x y p q. (p ∙ sym q, refl));

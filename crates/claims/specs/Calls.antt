@@ -19,6 +19,7 @@ use Rattle.rules.specs.Names.{nameIn, namesFor}
 use Rattle.rules.specs.TypeInfo.{TypeInfoExit, typeInfoExit}
 use Rattle.rules.specs.CodeTable.{wellFormed}
 use Rattle.rules.specs.NamePart.{Part, namePart, partBytes}
+use Rattle.rules.specs.Room.{room2000, roomLater, roomFor, typeInfoRoom}
 use Rattle.rules.specs.Blob.{Exit, is2000, exit}
 use Rattle.leaf.specs.Int.{intOf}
 use Rattle.leaf.specs.Wide.{wordsOf, bitsOf}
@@ -32,6 +33,7 @@ use Rattle.claims.specs.Demand3.{Successor, Lent, SameRoom, SameBut, Sam
 use Rattle.claims.specs.Grammar.{Stream, _spells_}
 use Rattle.claims.specs.LaterTree as later
 use Rattle.claims.specs.Counts.{Counts, InfoCounts}
+use Rattle.claims.specs.Rooms as rooms
 use Rattle.claims.specs.RowChecks.{Checks, SeenItems}
 use Rattle.claims.specs.Always.{OneResult, Fn, Every, Gives, Call, handed, seen}
 use Rattle.claims.specs.Functions.{
@@ -94,6 +96,10 @@ pub record ReadBlob (f : Fn Blob Exit) : Type 2 where
   pub items : Every f (λ a seen.
       Given (a .table) (a .stream) → (t : Stream) → drop 10 (a .stream) spells t → seen .answer .number ≡ 0
       → SeenItems (a .table) (a .stream) (a .controls) (a .properties) t seen)
+  -- wish 14: "For every stream with answer 0, C controls and P property rows .."
+  pub bounds : Every f (λ a seen. rooms.Bounds (a .table) (a .stream) (a .controls) (a .properties) seen)
+  -- "So room computed from the length alone never brings 6 or 7."
+  pub room-enough : Every f (λ a seen. rooms.Enough (a .table) (a .stream) (a .controls) (a .properties) seen)
   -- "any two results it allows are proved equal"
   pub one-result : OneResult (f .function)
   -- wherever the slices stand: the words alone tell what is seen; and the contract allows a call of any words
@@ -105,6 +111,8 @@ pub record ReadTypeInfo (f : Fn TypeInfo TypeInfoExit) : Type 2 where
   pub is-exit : Every f (λ a seen. seen ≡ typeInfoExit (a .stream) (a .rows))
   pub demand1 : Every f (λ a seen. TypeInfos (a .stream) (a .rows) seen)
   pub counts : Every f (λ a seen. InfoCounts (a .stream) (a .rows) seen)
+  -- wish 14 of TypeInfo
+  pub room-enough : Every f (λ a seen. rooms.EnoughInfos (a .stream) (a .rows) seen)
   pub one-result : OneResult (f .function)
 
 -- ---- guid_text(guid, out)
@@ -126,6 +134,10 @@ pub record Promised (i : Interface) : Type 2 where
   pub guid-text : GuidText (i .guid-text)
   pub label-text : LabelText (i .label-text)
   pub well-formed : Gives (i .well-formed) (λ table. wellFormed table)
+  pub room : Gives (i .room) (λ length. roomFor length)
+  pub room-2000 : Gives (i .room-2000) (λ length. room2000 length)
+  pub room-later : Gives (i .room-later) (λ length. roomLater length)
+  pub type-info-room : Gives (i .type-info-room) (λ length. typeInfoRoom length)
   pub is-utf16 : Gives (i .is-utf16) (λ bytes. isUtf16 bytes)
   pub text-name : Gives (i .text-name) (λ id. named (nameIn textNames id))
   pub number-name : Gives (i .number-name) (λ id. named (nameIn numberNames id))

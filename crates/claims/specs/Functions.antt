@@ -7,6 +7,7 @@ use mathlib.Core.List.{List}
 use denote.Ref.{RefT, now}
 use Rattle.rules.specs.declared.Answer.{Answer}
 use Rattle.rules.specs.declared.Value.{Value}
+use Rattle.rules.specs.declared.Room.{Room}
 use Rattle.rules.specs.Texts.{TextExit}
 use Rattle.rules.specs.TypeInfo.{TypeInfoExit}
 use Rattle.rules.specs.Blob.{Exit}
@@ -17,6 +18,7 @@ use Rattle.blob.specs.Exit.{Place}
 use Rattle.oskuramos.specs.declared.Answer as c-answer
 use Rattle.oskuramos.specs.declared.Value as c-value
 use Rattle.oskuramos.specs.declared.Name as c-name
+use Rattle.oskuramos.specs.declared.Room as c-room
 use Rattle.oskuramos.specs.declared.Part.{Part}
 use Rattle.propvalue.proofs.entry_value as entry_value
 use Rattle.propvalue.proofs.stored_value as stored_value
@@ -35,9 +37,17 @@ use Rattle.codetable.proofs.well_formed as well_formed
 use Rattle.typeinfo.proofs.read_type_info as read_type_info
 use Rattle.blob.proofs.read_blob as read_blob
 use Rattle.blob.proofs.control_name as control_name
+use Rattle.room.proofs.room_for as room_for
+use Rattle.room.proofs.room_2000 as «room_2000»
+use Rattle.room.proofs.room_later as room_later
+use Rattle.room.proofs.type_info_room as type_info_room
 use Rattle.oskuramos.proofs.oskuramos_read_blob as oskuramos_read_blob
 use Rattle.oskuramos.proofs.oskuramos_read_type_info as oskuramos_read_type_info
 use Rattle.oskuramos.proofs.oskuramos_well_formed as oskuramos_well_formed
+use Rattle.oskuramos.proofs.oskuramos_room as oskuramos_room
+use Rattle.oskuramos.proofs.oskuramos_room_2000 as «oskuramos_room_2000»
+use Rattle.oskuramos.proofs.oskuramos_room_later as oskuramos_room_later
+use Rattle.oskuramos.proofs.oskuramos_type_info_room as oskuramos_type_info_room
 use Rattle.oskuramos.proofs.oskuramos_control_name as oskuramos_control_name
 use Rattle.oskuramos.proofs.oskuramos_guid_text as oskuramos_guid_text
 use Rattle.oskuramos.proofs.oskuramos_label_text as oskuramos_label_text
@@ -152,7 +162,7 @@ tied a = record { kind = a .0; id = a .1 .0; bytes = now (a .1 .1 .0) }
 abbrev bytes : Slice × End → List ℕ
 bytes a = now (a .0)
 
--- (id), (low)
+-- (id), (low), (length)
 abbrev number : ℕ × End → ℕ
 number a = a .0
 
@@ -179,11 +189,18 @@ takenValue v = record { mark = v .mark; low = v .low; high = v .high }
 abbrev pub takenName : c-name.Name → Name
 takenName n = record { found = n .found; bytes = n .bytes; len = n .length }
 
+abbrev pub takenRoom : c-room.Room → Room
+takenRoom r = record { controls = r .controls; properties = r .properties }
+
 -- ---- the functions that both the crates and the archive have
 pub record Interface : Type 2 where
   pub read-blob : Fn Blob Exit
   pub read-type-info : Fn TypeInfo TypeInfoExit
   pub well-formed : Fn (List ℕ) Bool
+  pub room : Fn ℕ Room
+  pub room-2000 : Fn ℕ Room
+  pub room-later : Fn ℕ Room
+  pub type-info-room : Fn ℕ ℕ
   pub guid-text : Fn Guid TextExit
   pub label-text : Fn Label TextExit
   pub is-utf16 : Fn (List ℕ) Bool
@@ -212,6 +229,26 @@ crates = record {
   well-formed = record {
     function = record { ended = well_formed.ended; routine = well_formed.Symbol.routine; says = well_formed.Reads.Learnt };
     handed = λ κs a. bytes a;
+    seen = λ κs r e. r;
+  };
+  room = record {
+    function = record { ended = room_for.ended; routine = room_for.Symbol.routine; says = room_for.Reads.Learnt };
+    handed = λ κs a. number a;
+    seen = λ κs r e. r;
+  };
+  room-2000 = record {
+    function = record { ended = «room_2000».ended; routine = «room_2000».Symbol.routine; says = «room_2000».Reads.Learnt };
+    handed = λ κs a. number a;
+    seen = λ κs r e. r;
+  };
+  room-later = record {
+    function = record { ended = room_later.ended; routine = room_later.Symbol.routine; says = room_later.Reads.Learnt };
+    handed = λ κs a. number a;
+    seen = λ κs r e. r;
+  };
+  type-info-room = record {
+    function = record { ended = type_info_room.ended; routine = type_info_room.Symbol.routine; says = type_info_room.Reads.Learnt };
+    handed = λ κs a. number a;
     seen = λ κs r e. r;
   };
   guid-text = record {
@@ -287,6 +324,26 @@ exported = record {
   well-formed = record {
     function = record { ended = oskuramos_well_formed.ended; routine = oskuramos_well_formed.Symbol.routine; says = oskuramos_well_formed.Reads.Learnt };
     handed = λ κs a. bytes a;
+    seen = λ κs r e. r;
+  };
+  room = record {
+    function = record { ended = oskuramos_room.ended; routine = oskuramos_room.Symbol.routine; says = oskuramos_room.Reads.Learnt };
+    handed = λ κs a. number a;
+    seen = λ κs r e. takenRoom r;
+  };
+  room-2000 = record {
+    function = record { ended = «oskuramos_room_2000».ended; routine = «oskuramos_room_2000».Symbol.routine; says = «oskuramos_room_2000».Reads.Learnt };
+    handed = λ κs a. number a;
+    seen = λ κs r e. takenRoom r;
+  };
+  room-later = record {
+    function = record { ended = oskuramos_room_later.ended; routine = oskuramos_room_later.Symbol.routine; says = oskuramos_room_later.Reads.Learnt };
+    handed = λ κs a. number a;
+    seen = λ κs r e. takenRoom r;
+  };
+  type-info-room = record {
+    function = record { ended = oskuramos_type_info_room.ended; routine = oskuramos_type_info_room.Symbol.routine; says = oskuramos_type_info_room.Reads.Learnt };
+    handed = λ κs a. number a;
     seen = λ κs r e. r;
   };
   guid-text = record {
