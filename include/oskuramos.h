@@ -109,6 +109,23 @@ oskuramos_answer oskuramos_read_blob(const uint8_t *table, size_t table_length, 
    Answers 0 with the number of rows, or 5, 1, 2, 3, 6, tried in this order. Words behind the rows that are written keep their values. */
 oskuramos_answer oskuramos_read_type_info(const uint8_t *stream, size_t stream_length, uint32_t *rows, size_t rows_length);
 
+/* ---- room by the length */
+/* How many rows to lend: rows, not words. A buffer has OSKURAMOS_CONTROL_WORDS or OSKURAMOS_PROPERTY_WORDS words for each of them. */
+typedef struct {
+    uint32_t controls;
+    uint32_t properties;
+} oskuramos_rows;
+
+/* Rows that are enough for every stream of at most so many bytes, so that a Blob is never answered 6 or 7: for streams of either layout, or of the
+   one that they are known to have. Buffers can be fixed once, for the longest stream that is to be read. The number grows with the length up
+   to OSKURAMOS_LONGEST and then stays, since longer streams aren't read; it may be multiplied by the words of a row and by 4 within 32 bits. */
+oskuramos_rows oskuramos_room(size_t length);
+oskuramos_rows oskuramos_room_2000(size_t length);
+oskuramos_rows oskuramos_room_later(size_t length);
+
+/* The same for TypeInfo: with so many rows of OSKURAMOS_TYPE_INFO_WORDS words it is never answered 6. */
+uint32_t oskuramos_type_info_room(size_t length);
+
 /* Whether a code table is well formed. */
 bool oskuramos_well_formed(const uint8_t *table, size_t table_length);
 

@@ -38,6 +38,13 @@ pub struct Part {
     pub length: u32,
 }
 
+/// How many rows to lend.
+#[repr(C)]
+pub struct Rows {
+    pub controls: u32,
+    pub properties: u32,
+}
+
 #[rustfmt::skip]
 extern "C" {
     fn oskuramos_read_blob(
@@ -46,6 +53,10 @@ extern "C" {
     ) -> Answer;
     fn oskuramos_read_type_info(stream: *const u8, stream_length: usize, rows: *mut u32, rows_length: usize) -> Answer;
     fn oskuramos_well_formed(table: *const u8, table_length: usize) -> bool;
+    fn oskuramos_room(length: usize) -> Rows;
+    fn oskuramos_room_2000(length: usize) -> Rows;
+    fn oskuramos_room_later(length: usize) -> Rows;
+    fn oskuramos_type_info_room(length: usize) -> u32;
     fn oskuramos_control_name(
         stream: *const u8, stream_length: usize, label: *const u8, label_length: usize, mark: u32, start: u32, length: u32,
     ) -> Part;
@@ -75,6 +86,22 @@ pub fn read_type_info(stream: &[u8], rows: &mut [u32]) -> Answer {
 
 pub fn well_formed(table: &[u8]) -> bool {
     unsafe { oskuramos_well_formed(table.as_ptr(), table.len()) }
+}
+
+pub fn room(length: usize) -> Rows {
+    unsafe { oskuramos_room(length) }
+}
+
+pub fn room_2000(length: usize) -> Rows {
+    unsafe { oskuramos_room_2000(length) }
+}
+
+pub fn room_later(length: usize) -> Rows {
+    unsafe { oskuramos_room_later(length) }
+}
+
+pub fn type_info_room(length: usize) -> u32 {
+    unsafe { oskuramos_type_info_room(length) }
 }
 
 pub fn control_name(stream: &[u8], label: &[u8], mark: u32, start: u32, length: u32) -> Part {

@@ -39,6 +39,11 @@ pub fn read_type_info(stream: &[u8], rows: &mut [TypeInfoRow]) -> Result<usize, 
     of_type_info(archive::read_type_info(stream, rows.as_flattened_mut()))
 }
 
+/// How many rows are enough for TypeInfo of at most so many bytes. For a Blob it is a [`Room`](crate::Room).
+pub fn type_info_room(length: usize) -> usize {
+    archive::type_info_room(length) as usize
+}
+
 /// The bytes of a control's name by the mark, start and length of its row: a part of the stream, or of the label for a numbered one.
 /// A part that isn't there is empty.
 pub fn control_name<'a>(stream: &'a [u8], label: &'a [u8], mark: u32, start: u32, length: u32) -> &'a [u8] {

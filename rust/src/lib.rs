@@ -8,12 +8,14 @@ mod blob;
 mod format;
 pub mod lent;
 mod refused;
+mod room;
 mod text;
 mod type_info;
 mod value;
 
 pub use blob::{Blob, Control, ControlName, Layout, Property};
 pub use refused::{Counts, Refused};
+pub use room::Room;
 pub use text::{is_utf16, Guid, Loose, Name, Text};
 pub use type_info::{TypeInfo, TypeInfoEntry};
 pub use value::{entry_value, stored_value, value_as, Kind, Value};

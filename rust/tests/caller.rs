@@ -135,3 +135,24 @@ fn every_name_is_ascii() {
         |look_up: fn(u16) -> Option<Name>| (0..=u16::MAX).filter_map(look_up).filter(|name| name.is_ascii() && !name.is_empty()).count();
     assert!([text_name, number_name, bytes_name, control_type_name].map(named).iter().all(|&count| count > 5));
 }
+
+/// Room by the length alone: enough for each example, and the numbers of the header's tests.
+#[test]
+fn room_for_the_length_is_enough() {
+    for name in ["form-2000.blob", "report-2000.blob", "later-tree.blob", "later-scan.blob"] {
+        let stream = example(name);
+        let room = Room::for_length(stream.len());
+        let (mut controls, mut properties) = (vec![Default::default(); room.controls], vec![Default::default(); room.properties]);
+        let counts = lent::read_blob(ACCESS_2000_CODES, &stream, &mut controls, &mut properties).unwrap();
+        let known = match Blob::read(ACCESS_2000_CODES, &stream).unwrap().layout {
+            Layout::Access2000 => Room::for_access_2000(stream.len()),
+            Layout::Later => Room::for_later(stream.len()),
+        };
+        assert!(counts.controls <= known.controls && counts.properties <= known.properties, "{name}");
+    }
+    let rows = |room: Room| (room.controls, room.properties);
+    assert_eq!([0, 13, 14, 10_240].map(Room::for_length).map(rows), [(0, 0), (0, 2), (1, 3), (3_409, 10_229)]);
+    assert_eq!([31, 32, 10_240, usize::MAX].map(Room::for_later).map(rows), [(0, 0), (1, 1), (568, 568), (932_066, 932_066)]);
+    assert_eq!(Room::for_length(usize::MAX), Room::for_access_2000(lent::LONGEST));
+    assert_eq!([39, 40, usize::MAX].map(lent::type_info_room), [0, 1, 2_097_148]);
+}

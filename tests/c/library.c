@@ -139,6 +139,43 @@ static void type_info(const uint8_t *large) {
     check(info_answers(s, 31, ROOM, 1, 0), "1 before 2");
 }
 
+/* ---- room by the length */
+static bool rows_are(oskuramos_rows r, uint32_t controls, uint32_t properties) { return r.controls == controls && r.properties == properties; }
+
+/* So many entries, each the only one in the list of the one before. Returns the length. */
+static size_t chain(uint8_t *s, size_t entries) {
+    size_t at = 10;
+    memset(s, 0, at);
+    s[0] = table[0];
+    for (size_t i = 0; i < entries; i++, at += 3) memcpy(s + at, "\xFE\x98\0", 3);
+    s[at] = 0xFD;
+    return at + 1;
+}
+
+/* Read with the room for its length, which has no control row to spare. */
+static bool chain_fits(uint32_t entries) {
+    static uint8_t s[3 * 256 + 11];
+    static uint32_t controls[OSKURAMOS_CONTROL_WORDS * 256], properties[OSKURAMOS_PROPERTY_WORDS * 3 * 256];
+    size_t length = chain(s, entries);
+    oskuramos_rows room = oskuramos_room(length);
+    size_t c = OSKURAMOS_CONTROL_WORDS * room.controls, p = OSKURAMOS_PROPERTY_WORDS * room.properties;
+    return rows_are(room, entries, 3 * entries) && is(oskuramos_read_blob(table, sizeof table, s, length, controls, c, properties, p), 0, entries, 0, 0) &&
+           is(oskuramos_read_blob(table, sizeof table, s, length, controls, c - 1, properties, p), 6, entries, 0, 0);
+}
+
+static void rooms(void) {
+    bool all = true;
+    for (uint32_t entries = 1; entries <= 256; entries++) all = all && chain_fits(entries);
+    check(all, "room for the length is enough for chains of 1 to 256 entries, and a word less isn't");
+    check(rows_are(oskuramos_room(0), 0, 0) && rows_are(oskuramos_room(13), 0, 2) && rows_are(oskuramos_room(14), 1, 3), "room for 0, 13 and 14 bytes");
+    check(rows_are(oskuramos_room(10240), 3409, 10229) && rows_are(oskuramos_room_2000(10240), 3409, 10229), "room for 10 KB");
+    check(rows_are(oskuramos_room_later(31), 0, 0) && rows_are(oskuramos_room_later(32), 1, 1), "room for 31 and 32 bytes of the later layout");
+    check(rows_are(oskuramos_room_later(10240), 568, 568), "room for 10 KB of the later layout");
+    check(rows_are(oskuramos_room(OSKURAMOS_LONGEST), 5592401, 16777205), "room for 16,777,216 bytes");
+    check(rows_are(oskuramos_room(SIZE_MAX), 5592401, 16777205) && rows_are(oskuramos_room_later(SIZE_MAX), 932066, 932066), "and no more for any length");
+    check(oskuramos_type_info_room(39) == 0 && oskuramos_type_info_room(40) == 1 && oskuramos_type_info_room(SIZE_MAX) == 2097148, "room for TypeInfo");
+}
+
 /* ---- text */
 static bool guid_refused(size_t guid_length, size_t out_length, uint32_t number) {
     static const uint8_t guid[17] = {0};
@@ -266,6 +303,7 @@ int main(void) {
     listing();
     blob_refusals(large);
     type_info(large);
+    rooms();
     texts();
     parts();
     version();
