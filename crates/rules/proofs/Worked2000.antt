@@ -4,7 +4,7 @@ use mathlib.Core.Path.{_≡_, refl}
 use mathlib.Core.Bool.{true, false}
 use mathlib.Core.List.{List, [], _∷_, _++_, map}
 use mathlib.Core.Option.{none, some}
-use lib.ListN.{take, replicate}
+use lib.ListN.{take, drop, replicate}
 use Rattle.rules.specs.Lists.{concat}
 use Rattle.rules.specs.Answer.{answer, refusal}
 use Rattle.rules.specs.Tree.{end}
@@ -280,8 +280,9 @@ pub heads :
     × (headAt (dump "00 FF 05 01") 1 ≡ some (some 0x0105, 4))
     × (headAt (dump "00 FC 05 01") 1 ≡ none)
     × (headAt (dump "00 FF 05") 1 ≡ none)
+    × (headAt (dump "00") 1 ≡ none)
 unfolding blob-open
-heads = (refl, refl, refl, refl, refl)
+heads = (refl, refl, refl, refl, refl, refl)
 
 -- where a value starts and how many bytes it has, by an id on either side of each limit; it may end where the stream ends
 pub extents :
@@ -314,9 +315,12 @@ pub spots-of-K1 : spots blob ≡ spot 0 0 0x31 11 1 ∷ spot 2 0x64 0x60 19 2 �
 unfolding blob-open
 spots-of-K1 = refl
 
-pub spots-of-report : take 2 (spots report) ≡ spot 1 0 0xE0 12 16 ∷ spot 1 0 0x01 29 0 ∷ []
+-- of 0x65, which isn't reported, there are none
+pub spots-of-report :
+    (take 2 (spots report) ≡ spot 1 0 0xE0 12 16 ∷ spot 1 0 0x01 29 0 ∷ [])
+    × (drop 18 (spots report) ≡ spot 2 0x99 0xBD 96 254 ∷ spot 2 0x66 0x05 358 0 ∷ spot 2 0x66 0xDC 360 2 ∷ spot 2 0x66 0xDC 364 2 ∷ [])
 unfolding blob-open
-spots-of-report = refl
+spots-of-report = (refl, refl)
 
 -- ---- eleven sections without a name: the label of the last has ten letters
 abbrev sections : List ℕ
