@@ -34,8 +34,11 @@ pub up-to-255 : Bytes (255 ∷ [])
 up-to-255 zero = omega arith
 up-to-255 (suc i) = omega arith
 
-pub not-256 : ¬ Bytes (256 ∷ [])
-not-256 h = let wrong : 256 < 256 = h 0 in omega arith
+pub not-256 : ¬ Bytes (0 ∷ 256 ∷ [])
+not-256 h = let wrong : 256 < 256 = h 1 in omega arith
+
+pub no-bytes-either : Bytes []
+no-bytes-either i = omega arith
 
 -- ---- lists: tests, the first that is found, ascending from a least one
 pub lists :
