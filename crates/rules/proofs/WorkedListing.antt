@@ -60,7 +60,7 @@ guid = dump "2A" ++ replicate 9 0x00 ++ dump "BD 10  10 11 12 13 14 15 16 17 18 
 abbrev guidTable : List ℕ
 guidTable = dump "2A 00  01 00  00 00 00  01 00  BD 78 01 02"
 
-pub listed-guid : printed guid (outcome guidTable guid 256 1024) ≡ text "answer 0 0 1 1\nP 0 0178 GUID guid {13121110-1514-1716-1819-1A1B1C1D1E1F}\n"
+pub listed-guid : listing (dump "0D 00 00 00" ++ guidTable ++ guid) ≡ text "answer 0 0 1 1\nP 0 0178 GUID guid {13121110-1514-1716-1819-1A1B1C1D1E1F}\n"
 unfolding rules-open
 listed-guid = refl
 
