@@ -36,10 +36,10 @@ pub fn put_end(out: &mut [u8], at: usize) -> usize
 }
 
 // What both kinds of row begin with: a letter, the row's number, its first word in hex; a blank behind each.
-pub fn put_head(out: &mut [u8], letter: u8, n: u32, code: u32) -> usize
-    ensures { λ r. ⌜ Wrote (now (out .entry)) 0 (fields ((letter ∷ []) ∷ decimal n ∷ hex 4 code ∷ [])) (now (out .exit)) r ⌝ }
+pub fn put_head(out: &mut [u8], at: usize, letter: u8, n: u32, code: u32) -> usize
+    ensures { λ r. ⌜ Wrote (now (out .entry)) at (fields ((letter ∷ []) ∷ decimal n ∷ hex 4 code ∷ [])) (now (out .exit)) r ⌝ }
 {
-    let p = put_byte(out, 0, letter);
+    let p = put_byte(out, at, letter);
     let p = put_byte(out, p, b' ');
     let p = put_decimal(out, p, n);
     let p = put_byte(out, p, b' ');
