@@ -1,4 +1,4 @@
--- Laws of the lines; the public ones serve the program that prints them.
+-- Laws of the lines and of the listing.
 pub mod Placed
 pub mod Rows
 pub mod Longest

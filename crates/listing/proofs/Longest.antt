@@ -1,31 +1,84 @@
--- The longest lines: 51, 78 and 95 bytes. The program's buffer of 128 bytes holds each whole.
+-- The longest lines, and the listing that they make up.
 use mathlib.Core.Path.{_≡_, refl}
-use mathlib.Core.Bool.{Bool, true, false}
+use mathlib.Core.Bool.{Bool, true, false, cond, _||_}
 use mathlib.Core.List.{List, [], _∷_}
-use Prim.Native.Nat.{ℕ, zero, suc, _+_, _*_, _-_, _/_, _≤_, _<_}
+use mathlib.Core.Option.{Option, some}
+use Prim.Native.Nat.{ℕ, zero, suc, _+_, _*_, _-_, _/_, _≤_, _<_, max}
+use Prim.Native.String.{String}
+use native.Mathlib.Nat.{le-max-left, le-max-right, suc-mul}
 use native.Mathlib.Omega.{arith}
 use borrow.Author.Tests.{ltb-true, ltb-false, eqb-true, eqb-false}
-use lib.Dec.{ltb, eqb}
-use lib.ListN.{length, getD, take, length-append}
+use lib.Dec.{ltb, leb, eqb}
+use lib.ListN.{length, length-append}
+use Rattle.rules.specs.Lists.{find, text}
 use Rattle.rules.specs.Digits.{decimal, hex}
 use Rattle.rules.specs.Texts.{label}
-use Rattle.rules.specs.NameTables.{controlTypeNames}
-use Rattle.rules.specs.Names.{nameIn, namesFor}
-use Rattle.rules.specs.Rows.{controlWidth, propertyWidth, rowAt}
+use Rattle.rules.specs.NameTables.{Table, textNames, numberNames, bytesNames, controlTypeNames}
+use Rattle.rules.specs.Names.{hasId, nameText, nameIn, namesFor}
+use Rattle.rules.specs.Rows.{rowAt}
 use Rattle.rules.specs.Bytes.{part}
 use Rattle.rules.specs.Listing.{orDash, answerLine, word, nameColumn, controlLine, markWord, yesOrNo, number32, valueColumn, propertyLine}
 use Rattle.rules.specs.declared.Answer.{Answer}
 use Rattle.text.proofs.Digits.{longest-label}
 use Rattle.text.proofs.Written.{guid-length}
-use Rattle.listing.specs.Lines.{Line}
 use Rattle.values.proofs.Marks.{is-no, is-yes, low-half, high-half}
-use Rattle.fields.proofs.Fields.{word-at, numbered, with-name}
-use Rattle.fields.proofs.Tables.{control-types, values, short-name}
-use Rattle.listing.proofs.Placed.{held}
+use Rattle.fields.proofs.Fields.{numbered, with-name}
+use Rattle.listing.specs.Shown.{linesTo}
+use Rattle.listing.specs.Bound.{longestIn, longestType, longestName, longestAnswer, longestControl, longestProperty}
 
 -- a number of 32 bits
 abbrev pub Word32 : ℕ → Type 0
 Word32 n = n < 4294967296
+
+-- ---- names
+some-place : (t : Table) → 1 ≤ longestIn t
+unfolding longestIn
+some-place [] = omega arith
+some-place (r ∷ t) = omega (arith, some-place t, le-max-right (length (text (r .1))) (longestIn t))
+
+name-by : (r : ℕ × String) (o : Option (ℕ × String)) (rest : ℕ) → length (nameText o) ≤ rest → (b : Bool) → length (nameText (cond b (some r) o)) ≤ max (length (text (r .1))) rest
+name-by r o rest h true = le-max-left (length (text (r .1))) rest
+name-by r o rest h false = omega (arith, le-max-right (length (text (r .1))) rest)
+
+name-in : (t : Table) (x : ℕ) → length (nameText (find (hasId x) t)) ≤ longestIn t
+unfolding find longestIn
+name-in [] x = omega arith
+name-in (r ∷ t) x = name-by r (find (hasId x) t) (longestIn t) (name-in t x) (eqb (r .0) x)
+
+or-dash : (s : List ℕ) (most : ℕ) → 1 ≤ most → length s ≤ most → length (orDash s) ≤ most
+unfolding orDash
+or-dash [] most o h = o
+or-dash (b ∷ s) most o h = h
+
+name-short : (t : Table) (x : ℕ) → length (orDash (nameIn t x)) ≤ longestIn t
+unfolding nameIn
+name-short t x = or-dash (nameIn t x) (longestIn t) (some-place t) (name-in t x)
+
+type-short : (x : ℕ) → length (orDash (nameIn controlTypeNames x)) ≤ longestType
+unfolding longestType
+type-short x = name-short controlTypeNames x
+
+table-by : (b : Bool) (t u : Table) (most : ℕ) → longestIn t ≤ most → longestIn u ≤ most → longestIn (cond b t u) ≤ most
+table-by true t u most h k = h
+table-by false t u most h k = k
+
+-- the table that a mark names
+value-names : (m : ℕ) → longestIn (namesFor m) ≤ longestName
+unfolding namesFor longestIn longestName
+value-names m =
+    let x = longestIn textNames in
+    let n = longestIn numberNames in
+    let b = longestIn bytesNames in
+    let p = le-max-left x (max n b) in
+    let q = le-max-right x (max n b) in
+    let u = le-max-left n b in
+    let v = le-max-right n b in
+    table-by (leb m 4) _ _ _ (omega arith)
+    (table-by (eqb m 6 || eqb m 8) _ _ _ (omega arith)
+    (table-by (eqb m 5 || eqb m 7) _ _ _ (omega arith) (omega (arith, some-place textNames))))
+
+value-name-short : (m x : ℕ) → length (orDash (nameIn (namesFor m) x)) ≤ longestName
+value-name-short m x = omega (arith, name-short (namesFor m) x, value-names m)
 
 -- ---- fields
 decimal-short : (n : ℕ) → Word32 n → length (decimal n) ≤ 10
@@ -37,12 +90,7 @@ unfolding hex
 hex-length zero n = refl
 hex-length (suc k) n = let e : length (hex k (n / 16)) ≡ k = hex-length k (n / 16) in simp length-append (omega arith)
 
-name-short : (s : List ℕ) → length s ≤ 26 → length (orDash s) ≤ 26
-unfolding orDash
-name-short [] h = omega arith
-name-short (b ∷ s) h = h
-
-chars-by : (m n : ℕ) → Word32 n → (t : Bool) → eqb m 1 ≡ t → length (nameColumn m n) ≤ 10
+pub chars-by : (m n : ℕ) → Word32 n → (t : Bool) → eqb m 1 ≡ t → length (nameColumn m n) ≤ 10
 chars-by m n h true e = rw (numbered m n (eqb-true m 1 e)) (omega arith)
 chars-by m n h false e = rw (with-name m n (eqb-false m 1 e)) (decimal-short (n / 2) (omega arith))
 
@@ -62,19 +110,21 @@ yes-by : (n : ℕ) → (t : Bool) → eqb n 0 ≡ t → length (yesOrNo n) ≤ 3
 yes-by n true e = rw (is-no n (eqb-true n 0 e)) (omega arith)
 yes-by n false e = rw (is-yes n (eqb-false n 0 e)) (omega arith)
 
-signed-by : (n : ℕ) → Word32 n → (t : Bool) → ltb n 2147483648 ≡ t → length (number32 n) ≤ 11
-signed-by n h true e = rw (low-half n (ltb-true n 2147483648 e)) (omega (arith, decimal-short n h))
-signed-by n h false e =
+signed-by : (n : ℕ) (t : Bool) → ltb n 2147483648 ≡ t → length (number32 n) ≤ 11
+signed-by n true e =
+    let g : n < 2147483648 = ltb-true n 2147483648 e in
+    rw (low-half n g) (omega (arith, decimal-short n (omega arith)))
+signed-by n false e =
     let g : 2147483648 ≤ n = ltb-false n 2147483648 e in
     rw (high-half n g) (omega (arith, decimal-short (4294967295 - n + 1) (omega arith)))
 
-module _ (low high size : ℕ) (g : List ℕ) (hl : Word32 low) (hs : Word32 size) where
+module _ (low high size : ℕ) (g : List ℕ) (hs : Word32 size) where
   value-short : (m : ℕ) → length (valueColumn m low high size g) ≤ 38
   unfolding valueColumn
   value-short zero = omega (arith, yes-by low (eqb low 0) refl)
   value-short (suc zero) = omega arith
-  value-short (suc (suc zero)) = omega (arith, signed-by low hl (ltb low 2147483648) refl)
-  value-short (suc (suc (suc zero))) = omega (arith, signed-by low hl (ltb low 2147483648) refl)
+  value-short (suc (suc zero)) = omega (arith, signed-by low (ltb low 2147483648) refl)
+  value-short (suc (suc (suc zero))) = omega (arith, signed-by low (ltb low 2147483648) refl)
   value-short (suc (suc (suc (suc zero)))) = simp length-append (omega (arith, hex-length 8 high, hex-length 8 low))
   value-short (suc (suc (suc (suc (suc zero))))) = omega (arith, guid-length g)
   value-short (suc (suc (suc (suc (suc (suc zero)))))) = omega (arith, decimal-short (size / 2) (omega arith))
@@ -82,57 +132,47 @@ module _ (low high size : ℕ) (g : List ℕ) (hl : Word32 low) (hs : Word32 siz
 
 -- ---- lines
 module _ (a : Answer) (h0 : Word32 (a .number)) (h1 : Word32 (a .first)) (h2 : Word32 (a .second)) (h3 : Word32 (a .third)) where
-  pub longest-answer : length (answerLine a) ≤ 51
+  pub answer-short : length (answerLine a) ≤ longestAnswer
   unfolding answerLine
-  longest-answer =
+  answer-short =
       simp length-append
       (omega (arith, decimal-short (a .number) h0, decimal-short (a .first) h1, decimal-short (a .second) h2, decimal-short (a .third) h3))
 
-  pub whole-answer : {o new : List ℕ} {e : ℕ} → Line o (answerLine a) new e → 128 ≤ length o → take e new ≡ answerLine a
-  whole-answer l h = held l (omega (arith, longest-answer))
-
--- the words of row n of a slice of words
-row-words : (n : ℕ) (rows : List ℕ) → ((i : ℕ) → Word32 (getD rows i 0)) → (i : ℕ) → i < 6 → Word32 (word (rowAt propertyWidth n rows) i)
-row-words n rows h i l = rw (word-at n i rows l) (h (n * 6 + i))
-
-module _ (n : ℕ) (hn : Word32 n) (rows : List ℕ) (words : (i : ℕ) → Word32 (getD rows i 0)) where
-  pub longest-control : length (controlLine n (rowAt controlWidth n rows)) ≤ 78
+module _ (n : ℕ) (row : List ℕ) (hn : Word32 n) where
+  -- a numbered control's length isn't shown
+  pub control-short : length (nameColumn (word row 1) (word row 3)) ≤ 10 → Word32 (word row 4) → Word32 (word row 5) → length (controlLine n row) ≤ longestControl
   unfolding controlLine
-  longest-control =
-      let row = rowAt controlWidth n rows in
-      let w = row-words n rows words in
+  control-short h3 h4 h5 =
       simp length-append
       (omega (
         arith,
         decimal-short n hn,
         hex-length 4 (word row 0),
-        name-short (nameIn controlTypeNames (word row 0)) (short-name controlTypeNames control-types (word row 0)),
-        chars-by (word row 1) (word row 3) (w 3 (omega arith)) (eqb (word row 1) 1) refl,
-        decimal-short (word row 4) (w 4 (omega arith)),
-        decimal-short (word row 5) (w 5 (omega arith)),
+        type-short (word row 0),
+        decimal-short (word row 4) h4,
+        decimal-short (word row 5) h5,
       ))
 
-  pub whole-control : {o new : List ℕ} {e : ℕ} → Line o (controlLine n (rowAt controlWidth n rows)) new e → 128 ≤ length o
-      → take e new ≡ controlLine n (rowAt controlWidth n rows)
-  whole-control l h = held l (omega (arith, longest-control))
+  pub property-short : (stream : List ℕ) → Word32 (word row 5) → length (propertyLine stream n row) ≤ longestProperty
+  unfolding propertyLine
+  property-short stream h5 =
+      simp length-append
+      (omega (
+        arith,
+        decimal-short n hn,
+        hex-length 4 (word row 0),
+        value-name-short (word row 1) (word row 0),
+        word-short (word row 1),
+        value-short (word row 2) (word row 3) (word row 5) (part stream (word row 4) (word row 5)) h5 (word row 1),
+      ))
 
-  module _ (stream : List ℕ) where
-    pub longest-property : length (propertyLine stream n (rowAt propertyWidth n rows)) ≤ 95
-    unfolding propertyLine
-    longest-property =
-        let row = rowAt propertyWidth n rows in
-        let w = row-words n rows words in
-        let names = namesFor (word row 1) in
-        simp length-append
-        (omega (
-          arith,
-          decimal-short n hn,
-          hex-length 4 (word row 0),
-          name-short (nameIn names (word row 0)) (short-name names (values (word row 1)) (word row 0)),
-          word-short (word row 1),
-          value-short (word row 2) (word row 3) (word row 5) (part stream (word row 4) (word row 5)) (w 2 (omega arith)) (w 5 (omega arith)) (word row 1),
-        ))
-
-    pub whole-property : {o new : List ℕ} {e : ℕ} → Line o (propertyLine stream n (rowAt propertyWidth n rows)) new e → 128 ≤ length o
-        → take e new ≡ propertyLine stream n (rowAt propertyWidth n rows)
-    whole-property l h = held l (omega (arith, longest-property))
+-- as many lines as there are rows
+pub lines-short : (lineOf : ℕ → List ℕ → List ℕ) (most w : ℕ) (words : List ℕ) (k : ℕ) → ((i : ℕ) → i < k → length (lineOf i (rowAt w i words)) ≤ most)
+    → length (linesTo lineOf w k words) ≤ k * most
+unfolding linesTo
+lines-short lineOf most w words zero h = omega arith
+lines-short lineOf most w words (suc k) h =
+    let one = h k (omega arith) in
+    let rest = lines-short lineOf most w words k (λ i l. h i (omega arith)) in
+    let e = suc-mul k most in
+    simp length-append (omega arith)

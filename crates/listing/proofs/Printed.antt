@@ -110,6 +110,11 @@ pub printed-shown : (t s controls props : List ℕ)
 unfolding exit
 printed-shown t s controls props = shown-by s controls props (outcome t s (room controlWidth controls) (room propertyWidth props)) (outcome-stated _ _ t s)
 
+-- with room for 256 controls and 1,024 properties
+pub rows-shown : (t s controls props : List ℕ) → room controlWidth controls ≡ 256 → room propertyWidth props ≡ 1024
+    → printed s (outcome t s 256 1024) ≡ shown s (exit t s controls props)
+rows-shown t s controls props c p = ap₂ (λ (m n : ℕ). printed s (outcome t s m n)) (sym c) (sym p) ∙ printed-shown t s controls props
+
 -- ---- the program, by the length of its input
 module _ (input : List ℕ) where
   pub listing-long : 32768 < length input → listing input ≡ answerLine (refusal tooLong)
@@ -125,11 +130,6 @@ module _ (input : List ℕ) where
     unfolding listing
     listing-cut h = rw (le-ltb 32768 (length input) fits, le-ltb (length input) 4 begins, lt-ltb (length input) (4 + tableLength input) h)
 
-    -- with room for 256 controls and 1,024 properties
-    pub listing-shown : 4 + tableLength input ≤ length input → (controls props : List ℕ) → room controlWidth controls ≡ 256 → room propertyWidth props ≡ 1024
-        → listing input ≡ shown (blobIn input) (exit (tableIn input) (blobIn input) controls props)
+    pub listing-blob : 4 + tableLength input ≤ length input → listing input ≡ printed (blobIn input) (outcome (tableIn input) (blobIn input) 256 1024)
     unfolding listing
-    listing-shown h controls props c p =
-        rw (le-ltb 32768 (length input) fits, le-ltb (length input) 4 begins, le-ltb (length input) (4 + tableLength input) h)
-        (ap₂ (λ (m n : ℕ). printed (blobIn input) (outcome (tableIn input) (blobIn input) m n)) (sym c) (sym p)
-        ∙ printed-shown (tableIn input) (blobIn input) controls props)
+    listing-blob h = rw (le-ltb 32768 (length input) fits, le-ltb (length input) 4 begins, le-ltb (length input) (4 + tableLength input) h)

@@ -11,8 +11,6 @@ use Rattle.rules.specs.declared.Answer.{Answer}
 use Rattle.text.specs.Writer.{Wrote}
 use Rattle.text.proofs.Chain.{_⨟_}
 use Rattle.fields.specs.Parts.{fields, shownFields}
-use Rattle.listing.specs.Lines.{Line}
-use Rattle.listing.proofs.Placed.{line}
 
 pub control-text : (n : ℕ) (row : List ℕ) → controlLine n row
     ≡ fields (text "C" ∷ decimal n ∷ hex 4 (word row 0) ∷ [])
@@ -33,36 +31,36 @@ unfolding propertyLine shownFields
 property-text stream n row = simp append-assoc
 
 -- ---- a line written, by the writers of its fields
-pub answer-wrote : (a : Answer) {o b1 b2 b3 b4 b5 b6 b7 b8 b9 new : List ℕ} {p1 p2 p3 p4 p5 p6 p7 p8 p9 e : ℕ}
-    → Wrote o 0 (text "answer") b1 p1
+pub answer-wrote : (a : Answer) {o b1 b2 b3 b4 b5 b6 b7 b8 b9 new : List ℕ} {at p1 p2 p3 p4 p5 p6 p7 p8 p9 e : ℕ}
+    → Wrote o at (text "answer") b1 p1
     → Wrote b1 p1 (text " ") b2 p2 → Wrote b2 p2 (decimal (a .number)) b3 p3
     → Wrote b3 p3 (text " ") b4 p4 → Wrote b4 p4 (decimal (a .first)) b5 p5
     → Wrote b5 p5 (text " ") b6 p6 → Wrote b6 p6 (decimal (a .second)) b7 p7
     → Wrote b7 p7 (text " ") b8 p8 → Wrote b8 p8 (decimal (a .third)) b9 p9
     → Wrote b9 p9 (text "\n") new e
-    → Line o (answerLine a) new e
+    → Wrote o at (answerLine a) new e
 unfolding answerLine
-answer-wrote a w1 w2 w3 w4 w5 w6 w7 w8 w9 w10 = line (w1 ⨟ w2 ⨟ w3 ⨟ w4 ⨟ w5 ⨟ w6 ⨟ w7 ⨟ w8 ⨟ w9 ⨟ w10)
+answer-wrote a w1 w2 w3 w4 w5 w6 w7 w8 w9 w10 = w1 ⨟ w2 ⨟ w3 ⨟ w4 ⨟ w5 ⨟ w6 ⨟ w7 ⨟ w8 ⨟ w9 ⨟ w10
 
 module _ (n : ℕ) (row : List ℕ) where
-  pub control-wrote : {o b1 b2 b3 b4 b5 b6 b7 b8 new : List ℕ} {p1 p2 p3 p4 p5 p6 p7 p8 e code mark size first count : ℕ}
+  pub control-wrote : {o b1 b2 b3 b4 b5 b6 b7 b8 new : List ℕ} {at p1 p2 p3 p4 p5 p6 p7 p8 e code mark size first count : ℕ}
       → code ≡ word row 0 → mark ≡ word row 1 → size ≡ word row 3 → first ≡ word row 4 → count ≡ word row 5
-      → Wrote o 0 (fields (text "C" ∷ decimal n ∷ hex 4 code ∷ [])) b1 p1
+      → Wrote o at (fields (text "C" ∷ decimal n ∷ hex 4 code ∷ [])) b1 p1
       → Wrote b1 p1 (orDash (nameIn controlTypeNames code)) b2 p2
       → Wrote b2 p2 (text " ") b3 p3 → Wrote b3 p3 (nameColumn mark size) b4 p4
       → Wrote b4 p4 (text " ") b5 p5 → Wrote b5 p5 (decimal first) b6 p6
       → Wrote b6 p6 (text " ") b7 p7 → Wrote b7 p7 (decimal count) b8 p8
       → Wrote b8 p8 (text "\n") new e
-      → Line o (controlLine n row) new e
+      → Wrote o at (controlLine n row) new e
   control-wrote c m s f k w1 w2 w3 w4 w5 w6 w7 w8 w9 =
-      rw (control-text n row) (line (rw (c, m, s, f, k) at (w1 ⨟ w2 ⨟ w3 ⨟ w4 ⨟ w5 ⨟ w6 ⨟ w7 ⨟ w8 ⨟ w9)))
+      rw (control-text n row) (rw (c, m, s, f, k) at (w1 ⨟ w2 ⨟ w3 ⨟ w4 ⨟ w5 ⨟ w6 ⨟ w7 ⨟ w8 ⨟ w9))
 
-  pub property-wrote : (stream : List ℕ) {o b1 b2 b3 b4 new : List ℕ} {p1 p2 p3 p4 e id mark : ℕ}
+  pub property-wrote : (stream : List ℕ) {o b1 b2 b3 b4 new : List ℕ} {at p1 p2 p3 p4 e id mark : ℕ}
       → id ≡ word row 0 → mark ≡ word row 1
-      → Wrote o 0 (fields (text "P" ∷ decimal n ∷ hex 4 id ∷ [])) b1 p1
+      → Wrote o at (fields (text "P" ∷ decimal n ∷ hex 4 id ∷ [])) b1 p1
       → Wrote b1 p1 (orDash (nameIn (namesFor mark) id)) b2 p2
       → Wrote b2 p2 (text " ") b3 p3 → Wrote b3 p3 (shownFields stream row) b4 p4
       → Wrote b4 p4 (text "\n") new e
-      → Line o (propertyLine stream n row) new e
+      → Wrote o at (propertyLine stream n row) new e
   property-wrote stream i m w1 w2 w3 w4 w5 =
-      rw (property-text stream n row) (line (rw (i, m) at (w1 ⨟ w2 ⨟ w3 ⨟ w4 ⨟ w5)))
+      rw (property-text stream n row) (rw (i, m) at (w1 ⨟ w2 ⨟ w3 ⨟ w4 ⨟ w5))

@@ -1,3 +1,3 @@
 -- What the writers of the listing say.
-pub mod Lines
 pub mod Shown
+pub mod Bound

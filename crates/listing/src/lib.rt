@@ -1,4 +1,4 @@
-// The lines that `formlist` prints. Each is written into a lent buffer from its start on; the place behind it is returned.
+// The lines of the listing. Each is written into a lent buffer at a place; the place behind it is returned.
 use fields::put_chars;
 use fields::put_end;
 use fields::put_head;
@@ -14,12 +14,12 @@ ghost use Rattle.rules.specs.NameTables.{controlTypeNames};
 ghost use Rattle.rules.specs.Rows.{controlWidth, propertyWidth, rowAt};
 ghost use Rattle.rules.specs.Listing.{answerLine, controlLine, propertyLine};
 ghost use Rattle.names.specs.Lookup.{Lent, AllLent};
-ghost use Rattle.listing.specs.Lines.{Line};
+ghost use Rattle.text.specs.Writer.{Wrote};
 
-pub fn answer_line(a: Answer, out: &mut [u8]) -> usize
-    ensures { λ r. ⌜ Line (now (out .entry)) (answerLine a) (now (out .exit)) r ⌝ }
+pub fn answer_line(out: &mut [u8], at: usize, a: Answer) -> usize
+    ensures { λ r. ⌜ Wrote (now (out .entry)) at (answerLine a) (now (out .exit)) r ⌝ }
 {
-    let p = put_text(out, 0, b"answer");
+    let p = put_text(out, at, b"answer");
     let p = put_byte(out, p, b' ');
     let p = put_decimal(out, p, a.number);
     let p = put_byte(out, p, b' ');
@@ -33,21 +33,22 @@ pub fn answer_line(a: Answer, out: &mut [u8]) -> usize
 
 // The C line of control row `n`. The names of control types are lent.
 pub fn control_line(
+    out: &mut [u8],
+    at: usize,
     rows: &[u32],
     n: u32,
     type_ids: &[u16],
     type_names: &[[u8; 26]],
-    out: &mut [u8],
 ) -> usize
     requires { ⌜ Lent controlTypeNames (now «type_ids») (now «type_names») ⌝ }
-    ensures { λ r. ⌜ Line (now (out .entry)) (controlLine n (rowAt controlWidth n (now (rows .entry)))) (now (out .exit)) r ⌝ }
+    ensures { λ r. ⌜ Wrote (now (out .entry)) at (controlLine n (rowAt controlWidth n (now (rows .entry)))) (now (out .exit)) r ⌝ }
 {
     let code = row_word(rows, n, 0);
     let mark = row_word(rows, n, 1);
     let size = row_word(rows, n, 3);
     let first = row_word(rows, n, 4);
     let count = row_word(rows, n, 5);
-    let p = put_head(out, b'C', n, code);
+    let p = put_head(out, at, b'C', n, code);
     let p = put_type_name(out, p, type_ids, type_names, code);
     let p = put_byte(out, p, b' ');
     let p = put_chars(out, p, mark, size);
@@ -60,6 +61,8 @@ pub fn control_line(
 
 // The P line of property row `n`. The names of values are lent.
 pub fn property_line<'a>(
+    out: &mut [u8],
+    at: usize,
     stream: &[u8],
     rows: &[u32],
     n: u32,
@@ -69,14 +72,13 @@ pub fn property_line<'a>(
     number_names: &'a [[u8; 26]],
     bytes_ids: &[u16],
     bytes_names: &'a [[u8; 26]],
-    out: &mut [u8],
 ) -> usize
     requires { ⌜ AllLent (now «text_ids») (now «text_names») (now «number_ids») (now «number_names») (now «bytes_ids») (now «bytes_names») ⌝ }
-    ensures { λ r. ⌜ Line (now (out .entry)) (propertyLine (now (stream .entry)) n (rowAt propertyWidth n (now (rows .entry)))) (now (out .exit)) r ⌝ }
+    ensures { λ r. ⌜ Wrote (now (out .entry)) at (propertyLine (now (stream .entry)) n (rowAt propertyWidth n (now (rows .entry)))) (now (out .exit)) r ⌝ }
 {
     let id = row_word(rows, n, 0);
     let mark = row_word(rows, n, 1);
-    let p = put_head(out, b'P', n, id);
+    let p = put_head(out, at, b'P', n, id);
     let p = put_value_name(
         out,
         p,

@@ -29,7 +29,7 @@ returns c =
     (c10 .put-end .ensures)
 
 same-length : tie.Need-same-length
-same-length c = same (returns c .wrote)
+same-length c = same (returns c)
 
 pub answer-line-spec : {M : Type 1} → statement M
 answer-line-spec =

@@ -35,7 +35,7 @@ returns c =
     (c9 .put-end .ensures)
 
 same-length : tie.Need-same-length
-same-length c = same (returns c .wrote)
+same-length c = same (returns c)
 
 pub control-line-spec : {M : Type 1} → statement M
 control-line-spec =
