@@ -1,0 +1,4 @@
+-- Laws of the listing's writer.
+mod Walked
+mod Whole
+pub mod Input

@@ -1,0 +1,39 @@
+use Prim.Native.Nat.{_-_}
+use native.Mathlib.Omega.{arith}
+use borrow.Author.Needs.{needs}
+use Rattle.rules.specs.Rows.{propertyWidth}
+use Rattle.rules.specs.Listing.{propertyLine}
+use Rattle.text.proofs.Chain.{same}
+use Rattle.lister.proofs.Walked.{Walked, walked-none, walked-more, walked-all}
+use Rattle.lister.proofs.property_lines.Statement.{statement}
+use Rattle.lister.proofs.property_lines.Tie as tie
+
+abbrev Inv-loop : tie.InvT-loop
+Inv-loop out₀ at stream rows count text-ids text-rows number-ids number-rows bytes-ids bytes-rows p₀ n₀ out p n = Walked (propertyLine stream) propertyWidth rows count out₀ at out p n
+
+abbrev μ-loop : tie.MeasureT-loop
+μ-loop out₀ at stream rows count text-ids text-rows number-ids number-rows bytes-ids bytes-rows p₀ n₀ out p n = count - n
+
+loop-holds : tie.Need-loop-holds Inv-loop μ-loop
+loop-holds c = walked-none
+
+loop-again : tie.Need-loop-again Inv-loop μ-loop
+loop-again c = walked-more (c .before .before .before .before .before .loop .inv) (c .before .before .before .before .loop-test .taken) (c .before .before .property-line .ensures)
+
+same-length : tie.Need-same-length Inv-loop μ-loop
+same-length c = same (c .before .loop .inv .wrote)
+
+returns : tie.Need-returns Inv-loop μ-loop
+returns c = walked-all (c .before .loop .inv) (c .loop-test .left)
+
+pub property-lines-spec : {M : Type 1} → statement M
+property-lines-spec =
+    tie.close
+    (tie.spec
+    Inv-loop
+    μ-loop
+    loop-holds
+    (λ c κs. search needs) (λ c. omega arith) (λ c. omega arith)
+    loop-again
+    same-length
+    returns)

@@ -1,0 +1,2 @@
+-- What the writer of the listing says.
+pub mod Listed
