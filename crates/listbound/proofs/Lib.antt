@@ -1,0 +1,3 @@
+-- The listing of every input is bounded.
+mod Counts
+pub mod Bounded
