@@ -1,0 +1,30 @@
+use mathlib.Core.Path.{sym}
+use native.Mathlib.Omega.{arith}
+use borrow.Author.Needs.{needs}
+use lib.Seq.{length-take-le}
+use Rattle.listing.proofs.Placed.{within}
+use Rattle.formlist.proofs.Printing.{all-printed}
+use Rattle.formlist.proofs.list.Statement.{statement}
+use Rattle.formlist.proofs.list.Tie as tie
+
+slice-reshare-prefix-print : tie.Need-slice-reshare-prefix-print
+slice-reshare-prefix-print c = within (c .before .before .write-listing .ensures)
+
+slice-aggregate-print : tie.Need-slice-aggregate-print
+slice-aggregate-print c = let w = c .before .before .before .write-listing in sym (length-take-le (w .result) _ (within (w .ensures)))
+
+print-requires : tie.Need-print-requires
+print-requires c κs =
+    let p = c .before .before .before .before .before .before .before .before .before .before .before .before .before .before .before .before .before .pre .1 .1 in
+    let r = c .before .before .before .before .before .before .before .before .before .read-full in
+    all-printed (c .before .before .before .write-listing .ensures) (p .1) λ e. omega (arith, c .before .before .before .before .before .before .has-more .ensures e, r .ensures .1, r .kept, p .0)
+
+pub list-spec : {M : Type 1} → statement M
+list-spec =
+    tie.close
+    (tie.spec
+    (λ c κs. search needs) (λ c κs. search needs) (λ c. search needs) (λ c. search needs) (λ c κs. search needs)
+    slice-reshare-prefix-print
+    slice-aggregate-print
+    print-requires
+    (λ c. search needs) (λ c. search needs) (λ c. search needs))
