@@ -2,6 +2,7 @@
 mod lines; // lines.rt: the lines that are printed
 
 use libc::STDIN_FILENO;
+use libc::STDOUT_FILENO;
 use lines::behind;
 use lines::front;
 use lines::print_answer;
@@ -151,12 +152,9 @@ fn replay_listing<'a>(
     requires { ⌜ AllLent (now «text_ids») (now «text_rows») (now «number_ids») (now «number_rows») (now «bytes_ids») (now «bytes_rows») ⌝ }
     requires { ⌜ Lent controlTypeNames (now «type_ids») (now «type_rows») ⌝ }
 {
-    let mut controls = [0; 1536];
-    let mut properties = [0; 6144];
-    lister::print_listing(
+    let end = lister::write_listing(
         input,
-        &mut controls,
-        &mut properties,
+        false,
         text_ids,
         text_rows,
         number_ids,
@@ -167,6 +165,7 @@ fn replay_listing<'a>(
         type_rows,
         out,
     );
+    io::write_all(STDOUT_FILENO, front(out, end));
 }
 
 // Prints what a case gives; nothing for a kind that isn't known.
@@ -274,7 +273,7 @@ fn replay<'a>(
     }
 }
 
-// A B line has three bytes for each byte of a case, its letter and the line's end.
+// The buffer holds the longest listing. A B line is shorter: three bytes for each byte of a case, its letter and the line's end.
 fn main() {
     let text_ids = nametables::text_ids();
     let text_rows = nametables::text_rows();
@@ -286,7 +285,7 @@ fn main() {
     let type_rows = nametables::control_type_rows();
     let mut codes = [0u8; 32768];
     let mut input = [0u8; 32768];
-    let mut out = [0u8; 98306];
+    let mut out = [0u8; 114739];
     replay(
         &text_ids,
         &text_rows,
