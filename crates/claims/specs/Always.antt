@@ -1,5 +1,7 @@
 -- What can be said of a function itself: of its code, which is the routine that it is on the logic's machine, and of its contract as it stands in
 -- its crate. That the compiler makes of the code what the routine does is believed.
+-- The kit's words: `World` is any model of that machine, `Args` and `Res` are what is passed and returned, `AtExit` the arguments as they are at exit, `κs` the
+-- lifetimes. `Meets` says of a run from any memory that holds the arguments: it is safe, it ends, and `ensures` holds then; `emp` asks nothing.
 use mathlib.Core.Path.{_≡_}
 use base.Logic.{emp}
 use borrow.Fn.World.{World}
@@ -14,7 +16,7 @@ use prog.Routine.{Routine}
 abbrev pub Saying : Ended → Type 1
 Saying T = (κs : Lfts (T .signature .lifetimes)) → Args (T .signature) κs → Res (T .signature) κs → AtExit T κs → Type 0
 
--- a function: its signature, its code, and what its contract says of a call
+-- a function: its signature, its code (`routine`), and what its contract says of a call (`says`)
 pub record Function : Type 2 where
   pub ended : Ended
   pub routine : Routine
@@ -50,7 +52,8 @@ module _ {A B : Type 0} (f : Fn A B) where
     pub gives : Every (λ handed seen. seen ≡ definition handed)
     pub one-result : OneResult (f .function)
 
-  -- a call that the contract allows: arguments, result, and what is left in what was lent
+  -- a call that the contract allows: arguments, result, and what is left in what was lent. What the code does is among these, as each function is proved to meet
+  -- its contract; where two calls are compared, they are such calls
   pub record Call : Type 0 where
     pub κs : Lfts (f .function .ended .signature .lifetimes)
     pub args : Args (f .function .ended .signature) κs

@@ -1,4 +1,5 @@
--- Document 01's table of answer numbers: the number and counts, and when they are given. "Each is given exactly then."
+-- Document 01's table of answer numbers: the number and counts, and when they are given. "Each is given exactly then.": Demand1 says that what is given is what
+-- stands here. A line's premises say that no answer before it in the order is due.
 use Prim.Native.Nat.{ℕ, _-_, _/_, _≤_, _<_}
 use mathlib.Core.Path.{_≡_}
 use mathlib.Core.Bool.{true, false}
@@ -17,11 +18,13 @@ use Rattle.rules.specs.Blob.{is2000, readingOf, counted}
 use Rattle.rules.specs.declared.Answer.{Answer}
 
 -- ---- a Blob
--- neither 5 nor 8
+-- 5 and 8 aren't due
 pub record Judged (table stream : List ℕ) : Type 0 where
   pub not-long : length stream ≤ 16777216
   pub formed : wellFormed table ≡ true
 
+-- (`properties′` is the lent slice, `properties r` are a reading's.) In 6, 7 and 0 the counts are those of one reading, whatever room is lent; that it is the
+-- right one, and when there is none, is said by the stream's bytes in Demand2, RowChecks and LaterTree.
 pub data BlobAnswer (table stream controls properties′ : List ℕ) : Answer → Type 0 where
   -- stream over 16,777,216 bytes
   five : 16777216 < length stream → BlobAnswer table stream controls properties′ (refusal 5)
@@ -45,7 +48,7 @@ pub data BlobAnswer (table stream controls properties′ : List ℕ) : Answer �
       → BlobAnswer table stream controls properties′ (counted 0 r)
 
 -- ---- TypeInfo
--- neither 5, 1, 2 nor 3
+-- 5, 1, 2 and 3 aren't due
 pub record Entered (stream : List ℕ) : Type 0 where
   pub not-long : length stream ≤ 16777216
   pub whole : 32 ≤ length stream
@@ -57,7 +60,7 @@ pub data TypeInfoAnswer (stream rows : List ℕ) : Answer → Type 0 where
   five : 16777216 < length stream → TypeInfoAnswer stream rows (refusal 5)
   -- TypeInfo under 32 bytes
   one : length stream < 32 → TypeInfoAnswer stream rows (refusal 1)
-  -- its first four bytes aren't F7 EA CD AC
+  -- its first four bytes aren't F7 EA CD AC (one number, the low byte first)
   two : length stream ≤ 16777216 → 32 ≤ length stream → ¬ (u32 stream 0 ≡ 0xACCDEAF7) → TypeInfoAnswer stream rows (refusal 2)
   -- count at 12 (u32) above (length − 32) / 8, rounded down
   three : length stream ≤ 16777216 → 32 ≤ length stream → u32 stream 0 ≡ 0xACCDEAF7 → (length stream - 32) / 8 < u32 stream 12 → TypeInfoAnswer stream rows (refusal 3)
@@ -66,7 +69,7 @@ pub data TypeInfoAnswer (stream rows : List ℕ) : Answer → Type 0 where
   -- read
   zero : Entered stream → length (typeInfoOf stream) ≤ room typeInfoWidth rows → TypeInfoAnswer stream rows (answer 0 (length (typeInfoOf stream)) 0 0)
 
--- ---- GUID text and labels
+-- ---- GUID text and labels. (Which bytes are written says the definition, `guidExit` or `labelExit`: Calls)
 pub data GuidAnswer (guid out : List ℕ) : Answer → Type 0 where
   -- GUID value isn't 16 bytes
   ten : ¬ (length guid ≡ 16) → GuidAnswer guid out (refusal 10)

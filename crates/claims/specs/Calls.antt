@@ -63,9 +63,9 @@ pub record TwoTables (older newer : Blob) : Type 0 where
   pub same-room : SameRoom (lent older) (lent newer)
 
 pub record ReadBlob (f : Fn Blob Exit) : Type 2 where
-  -- its contract is the equation with the definition
+  -- what is seen is what the definition says: the answer with its counts, and every word of both slices
   pub is-exit : Every f (λ a seen. seen ≡ exit (a .table) (a .stream) (a .controls) (a .properties))
-  -- a stream that is lent is a list of bytes, so no promise need ask it
+  -- a stream that is lent is a list of bytes: so no line here asks it, and what Demand2, LaterTree and RowChecks say of lists of bytes holds of it
   pub bytes : Every f (λ a seen. Bytes (a .stream))
   -- "Every stream, code table and buffer length gets an answer. Bad input is refused by number, nothing is asked of the caller beforehand, and a
   -- refused call changes no byte of any buffer."
@@ -78,7 +78,7 @@ pub record ReadBlob (f : Fn Blob Exit) : Type 2 where
   -- and for any room: 4 exactly when the bytes spell nothing, one of 0, 6 and 7 when they spell something, with its counts
   pub demand2-judges : Every f (λ a seen. Given (a .table) (a .stream) → Judges (a .table) (a .stream) (seen .answer))
   -- "over the same Access 2000 stream and room both give the same answer number, controls, names and property count, and on answer 0 a property
-  -- differs exactly where .."
+  -- differs exactly where .." Of any two calls that the contract allows
   pub demand3 : (older newer : Call f) → TwoTables (handed older) (handed newer)
       → is2000 (handed older .table) (handed older .stream) ≡ true
       → SameBut (handed older .table) (handed newer .table) (handed older .stream) (lent (handed older)) (lent (handed newer)) (seen older) (seen newer)
@@ -90,23 +90,23 @@ pub record ReadBlob (f : Fn Blob Exit) : Type 2 where
   pub counts : Every f (λ a seen. Counts (a .table) (a .stream) (a .controls) (a .properties) seen)
   -- what is seen of a later stream: its tree, or the scan
   pub later-judges : Every f (λ a seen. later.Given (a .table) (a .stream) → later.Judges (a .stream) (a .controls) (a .properties) seen)
-  -- what a reader can check of the rows
+  -- what a caller can check of the rows
   pub row-checks : Every f (λ a seen. seen .answer .number ≡ 0 → Checks (a .table) (a .stream) seen)
   -- the controls of an Access 2000 stream are those that its bytes spell
   pub items : Every f (λ a seen.
       Given (a .table) (a .stream) → (t : Stream) → drop 10 (a .stream) spells t → seen .answer .number ≡ 0
       → SeenItems (a .table) (a .stream) (a .controls) (a .properties) t seen)
-  -- wish 14: "For every stream with answer 0, C controls and P property rows .."
+  -- wish 14 (Rooms): "For every stream with answer 0, C controls and P property rows .."
   pub bounds : Every f (λ a seen. rooms.Bounds (a .table) (a .stream) (a .controls) (a .properties) seen)
   -- "So room computed from the length alone never brings 6 or 7."
   pub room-enough : Every f (λ a seen. rooms.Enough (a .table) (a .stream) (a .controls) (a .properties) seen)
   -- "any two results it allows are proved equal"
   pub one-result : OneResult (f .function)
-  -- wherever the slices stand: the words alone tell what is seen; and the contract allows a call of any words
+  -- wherever the slices stand: the words alone tell what is seen; and the contract allows a call of any words, so that what is said of two calls isn't idle
   pub by-words : (c d : Call f) → handed c ≡ handed d → seen c ≡ seen d
   pub allows : (a : Blob) → (c : Call f) × (handed c ≡ a)
 
--- ---- read_type_info(stream, rows)
+-- ---- read_type_info(stream, rows): the same of TypeInfo
 pub record ReadTypeInfo (f : Fn TypeInfo TypeInfoExit) : Type 2 where
   pub is-exit : Every f (λ a seen. seen ≡ typeInfoExit (a .stream) (a .rows))
   pub demand1 : Every f (λ a seen. TypeInfos (a .stream) (a .rows) seen)
@@ -115,19 +115,19 @@ pub record ReadTypeInfo (f : Fn TypeInfo TypeInfoExit) : Type 2 where
   pub room-enough : Every f (λ a seen. rooms.EnoughInfos (a .stream) (a .rows) seen)
   pub one-result : OneResult (f .function)
 
--- ---- guid_text(guid, out)
+-- ---- guid_text(guid, out): `guidExit` says which bytes are written, and that those behind them stay
 pub record GuidText (f : Fn Guid TextExit) : Type 2 where
   pub is-exit : Every f (λ a seen. seen ≡ guidExit (a .guid) (a .out))
   pub demand1 : Every f (λ a seen. Texts (GuidAnswer (a .guid) (a .out)) (a .out) seen)
   pub one-result : OneResult (f .function)
 
--- ---- label_text(n, out)
+-- ---- label_text(n, out): so does `labelExit`
 pub record LabelText (f : Fn Label TextExit) : Type 2 where
   pub is-exit : Every f (λ a seen. seen ≡ labelExit (a .n) (a .out))
   pub demand1 : Every f (λ a seen. Texts (LabelAnswer (a .n) (a .out)) (a .out) seen)
   pub one-result : OneResult (f .function)
 
--- ---- the functions that both the crates and the archive have; those of one line are their definitions, with one result
+-- ---- the functions that both the crates and the archive have. `Gives f d` says that every call of f gives what d says, and that the contract allows nothing else
 pub record Promised (i : Interface) : Type 2 where
   pub read-blob : ReadBlob (i .read-blob)
   pub read-type-info : ReadTypeInfo (i .read-type-info)
@@ -156,10 +156,10 @@ part a = namePart (a .stream) (a .label) (a .mark) (a .start) (a .size)
 pub record ControlNameIn : Type 2 where
   pub bytes : Every control-name-in (λ a seen. seen .bytes ≡ partBytes (a .stream) (a .label) (part a))
   pub place : Every control-name-in (λ a seen. seen .place ≡ partPlace (a .stream-place) (a .label-place) (part a))
-  -- a slice is its place and what it holds; the logic's name for it is nothing that the machine has
+  -- any two results are equal in all that is seen, place and bytes. (The logic gives a slice a name besides, which no machine has: so not by `OneResult`)
   pub one-result : (c d : Call control-name-in) → handed c ≡ handed d → seen c ≡ seen d
 
--- ---- widen(low): the double's words, and its value is the single's
+-- ---- widen(low): the double's words, and its value is the single's (a NaN's value is NaN; its bits are in `widened`)
 pub record Widen : Type 2 where
   pub is-widened : Gives widen (λ low. wordsOf (widened low))
   pub exact : Every widen (λ low wide. ofBits binary64 (bitsOf wide) ≡ ofBits binary32 low)

@@ -1,4 +1,5 @@
--- What an Access 2000 stream is read as, with the bytes of each value in the place of its start and length.
+-- What an Access 2000 stream is read as, in the grammar's terms: each value is given by its bytes instead of by start and length. (`streamOf` reads; `Prop` and
+-- `Entry` are what it reads. Where the values stand is checked in RowChecks.)
 use Prim.Native.Nat.{ℕ}
 use mathlib.Core.List.{List, [], _∷_}
 use mathlib.Core.Option.{Option, some}

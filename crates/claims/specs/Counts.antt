@@ -18,7 +18,7 @@ pub record Counted (controls properties : List ℕ) (r : Reading) (seen : Exit) 
   pub control-words : seen .controls ≡ concat (controlRows r) ++ drop (length (controlRows r) * controlWidth) controls
   pub property-words : seen .properties ≡ concat (propertyRows r) ++ drop (length (propertyRows r) * propertyWidth) properties
 
--- wherever there is a reading and room for it
+-- wherever there is a reading and room for it: there `outcome` is `read r`, and there alone the answer is 0 (`BlobAnswer.zero`)
 abbrev pub Counts : List ℕ → List ℕ → List ℕ → List ℕ → Exit → Type 0
 Counts table stream controls properties seen =
     (r : Reading) → outcome table stream (room controlWidth controls) (room propertyWidth properties) ≡ read r → Counted controls properties r seen

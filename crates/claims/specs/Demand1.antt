@@ -1,6 +1,7 @@
 -- Demand 1. Every stream, code table and buffer length gets an answer. Bad input is refused by number, nothing is asked of the caller
 -- beforehand, and a refused call changes no byte of any buffer.
--- (Here of the definitions, which are functions of every list; `Calls.antt` says it of every call of the functions.)
+-- (Here of the definitions, which are functions of every list; `Calls.antt` says it of every call of the functions. Table, stream and GUID are lent for reading
+-- only, so that no call can change them: the buffers spoken of are those that a call may write.)
 use Prim.Native.Nat.{ℕ}
 use mathlib.Core.Path.{_≡_}
 use mathlib.Core.List.{List}
@@ -25,6 +26,7 @@ pub record TypeInfos (stream rows : List ℕ) (e : TypeInfoExit) : Type 0 where
   pub exactly : (a : Answer) → TypeInfoAnswer stream rows a ↔ (a ≡ e .answer)
   pub rows-stay : Refused (e .answer) → e .rows ≡ rows
 
+-- of the writers of GUID text and labels; `Table` is the table of their answers
 pub record Texts (Table : Answer → Type 0) (out : List ℕ) (e : TextExit) : Type 0 where
   pub exactly : (a : Answer) → Table a ↔ (a ≡ e .answer)
   pub out-stays : Refused (e .answer) → e .out ≡ out

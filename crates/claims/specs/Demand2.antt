@@ -18,13 +18,14 @@ use Rattle.claims.specs.Grammar.{Stream, _spells_}
 use Rattle.claims.specs.Contents.{contents}
 use Rattle.claims.specs.Shown.{itemsIn, propertiesIn, shown}
 
--- a well-formed code table, and an Access 2000 stream of at most 16,777,216 bytes
+-- a well-formed code table, and an Access 2000 stream: its first byte is the table's layout byte. (The customer's sentence doesn't speak of the length. Document 01
+-- does: a stream over 16,777,216 bytes is answered 5, whatever it spells, and so `not-long` stands here.)
 pub record Given (table stream : List ℕ) : Type 0 where
   pub formed : wellFormed table ≡ true
   pub old-layout : is2000 table stream ≡ true
   pub not-long : length stream ≤ longest
 
--- room for whatever reading the stream has
+-- room for whatever reading the stream has. (How much that is by the bytes says `Judges.counts`: the counts of a reading are those of what is spelled)
 abbrev pub Enough : List ℕ → List ℕ → ℕ → ℕ → Type 0
 Enough table stream controlRoom propertyRoom =
     (r : Reading) → readingOf table stream ≡ some r → (length (r .controls) ≤ controlRoom) × (length (properties r) ≤ propertyRoom)
@@ -33,13 +34,13 @@ Enough table stream controlRoom propertyRoom =
 abbrev pub Spelled : List ℕ → Type 0
 Spelled stream = (t : Stream) × (drop 10 stream spells t)
 
--- for any room
+-- the answer a for any room
 pub record Judges (table stream : List ℕ) (a : Answer) : Type 0 where
   -- answer 4 exactly when the bytes spell nothing
   pub refused : (a .number ≡ 4) ↔ (¬ Spelled stream)
   -- and one of 0, 6 and 7 exactly when they spell something
   pub taken : ((a .number ≡ 0) ⊎ ((a .number ≡ 6) ⊎ (a .number ≡ 7))) ↔ Spelled stream
-  -- the counts are then those of what is spelled: the reported items with all below them, their properties and the object's, the object's
+  -- the counts are then those of what is spelled: first the reported items with all below them, second their properties and the object's, third the object's
   pub counts : (t : Stream) → drop 10 stream spells t
       → (a .first ≡ itemsIn (shown (t .list))) × (a .second ≡ length (t .own) + propertiesIn (shown (t .list))) × (a .third ≡ length (t .own))
 
@@ -49,6 +50,7 @@ pub record Demand2 : Type 0 where
   pub accepted : (table stream controls properties : List ℕ) → Bytes stream → Given table stream
       → Enough table stream (room controlWidth controls) (room propertyWidth properties)
       → (exit table stream controls properties .answer .number ≡ 0) ↔ Spelled stream
+  -- and what is answered for any room
   pub judges : (table stream controls properties : List ℕ) → Bytes stream → Given table stream → Judges table stream (exit table stream controls properties .answer)
   -- a stream is read as what its bytes spell
   pub read-as : (stream : List ℕ) → Bytes stream → (t : Stream) → (contents stream ≡ some t) ↔ (drop 10 stream spells t)

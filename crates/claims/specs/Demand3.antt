@@ -24,21 +24,22 @@ pub record Successor (older newer : List ℕ) : Type 0 where
   pub same-header : header older ≡ header newer
   pub holds-every-row : Extends older newer
 
--- the newer has the code of x in its scope, and the older hasn't
+-- a `Spot` x is a stored property with the scope that it stands in (Stored). Its code is its raw `id`; the scope has a kind and a code of its own.
+-- The newer has the code of x in its scope, and the older hasn't:
 pub record Learned (older newer : List ℕ) (x : Spot) : Type 0 where
   pub row : Tie
   pub newer-has : Holds newer (x .scope .kind) (x .scope .code) row
   pub its-code : row .id ≡ x .prop .id
   pub older-hasn't : (r : Tie) → Holds older (x .scope .kind) (x .scope .code) r → ¬ (r .id ≡ x .prop .id)
 
--- the six words `old` and `new` of the property x
+-- the six words `old` and `new` of the property x. `exactly` says where they differ, `else-same` that they are equal elsewhere
 pub record RowSays (older newer s : List ℕ) (x : Spot) (old new : List ℕ) : Type 0 where
   pub exactly : (¬ (old ≡ new)) ↔ Learned older newer x
   pub else-same : ¬ Learned older newer x → old ≡ new
   pub older-shows : Learned older newer x → old ≡ propertyRow (property (bitOr 0x8000 (x .prop .id)) (storedValue (x .prop .id) (bytesOf s (x .prop))) (x .prop))
   pub newer-shows : (l : Learned older newer x) → new ≡ propertyRow (property (l .row .target) (valueAs (l .row .kind) (x .prop .id) (bytesOf s (x .prop))) (x .prop))
 
--- only asked for at rows that are there
+-- what `getD` gives where there is no row: only asked for at rows that are there
 abbrev pub no-spot : Spot
 no-spot = record { scope = record { kind = 0; code = 0 }; prop = record { id = 0; start = 0; size = 0 } }
 
@@ -85,7 +86,8 @@ pub record Alike (lent lent′ : Lent) (a b : Exit) : Type 0 where
 -- of an Access 2000 stream
 pub record SameBut (older newer s : List ℕ) (lent lent′ : Lent) (a b : Exit) : Type 0 where
   pub alike : Alike lent lent′ a b
-  -- on answer 0: the properties of the stream have a row each, and row i says what it should
+  -- on answer 0: the reported properties of the stream have a row each, and row i says what it should. (`spots` lists them; that they are those which the
+  -- bytes spell, each in its scope, says `RowChecks.stored`)
   pub a-row-each : a .answer .number ≡ 0 → length (spots s) ≡ a .answer .second
   pub rows : a .answer .number ≡ 0 → (i : ℕ) → i < a .answer .second
       → RowSays older newer s (getD (spots s) i no-spot) (rowAt propertyWidth i (a .properties)) (rowAt propertyWidth i (b .properties))
@@ -100,6 +102,7 @@ abbrev pub exitOf : List ℕ → List ℕ → Lent → Exit
 exitOf table s lent = exit table s (lent .controls) (lent .properties)
 
 pub record Demand3 : Type 0 where
+  -- over one Access 2000 stream: its first byte is the layout byte of both
   pub same-but : (older newer s : List ℕ) (lent lent′ : Lent) → Successor older newer → SameRoom lent lent′ → is2000 older s ≡ true
       → SameBut older newer s lent lent′ (exitOf older s lent) (exitOf newer s lent′)
   -- over any other stream the two tables say the very same

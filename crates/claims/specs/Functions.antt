@@ -1,6 +1,7 @@
 -- The public functions: each one's code, its contract's clauses as its caller learns them, and names for what it is handed and what is seen of a call.
 -- Here alone an argument is told by its place: the first is `a .0`, the second `a .1 .0`, the third `a .1 .1 .0` and so on. At exit `e` has the same
--- places. `now` is what a lent slice holds; `κs` are the lifetimes, `r` is what is returned.
+-- places. `now` is what a lent slice holds; `κs` are the lifetimes, `r` is what is returned. `ended` is a function's signature, `routine` its code, `Learnt` its
+-- contract. (A name that stood for another argument would be refused: the equations of Calls wouldn't hold.)
 use Prim.Native.Nat.{ℕ}
 use mathlib.Core.Bool.{Bool}
 use mathlib.Core.List.{List}
@@ -179,7 +180,7 @@ guid-exit r e = record { answer = r; out = guid e .out }
 abbrev label-exit : Answer → ℕ × (Slice × End) → TextExit
 label-exit r e = record { answer = r; out = label e .out }
 
--- what C is handed has the same fields, in structs laid out as C's
+-- what C gets has the same fields, in structs laid out as C's: here they are read back
 abbrev pub takenAnswer : c-answer.Answer → Answer
 takenAnswer a = record { number = a .number; first = a .first; second = a .second; third = a .third }
 
@@ -192,7 +193,7 @@ takenName n = record { found = n .found; bytes = n .bytes; len = n .length }
 abbrev pub takenRoom : c-room.Room → Room
 takenRoom r = record { controls = r .controls; properties = r .properties }
 
--- ---- the functions that both the crates and the archive have
+-- ---- the functions that both the crates and the archive have (`control_name` stands below: the two return its part differently)
 pub record Interface : Type 2 where
   pub read-blob : Fn Blob Exit
   pub read-type-info : Fn TypeInfo TypeInfoExit

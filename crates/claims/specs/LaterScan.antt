@@ -31,8 +31,8 @@ wordsAt stream q =
     let size = sizeAt stream q in
     propertyRow (record { id = u16 stream q; value = entryValue (u32 stream (q + 2)) (part stream (q + 14) size); start = q + 14; size = size })
 
--- ---- a group: n rows from row j on show the properties from q on, each `Inside` with its trailer, up to a trailer that ends the group or a property
--- that isn't inside. "one that isn't is unread and ends its group"; "Trailer 253, 254 or 255 ends a group"
+-- ---- a group. `Group stream seen Inside j n q`: n rows from row j on show the properties from q on, each with its trailer inside the group (`Inside` says which
+-- ends are), up to a trailer that ends the group or a property that isn't inside. "one that isn't is unread and ends its group"; "Trailer 253, 254 or 255 ends a group"
 pub data Group (stream : List ℕ) (seen : Exit) (Inside : ℕ → Type 0) : ℕ → ℕ → ℕ → Type 0 where
   unread : {j q : ℕ} → ¬ Inside (behind stream q) → Group stream seen Inside j 0 q
   ended : {j q : ℕ} → rowAt propertyWidth j (seen .properties) ≡ wordsAt stream q → Inside (behind stream q) → Ending (trailerAt stream q) → Group stream seen Inside j 1 q
@@ -74,10 +74,11 @@ pub record ControlAt (stream : List ℕ) (seen : Exit) (i p : ℕ) : Type 0 wher
   pub name-start : nameStart seen i ≡ p + 14
   pub name-length : nameLength seen i ≡ sizeAt stream p
 
+-- what a caller sees on answer 0: with RowChecks, every word of every row. (The counts of 6 and 7 are those of the same reading: Answers)
 pub record Scanned (stream : List ℕ) (seen : Exit) : Type 0 where
   -- "The object's group starts at 14." "Object rows stay in both."
   pub own : Group stream seen (λ e. e ≤ length stream) 0 (seen .answer .third) 14
   -- the controls are the matches that start a group with a property, all of them. (They stand in the order of their places, and no two are one match:
-  -- `RowChecks.value-order`)
+  -- `Checks.value-order`)
   pub each-control : (i : ℕ) → i < seen .answer .first → (p : ℕ) × Starts stream seen p × ControlAt stream seen i p
   pub each-match : (p : ℕ) → Starts stream seen p → (i : ℕ) × (i < seen .answer .first) × ControlAt stream seen i p

@@ -1,4 +1,5 @@
--- Wish 14. How much room is enough. "The converter's designer wants to fix the buffers once."
+-- Wish 14 (of document 02, the customer's later wishes). How much room is enough. "The converter's designer wants to fix the buffers once." C is the first
+-- count, P the second; `roomFor` and the like (rules/specs/Room) compute room from a length.
 use Prim.Native.Nat.{ℕ, zero, suc, _+_, _*_, _≤_, _<_}
 use mathlib.Core.Path.{_≡_}
 use mathlib.Core.Bool.{true, false}
@@ -30,7 +31,7 @@ Tree n a = 6 * a .first + 18 * a .second + 14 ≤ n
 abbrev pub Scan : ℕ → Answer → Type 0
 Scan n a = (18 * a .second + 14 ≤ n) × (a .first ≤ a .second)
 
--- an Access 2000 stream with no controls, or with more than 256, has two bytes more: it doesn't meet its bound
+-- an Access 2000 stream with no controls, or with more than 256, has two bytes more at least: none such meets the bound exactly
 abbrev pub Spare : ℕ → Answer → Type 0
 Spare n a = (a .first ≡ 0) ⊎ (256 < a .first) → 3 * a .first + a .second + 13 ≤ n
 
@@ -38,7 +39,7 @@ Spare n a = (a .first ≡ 0) ⊎ (256 < a .first) → 3 * a .first + a .second +
 abbrev pub Never : Answer → Type 0
 Never a = (¬ (a .number ≡ 6)) × (¬ (a .number ≡ 7))
 
--- so many rows are lent, or more
+-- so many rows are lent, or more (`rows` is a number of rows for controls, and one for properties)
 abbrev pub Lent : List ℕ → List ℕ → Room → Type 0
 Lent controls properties rows = (rows .controls ≤ room controlWidth controls) × (rows .properties ≤ room propertyWidth properties)
 
@@ -49,7 +50,7 @@ module _ (table stream controls properties : List ℕ) (seen : Exit) where
     pub old-spare : is2000 table stream ≡ true → seen .answer .number ≡ 0 → Spare (length stream) (seen .answer)
     pub later-tree : is2000 table stream ≡ false → (es : Entries Prop) → treeOf stream ≡ some es → seen .answer .number ≡ 0 → Tree (length stream) (seen .answer)
     pub scan : is2000 table stream ≡ false → 14 ≤ length stream → treeOf stream ≡ none → seen .answer .number ≡ 0 → Scan (length stream) (seen .answer)
-    -- with fewer bytes there is nothing
+    -- with fewer bytes there is nothing. (That `treeOf` gives a tree exactly when the bytes spell one says `LaterTree.is-tree`)
     pub short : is2000 table stream ≡ false → length stream < 14 → seen .answer .number ≡ 0 → (seen .answer .first ≡ 0) × (seen .answer .second ≡ 0)
     -- C is at most P in a later tree too
     pub later-fewer : is2000 table stream ≡ false → seen .answer .number ≡ 0 → seen .answer .first ≤ seen .answer .second

@@ -7,7 +7,7 @@ use lib.Dec.{leb}
 use lib.ListN.{length}
 use Rattle.claims.specs.Grammar.{Property, Item, leaf, branch, Items, none, one}
 
--- how many items there are, with all below them
+-- how many items there are with all below them: of one item, and of a list
 abbrev mutual
   pub itemsIn1 : Item → ℕ
   itemsIn1 (leaf type qs) = 1

@@ -32,7 +32,7 @@ abbrev pub reported : Stream → List (ℕ × List Property)
 reported t = inOrder (shown (t .list))
 
 -- ---- scopes
--- by kind and code. Kinds: 0 form, 1 report, 2 entry
+-- by kind and code, as a code table lists them. Kinds: 0 form, 1 report, 2 entry. A scope's code is 0, or an entry's type; a property's code is its `id`
 pub record Scope : Type 0 where
   pub kind : ℕ
   pub code : ℕ
@@ -59,7 +59,7 @@ storedIn n = map (inScope (entryScope (n .0))) (n .1)
 abbrev pub storedOf : List ℕ → Stream → List (Scope × Property)
 storedOf stream t = map (inScope (objectScope stream)) (t .own) ++ concat (map storedIn (reported t))
 
--- what the reader takes for a row's property, in the same terms
+-- a `Spot` is what the definitions take for the scope and the stored property of a property row: here in the same terms
 abbrev pub spotSays : List ℕ → Spot → Scope × Property
 spotSays stream x =
     (record { kind = x .scope .kind; code = x .scope .code }, record { id = x .prop .id; value = part stream (x .prop .start) (x .prop .size) })
@@ -80,7 +80,7 @@ nameBy (some q) = cond (isUtf16 (q .value)) (0, q .value) (1, [])
 abbrev pub controlSays : List ℕ → List ℕ → ℕ × List Property → ℕ × (ℕ × List ℕ) × ℕ
 controlSays table stream n = (typeSays table stream (n .0), nameBy (find (isName (n .0)) (n .1)), length (n .1))
 
--- what a name shows: its mark, and the bytes that its start and length name, where it is a part of the stream
+-- and what a reading's control shows. Of a name: its mark, and the bytes that its start and length name, where it is a part of the stream
 abbrev pub nameShows : List ℕ → Name → ℕ × List ℕ
 nameShows stream (Text start size) = (0, part stream start size)
 nameShows stream Numbered = (1, [])
