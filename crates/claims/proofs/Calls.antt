@@ -111,6 +111,7 @@ module _ (f : Fn Blob Exit) (p : Proved f exit-of) (one : OneResult (f .function
 
   read-blobs : calls.ReadBlob f
   read-blobs = record {
+    met = p .met;
     is-exit = every f exit-of p _ (λ a. refl);
     bytes = every-bytes _ (λ a small. small);
     demand1 = every f exit-of p _ (λ a. demand1 .blobs (a .table) (a .stream) (a .controls) (a .properties));
@@ -120,6 +121,7 @@ module _ (f : Fn Blob Exit) (p : Proved f exit-of) (one : OneResult (f .function
     demand3-later = λ c d h n. both-told c d (Same _ _) (demand3 .later-same _ _ _ _ _ (h .successor) (h .same-room) n) (h .same-stream);
     counts = every f exit-of p _ (λ a. counts-hold .blobs (a .table) (a .stream) (a .controls) (a .properties));
     later-judges = every-bytes _ (λ a small. later-tree .judges (a .table) (a .stream) (a .controls) (a .properties) small);
+    stored = every-bytes _ (λ a small. row-checks .stored (a .stream) small);
     items = every-bytes _ (λ a small. row-checks .items (a .table) (a .stream) (a .controls) (a .properties) small);
     row-checks = every f exit-of p _ (λ a. row-checks .checks (a .table) (a .stream) (a .controls) (a .properties));
     bounds = every f exit-of p _ (λ a. rooms .bounds (a .table) (a .stream) (a .controls) (a .properties));
@@ -277,6 +279,7 @@ calls-hold = record {
   control-name = record {
     bytes = every f.control-name-in _ control-name _ (λ a. refl);
     place = every f.control-name-in _ control-name _ (λ a. refl);
+    met = control-name .met;
     one-result = by-words f.control-name-in _ control-name;
   };
   exported-control-name = gives f.control-name-part _ (record { met = λ w. exported-control-name-code.met (w .𝓤) (w .H) (w .𝓜) (w .𝓖) (w .𝓡); told = λ κs a r e q. q }) (λ κs a r r′ x y p q. (p ∙ sym q, refl));

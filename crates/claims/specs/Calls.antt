@@ -6,6 +6,7 @@
 -- Each promise stands once. It holds of the functions of the crates (`crates`) and of those that C and Rust have (`exported`).
 use mathlib.Core.Path.{_≡_}
 use mathlib.Core.Bool.{true}
+use mathlib.Core.List.{map}
 use mathlib.Core.Logic.{_↔_}
 use lib.Ieee.{binary32, binary64, ofBits}
 use lib.ListN.{drop}
@@ -20,7 +21,7 @@ use Rattle.rules.specs.TypeInfo.{TypeInfoExit, typeInfoExit}
 use Rattle.rules.specs.CodeTable.{wellFormed}
 use Rattle.rules.specs.NamePart.{Part, namePart, partBytes}
 use Rattle.rules.specs.Room.{room2000, roomLater, roomFor, typeInfoRoom}
-use Rattle.rules.specs.Blob.{Exit, is2000, exit}
+use Rattle.rules.specs.Blob.{Exit, is2000, exit, spots}
 use Rattle.leaf.specs.Int.{intOf}
 use Rattle.leaf.specs.Wide.{wordsOf, bitsOf}
 use Rattle.names.specs.Lookup.{named}
@@ -31,11 +32,12 @@ use Rattle.claims.specs.Demand1.{Blobs, TypeInfos, Texts}
 use Rattle.claims.specs.Demand2.{Given, Enough, Spelled, Judges}
 use Rattle.claims.specs.Demand3.{Successor, Lent, SameRoom, SameBut, Same}
 use Rattle.claims.specs.Grammar.{Stream, _spells_}
+use Rattle.claims.specs.Stored.{storedOf, spotSays}
 use Rattle.claims.specs.LaterTree as later
 use Rattle.claims.specs.Counts.{Counts, InfoCounts}
 use Rattle.claims.specs.Rooms as rooms
 use Rattle.claims.specs.RowChecks.{Checks, SeenItems}
-use Rattle.claims.specs.Always.{OneResult, Fn, Every, Gives, Call, handed, seen}
+use Rattle.claims.specs.Always.{Always, OneResult, Fn, Every, Gives, Call, handed, seen}
 use Rattle.claims.specs.Functions.{
   Blob,
   TypeInfo,
@@ -63,6 +65,8 @@ pub record TwoTables (older newer : Blob) : Type 0 where
   pub same-room : SameRoom (lent older) (lent newer)
 
 pub record ReadBlob (f : Fn Blob Exit) : Type 2 where
+  -- what the code does is what its contract allows, so what is said of any two calls that it allows is said of the code's
+  pub met : Always (f .function) (f .function .says)
   -- what is seen is what the definition says: the answer with its counts, and every word of both slices
   pub is-exit : Every f (λ a seen. seen ≡ exit (a .table) (a .stream) (a .controls) (a .properties))
   -- a stream that is lent is a list of bytes: so no line here asks it, and what Demand2, LaterTree and RowChecks say of lists of bytes holds of it
@@ -73,7 +77,7 @@ pub record ReadBlob (f : Fn Blob Exit) : Type 2 where
   -- "With a well-formed code table and room enough, an Access 2000 stream is accepted exactly when its bytes from offset 10 are one property run and
   -- then one entry list, nothing left over, no entry deeper than level 255."
   pub demand2 : Every f (λ a seen.
-      Given (a .table) (a .stream) → Enough (a .table) (a .stream) (room controlWidth (a .controls)) (room propertyWidth (a .properties))
+      Given (a .table) (a .stream) → Enough (a .stream) (room controlWidth (a .controls)) (room propertyWidth (a .properties))
       → (seen .answer .number ≡ 0) ↔ Spelled (a .stream))
   -- and for any room: 4 exactly when the bytes spell nothing, one of 0, 6 and 7 when they spell something, with its counts
   pub demand2-judges : Every f (λ a seen. Given (a .table) (a .stream) → Judges (a .table) (a .stream) (seen .answer))
@@ -92,7 +96,9 @@ pub record ReadBlob (f : Fn Blob Exit) : Type 2 where
   pub later-judges : Every f (λ a seen. later.Given (a .table) (a .stream) → later.Judges (a .stream) (a .controls) (a .properties) seen)
   -- what a caller can check of the rows
   pub row-checks : Every f (λ a seen. seen .answer .number ≡ 0 → Checks (a .table) (a .stream) seen)
-  -- the controls of an Access 2000 stream are those that its bytes spell
+  -- the stored properties that these speak of (and demand 3) are those that the bytes of an Access 2000 stream spell, each in its scope
+  pub stored : Every f (λ a seen. (t : Stream) → drop 10 (a .stream) spells t → map (spotSays (a .stream)) (spots (a .stream)) ≡ storedOf (a .stream) t)
+  -- and so are the controls
   pub items : Every f (λ a seen.
       Given (a .table) (a .stream) → (t : Stream) → drop 10 (a .stream) spells t → seen .answer .number ≡ 0
       → SeenItems (a .table) (a .stream) (a .controls) (a .properties) t seen)
@@ -156,6 +162,7 @@ part a = namePart (a .stream) (a .label) (a .mark) (a .start) (a .size)
 pub record ControlNameIn : Type 2 where
   pub bytes : Every control-name-in (λ a seen. seen .bytes ≡ partBytes (a .stream) (a .label) (part a))
   pub place : Every control-name-in (λ a seen. seen .place ≡ partPlace (a .stream-place) (a .label-place) (part a))
+  pub met : Always (control-name-in .function) (control-name-in .function .says)
   -- any two results are equal in all that is seen, place and bytes. (The logic gives a slice a name besides, which no machine has: so not by `OneResult`)
   pub one-result : (c d : Call control-name-in) → handed c ≡ handed d → seen c ≡ seen d
 

@@ -11,8 +11,7 @@ use Rattle.rules.specs.Bytes.{Bytes}
 use Rattle.rules.specs.Answer.{longest}
 use Rattle.rules.specs.CodeTable.{wellFormed}
 use Rattle.rules.specs.Rows.{controlWidth, propertyWidth, room}
-use Rattle.rules.specs.Reading.{Reading, properties}
-use Rattle.rules.specs.Blob.{is2000, readingOf, exit}
+use Rattle.rules.specs.Blob.{is2000, exit}
 use Rattle.rules.specs.declared.Answer.{Answer}
 use Rattle.claims.specs.Grammar.{Stream, _spells_}
 use Rattle.claims.specs.Contents.{contents}
@@ -25,14 +24,14 @@ pub record Given (table stream : List ℕ) : Type 0 where
   pub old-layout : is2000 table stream ≡ true
   pub not-long : length stream ≤ longest
 
--- room for whatever reading the stream has. (How much that is by the bytes says `Judges.counts`: the counts of a reading are those of what is spelled)
-abbrev pub Enough : List ℕ → List ℕ → ℕ → ℕ → Type 0
-Enough table stream controlRoom propertyRoom =
-    (r : Reading) → readingOf table stream ≡ some r → (length (r .controls) ≤ controlRoom) × (length (properties r) ≤ propertyRoom)
-
 -- the bytes from offset 10 spell some run and list with no entry deeper than level 255
 abbrev pub Spelled : List ℕ → Type 0
 Spelled stream = (t : Stream) × (drop 10 stream spells t)
+
+-- room for what the stream spells, if it spells anything: the reported items with all below them; their properties and the object's
+abbrev pub Enough : List ℕ → ℕ → ℕ → Type 0
+Enough stream controlRoom propertyRoom =
+    (t : Stream) → drop 10 stream spells t → (itemsIn (shown (t .list)) ≤ controlRoom) × (length (t .own) + propertiesIn (shown (t .list)) ≤ propertyRoom)
 
 -- the answer a for any room
 pub record Judges (table stream : List ℕ) (a : Answer) : Type 0 where
@@ -48,7 +47,7 @@ pub record Judges (table stream : List ℕ) (a : Answer) : Type 0 where
 pub record Demand2 : Type 0 where
   -- with room enough, answer 0 exactly when the bytes are spelled so
   pub accepted : (table stream controls properties : List ℕ) → Bytes stream → Given table stream
-      → Enough table stream (room controlWidth controls) (room propertyWidth properties)
+      → Enough stream (room controlWidth controls) (room propertyWidth properties)
       → (exit table stream controls properties .answer .number ≡ 0) ↔ Spelled stream
   -- and what is answered for any room
   pub judges : (table stream controls properties : List ℕ) → Bytes stream → Given table stream → Judges table stream (exit table stream controls properties .answer)
