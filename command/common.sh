@@ -77,7 +77,7 @@ show_progress() { # TOTAL START
 # Proves and builds a program where it is missing or older than a source.
 make_ready() { # CRATE
     program=$root/target/bin/$1
-    command -v rt >/dev/null || die "the Rattle kit's command rt is not in PATH; README, \"What it needs\", says where it comes from"
+    command -v rt >/dev/null || die "the Rattle kit's command rt is not in PATH; CONTRIBUTING.md, \"What you need\", says what it is"
     if [ -x "$program" ] && [ -z "$(find "$root/crates" "$root/crates.txt" -newer "$program" -type f | head -n 1)" ]; then
         return
     fi
