@@ -81,7 +81,7 @@ value-name-short : (m x : ℕ) → length (orDash (nameIn (namesFor m) x)) ≤ l
 value-name-short m x = omega (arith, name-short (namesFor m) x, value-names m)
 
 -- ---- fields
-decimal-short : (n : ℕ) → Word32 n → length (decimal n) ≤ 10
+pub decimal-short : (n : ℕ) → Word32 n → length (decimal n) ≤ 10
 unfolding label
 decimal-short n h = omega (arith, longest-label n h)
 

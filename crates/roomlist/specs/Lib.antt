@@ -1,0 +1,2 @@
+-- What is printed of room.
+pub mod Rooms
