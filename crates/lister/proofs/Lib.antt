@@ -1,4 +1,3 @@
 -- Laws of the listing's writer.
-mod Walked
 mod Whole
 pub mod Input

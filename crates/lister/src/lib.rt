@@ -1,132 +1,13 @@
-// The listing of an input, written whole into a lent buffer.
-use rules::Answer;
-ghost use Rattle.rules.specs.Answer.{refusal};
+// The listing of an input of document 01's program, written whole into a lent buffer.
+use listing::refusal_line;
 ghost use Rattle.rules.specs.NameTables.{controlTypeNames};
-ghost use Rattle.rules.specs.Rows.{controlWidth, propertyWidth};
-ghost use Rattle.rules.specs.Blob.{outcome};
-ghost use Rattle.rules.specs.Listing.{answerLine, controlLine, propertyLine, printed};
 ghost use Rattle.names.specs.Lookup.{Lent, AllLent};
 ghost use Rattle.text.specs.Writer.{Wrote};
-ghost use Rattle.listing.specs.Shown.{linesTo};
 ghost use Rattle.lister.specs.Listed.{listed};
-
-fn refusal_line(out: &mut [u8], number: u32) -> usize
-    ensures { λ r. ⌜ Wrote (now (out .entry)) 0 (answerLine (refusal number)) (now (out .exit)) r ⌝ }
-{
-    listing::answer_line(
-        out,
-        0,
-        Answer {
-            number,
-            first: 0,
-            second: 0,
-            third: 0,
-        },
-    )
-}
-
-// The C lines of the first `count` rows.
-fn control_lines(
-    out: &mut [u8],
-    at: usize,
-    rows: &[u32],
-    count: u32,
-    type_ids: &[u16],
-    type_rows: &[[u8; 26]],
-) -> usize
-    requires { ⌜ Lent controlTypeNames (now «type_ids») (now «type_rows») ⌝ }
-    ensures { λ r. ⌜ Wrote (now (out .entry)) at (linesTo controlLine controlWidth count (now (rows .entry))) (now (out .exit)) r ⌝ }
-{
-    let mut p = at;
-    let mut n = 0;
-    while n < count {
-        p = listing::control_line(out, p, rows, n, type_ids, type_rows);
-        n += 1;
-    }
-    p
-}
-
-// The P lines of the first `count` rows.
-fn property_lines<'a>(
-    out: &mut [u8],
-    at: usize,
-    stream: &[u8],
-    rows: &[u32],
-    count: u32,
-    text_ids: &[u16],
-    text_rows: &'a [[u8; 26]],
-    number_ids: &[u16],
-    number_rows: &'a [[u8; 26]],
-    bytes_ids: &[u16],
-    bytes_rows: &'a [[u8; 26]],
-) -> usize
-    requires { ⌜ AllLent (now «text_ids») (now «text_rows») (now «number_ids») (now «number_rows») (now «bytes_ids») (now «bytes_rows») ⌝ }
-    ensures { λ r. ⌜ Wrote (now (out .entry)) at (linesTo (propertyLine (now (stream .entry))) propertyWidth count (now (rows .entry))) (now (out .exit)) r ⌝ }
-{
-    let mut p = at;
-    let mut n = 0;
-    while n < count {
-        p = listing::property_line(
-            out,
-            p,
-            stream,
-            rows,
-            n,
-            text_ids,
-            text_rows,
-            number_ids,
-            number_rows,
-            bytes_ids,
-            bytes_rows,
-        );
-        n += 1;
-    }
-    p
-}
-
-// The lines of a Blob, read with room for 256 controls and 1,024 properties.
-fn blob_lines<'a>(
-    table: &[u8],
-    stream: &[u8],
-    text_ids: &[u16],
-    text_rows: &'a [[u8; 26]],
-    number_ids: &[u16],
-    number_rows: &'a [[u8; 26]],
-    bytes_ids: &[u16],
-    bytes_rows: &'a [[u8; 26]],
-    type_ids: &[u16],
-    type_rows: &'a [[u8; 26]],
-    out: &mut [u8],
-) -> usize
-    requires { ⌜ AllLent (now «text_ids») (now «text_rows») (now «number_ids») (now «number_rows») (now «bytes_ids») (now «bytes_rows») ⌝ }
-    requires { ⌜ Lent controlTypeNames (now «type_ids») (now «type_rows») ⌝ }
-    ensures { λ r. ⌜ Wrote (now (out .entry)) 0 (printed (now (stream .entry)) (outcome (now (table .entry)) (now (stream .entry)) 256 1024)) (now (out .exit)) r ⌝ }
-{
-    let mut controls = [0; 1536];
-    let mut properties = [0; 6144];
-    let a = blob::read_blob(table, stream, &mut controls, &mut properties);
-    let p = listing::answer_line(out, 0, a);
-    if a.number != 0 {
-        return p;
-    }
-    let p = control_lines(out, p, &controls, a.first, type_ids, type_rows);
-    property_lines(
-        out,
-        p,
-        stream,
-        &properties,
-        a.second,
-        text_ids,
-        text_rows,
-        number_ids,
-        number_rows,
-        bytes_ids,
-        bytes_rows,
-    )
-}
 
 // Writes the listing of an input from the start of `out` on, as far as there is room, and returns where it ends.
 // The input is the length of the code table, the code table, a Blob; `more` says that bytes came behind it, and is a refusal.
+// There is room for 256 controls and 1,024 properties.
 pub fn write_listing<'a>(
     input: &[u8],
     more: bool,
@@ -150,17 +31,12 @@ pub fn write_listing<'a>(
     if 32768 < input.len() {
         return refusal_line(out, 5);
     }
-    if input.len() < 4 {
-        return refusal_line(out, 8);
-    }
-    let size = leaf::u32_at(input, 0) as usize;
-    if input.len() - 4 < size {
-        return refusal_line(out, 8);
-    }
-    let start = 4 + size;
-    blob_lines(
-        &input[4..start],
-        &input[start..],
+    let mut controls = [0; 1536];
+    let mut properties = [0; 6144];
+    bloblines::write_listing(
+        input,
+        &mut controls,
+        &mut properties,
         text_ids,
         text_rows,
         number_ids,

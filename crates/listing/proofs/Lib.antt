@@ -3,3 +3,4 @@ pub mod Placed
 pub mod Rows
 pub mod Longest
 pub mod Printed
+pub mod Walked

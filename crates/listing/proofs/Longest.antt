@@ -54,7 +54,7 @@ name-short : (t : Table) (x : ℕ) → length (orDash (nameIn t x)) ≤ longestI
 unfolding nameIn
 name-short t x = or-dash (nameIn t x) (longestIn t) (some-place t) (name-in t x)
 
-type-short : (x : ℕ) → length (orDash (nameIn controlTypeNames x)) ≤ longestType
+pub type-short : (x : ℕ) → length (orDash (nameIn controlTypeNames x)) ≤ longestType
 unfolding longestType
 type-short x = name-short controlTypeNames x
 
@@ -85,7 +85,7 @@ pub decimal-short : (n : ℕ) → Word32 n → length (decimal n) ≤ 10
 unfolding label
 decimal-short n h = omega (arith, longest-label n h)
 
-hex-length : (k n : ℕ) → length (hex k n) ≡ k
+pub hex-length : (k n : ℕ) → length (hex k n) ≡ k
 unfolding hex
 hex-length zero n = refl
 hex-length (suc k) n = let e : length (hex k (n / 16)) ≡ k = hex-length k (n / 16) in simp length-append (omega arith)

@@ -74,7 +74,7 @@ module _ (r : Reading) (old : List ℕ) where
 
 -- ---- every outcome
 -- a refusal has a number other than 0, and the rows of a reading have room
-abbrev Stated : ℕ → ℕ → Outcome → Type 0
+abbrev pub Stated : ℕ → ℕ → Outcome → Type 0
 Stated c p (refused a) = a .number ≡ 0 → ⊥
 Stated c p (read r) = (length (r .controls) ≤ c) × (length (properties r) ≤ p)
 
@@ -90,7 +90,7 @@ module _ (c p : ℕ) where
       (λ d. stated-if (ltb p (length (properties r))) _ _ (λ e. omega arith)
       (λ f. (ltb-false c (length (r .controls)) d, ltb-false p (length (properties r)) f)))
 
-  outcome-stated : (t s : List ℕ) → Stated c p (outcome t s c p)
+  pub outcome-stated : (t s : List ℕ) → Stated c p (outcome t s c p)
   unfolding outcome
   outcome-stated t s =
       stated-if (ltb longest (length s)) _ _ (λ e. omega arith)

@@ -10,6 +10,7 @@ use rules::Answer;
 use text::put_byte;
 use text::put_decimal;
 use text::put_text;
+ghost use Rattle.rules.specs.Answer.{refusal};
 ghost use Rattle.rules.specs.NameTables.{controlTypeNames};
 ghost use Rattle.rules.specs.Rows.{controlWidth, propertyWidth, rowAt};
 ghost use Rattle.rules.specs.Listing.{answerLine, controlLine, propertyLine};
@@ -29,6 +30,22 @@ pub fn answer_line(out: &mut [u8], at: usize, a: Answer) -> usize
     let p = put_byte(out, p, b' ');
     let p = put_decimal(out, p, a.third);
     put_end(out, p)
+}
+
+// The listing of what is refused by a number: its answer line from the start of the buffer on.
+pub fn refusal_line(out: &mut [u8], number: u32) -> usize
+    ensures { λ r. ⌜ Wrote (now (out .entry)) 0 (answerLine (refusal number)) (now (out .exit)) r ⌝ }
+{
+    answer_line(
+        out,
+        0,
+        Answer {
+            number,
+            first: 0,
+            second: 0,
+            third: 0,
+        },
+    )
 }
 
 // The C line of control row `n`. The names of control types are lent.

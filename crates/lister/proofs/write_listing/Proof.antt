@@ -1,8 +1,8 @@
 use mathlib.Core.Path.{refl}
 use native.Mathlib.Omega.{arith}
 use borrow.Author.Needs.{needs}
-use Rattle.listing.proofs.Printed.{listing-long, listing-short, listing-cut}
-use Rattle.lister.proofs.Whole.{more-wrote, listed-wrote, blob-wrote}
+use Rattle.listing.proofs.Printed.{listing-long}
+use Rattle.lister.proofs.Whole.{listing-is, more-wrote, listed-wrote}
 use Rattle.lister.proofs.write_listing.Statement.{statement}
 use Rattle.lister.proofs.write_listing.Tie as tie
 
@@ -18,22 +18,10 @@ returns-2 c =
 
 returns-3 : tie.Need-returns-3
 returns-3 c =
-    let a = c .before .before .before .before .before .before .before .before .before .before .before .before .before .args in
-    listed-wrote (a .input .now) (a .more) (c .before .before .before .before .before .before .if1 .left) (listing-short (a .input .now) (omega arith)) (c .before .before .refusal-line3 .ensures)
-
-returns-4 : tie.Need-returns-4
-returns-4 c =
-    let a = c .before .before .before .before .before .before .before .before .before .before .before .before .before .before .before .args in
-    listed-wrote (a .input .now) (a .more) (c .before .before .before .before .before .before .before .before .if1 .left)
-    (listing-cut (a .input .now) (omega arith) (omega arith) (omega (arith, c .before .before .before .before .before .u32-at .ensures)))
-    (c .before .before .refusal-line4 .ensures)
-
-returns-5 : tie.Need-returns-5
-returns-5 c =
-    let a = c .before .before .before .before .before .before .before .before .before .before .before .before .before .before .before .before .before .args in
-    let z = c .before .before .before .before .before .before .before .u32-at in
-    blob-wrote (a .input .now) (a .more) (c .before .before .before .before .before .before .before .before .before .before .if1 .left) (omega arith) (omega arith) (z .result) (z .ensures) (omega arith) refl refl
-    (c .before .before .blob-lines .ensures)
+    let a = c .before .before .before .before .before .before .before .before .before .before .before .before .before .before .before .before .args in
+    listed-wrote (a .input .now) (a .more) (c .before .before .before .before .before .before .before .before .before .if1 .left)
+    (listing-is (a .input .now) (omega (arith, c .before .before .before .before .before .before .before .before .if2 .left)) _ _ refl refl)
+    (c .before .before .before .before .write-listing .ensures .wrote)
 
 pub write-listing-spec : {M : Type 1} → statement M
 write-listing-spec =
@@ -43,10 +31,5 @@ write-listing-spec =
     returns
     (λ c κs. search needs) (λ c. search needs)
     returns-2
-    (λ c κs. search needs) (λ c. search needs)
-    returns-3
-    (λ c κs. search needs) (λ c. search needs) (λ c. search needs) (λ c κs. search needs) (λ c. search needs)
-    returns-4
-    (λ c. search needs) (λ c. search needs) (λ c. search needs) (λ c. search needs) (λ c. search needs)
     (λ c. search needs) (λ c. search needs) (λ c κs. search needs) (λ c. search needs)
-    returns-5)
+    returns-3)

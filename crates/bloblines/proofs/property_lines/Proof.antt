@@ -4,9 +4,9 @@ use borrow.Author.Needs.{needs}
 use Rattle.rules.specs.Rows.{propertyWidth}
 use Rattle.rules.specs.Listing.{propertyLine}
 use Rattle.text.proofs.Chain.{same}
-use Rattle.lister.proofs.Walked.{Walked, walked-none, walked-more, walked-all}
-use Rattle.lister.proofs.property_lines.Statement.{statement}
-use Rattle.lister.proofs.property_lines.Tie as tie
+use Rattle.listing.proofs.Walked.{Walked, walked-none, walked-more, walked-all}
+use Rattle.bloblines.proofs.property_lines.Statement.{statement}
+use Rattle.bloblines.proofs.property_lines.Tie as tie
 
 abbrev Inv-loop : tie.InvT-loop
 Inv-loop out₀ at stream rows count text-ids text-rows number-ids number-rows bytes-ids bytes-rows p₀ n₀ out p n = Walked (propertyLine stream) propertyWidth rows count out₀ at out p n

@@ -4,9 +4,9 @@ use borrow.Author.Needs.{needs}
 use Rattle.rules.specs.Rows.{controlWidth}
 use Rattle.rules.specs.Listing.{controlLine}
 use Rattle.text.proofs.Chain.{same}
-use Rattle.lister.proofs.Walked.{Walked, walked-none, walked-more, walked-all}
-use Rattle.lister.proofs.control_lines.Statement.{statement}
-use Rattle.lister.proofs.control_lines.Tie as tie
+use Rattle.listing.proofs.Walked.{Walked, walked-none, walked-more, walked-all}
+use Rattle.bloblines.proofs.control_lines.Statement.{statement}
+use Rattle.bloblines.proofs.control_lines.Tie as tie
 
 abbrev Inv-loop : tie.InvT-loop
 Inv-loop out₀ at rows count type-ids type-rows p₀ n₀ out p n = Walked controlLine controlWidth rows count out₀ at out p n

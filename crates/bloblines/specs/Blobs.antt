@@ -1,0 +1,56 @@
+-- The listing of a larger Blob: the bytes that `bloblist` prints. The lines are those of `formlist`.
+use Prim.Native.Nat.{ℕ, _+_, _*_, _≤_}
+use mathlib.Core.Bool.{cond}
+use mathlib.Core.List.{List}
+use lib.Dec.{ltb}
+use lib.ListN.{length}
+use Rattle.rules.specs.Answer.{refusal, tooLong, badTable}
+use Rattle.rules.specs.Rows.{controlWidth, propertyWidth, room}
+use Rattle.rules.specs.Blob.{outcome}
+use Rattle.rules.specs.Listing.{answerLine, printed, tableLength, tableIn, blobIn}
+use Rattle.text.specs.Writer.{Wrote}
+use Rattle.listing.specs.Bound.{longestAnswer, longestControl, longestProperty}
+
+-- the longest Blob that is listed, and how many controls and properties there is room for
+abbrev pub longestBlob : ℕ
+longestBlob = 4194304
+
+abbrev pub controlRoom : ℕ
+controlRoom = 16384
+
+abbrev pub propertyRoom : ℕ
+propertyRoom = 262144
+
+-- as `formlist` says its input: the length of the code table, the code table, a Blob; by how many rows there is room for
+unfoldable pub blobListed : List ℕ → ℕ → ℕ → List ℕ
+blobListed input controls properties =
+    cond (ltb (length input) 4) (answerLine (refusal badTable))
+    (cond (ltb (length input) (4 + tableLength input)) (answerLine (refusal badTable))
+    (cond (ltb longestBlob (length (blobIn input))) (answerLine (refusal tooLong))
+    (printed (blobIn input) (outcome (tableIn input) (blobIn input) controls properties))))
+
+-- a code table of up to 65,536 bytes always has room beside a Blob
+abbrev pub longestInput : ℕ
+longestInput = 4 + 65536 + longestBlob
+
+unfoldable pub blobListing : List ℕ → List ℕ
+blobListing input = cond (ltb longestInput (length input)) (answerLine (refusal tooLong)) (blobListed input controlRoom propertyRoom)
+
+-- the longest listing
+abbrev pub blobMost : ℕ → ℕ → ℕ
+blobMost controls properties = longestAnswer + (controls * longestControl + properties * longestProperty)
+
+-- ---- by the slices lent for controls and properties
+abbrev pub linesIn : List ℕ → List ℕ → List ℕ → List ℕ → List ℕ
+linesIn table stream controls properties = printed stream (outcome table stream (room controlWidth controls) (room propertyWidth properties))
+
+abbrev pub listedIn : List ℕ → List ℕ → List ℕ → List ℕ
+listedIn input controls properties = blobListed input (room controlWidth controls) (room propertyWidth properties)
+
+abbrev pub mostIn : List ℕ → List ℕ → ℕ
+mostIn controls properties = blobMost (room controlWidth controls) (room propertyWidth properties)
+
+-- a text written from the start of a buffer on, and no longer than `most`
+pub record Written (old text : List ℕ) (most : ℕ) (new : List ℕ) (end : ℕ) : Type 0 where
+  pub wrote : Wrote old 0 text new end
+  pub short : length text ≤ most

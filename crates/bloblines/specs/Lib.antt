@@ -1,0 +1,2 @@
+-- What the writer of a larger Blob's listing says.
+pub mod Blobs
