@@ -2,7 +2,6 @@
 use libc::STDIN_FILENO;
 use libc::STDOUT_FILENO;
 ghost use mathlib.Core.Path.{_≡_};
-ghost use mathlib.Core.Bool.{true};
 ghost use mathlib.Core.List.{List};
 ghost use Prim.Native.Nat.{ℕ, _≤_};
 ghost use lib.ListN.{length};
@@ -11,17 +10,6 @@ ghost use Rattle.rules.specs.Listing.{listing};
 ghost use Rattle.names.specs.Lookup.{Lent, AllLent};
 ghost use Rattle.listing.specs.Bound.{longestListing};
 ghost use Rattle.lister.specs.Listed.{Begun};
-
-// Whether standard input has more than `room` bytes, of which `size` were read.
-fn has_more(size: usize, room: usize) -> bool
-    ensures { λ r. ⌜ (r ≡ true → room ≤ size) ⌝ }
-{
-    if size < room {
-        return false;
-    }
-    let mut one = [0u8; 1];
-    io::read_full(STDIN_FILENO, &mut one) == 1
-}
 
 // Prints the listing of standard input, of which `input` was read and `more` tells whether bytes came behind it.
 fn print(input: &[u8], more: bool, listed: &[u8])
@@ -48,7 +36,7 @@ fn list<'a>(
     requires { ⌜ (length (now space) ≡ 32768) × (longestListing ≤ length (now out)) ⌝ }
 {
     let size = io::read_full(STDIN_FILENO, space);
-    let more = has_more(size, space.len());
+    let more = inputs::has_more(size, space.len());
     let input = &space[..size];
     let end = lister::write_listing(
         input,

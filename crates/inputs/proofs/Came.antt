@@ -1,0 +1,33 @@
+-- All that standard input had, by what was read of it and whether more came.
+use mathlib.Core.Path.{_≡_, refl, ap, _∙_}
+use mathlib.Core.Bool.{Bool, true, false}
+use mathlib.Core.List.{List, _∷_, _++_}
+use Prim.Native.Nat.{ℕ, _+_, _≤_, _<_}
+use native.Mathlib.Omega.{arith}
+use borrow.Rule.Slice.PartMut.{putMid, take-put}
+use lib.ListN.{length, take, length-append}
+use Rattle.text.specs.Writer.{Wrote}
+use Rattle.text.proofs.Written.{next}
+use Rattle.listing.proofs.Placed.{within, held}
+use Rattle.lister.specs.Listed.{Begun, whole, longer}
+use Rattle.inputs.specs.Filled.{Filled}
+
+pub all-read : {read input : List ℕ} {more : Bool} → Begun read more input → more ≡ false → read ≡ input
+all-read whole e = refl
+all-read (longer b rest) e = let z : _≡_ {A = ℕ} 0 1 = cc in absurd (omega arith)
+
+pub more-came : {read input : List ℕ} {more : Bool} → Begun read more input → more ≡ true → length read < length input
+more-came whole e = let z : _≡_ {A = ℕ} 0 1 = cc in absurd (omega arith)
+more-came (longer {read} b rest) e = simp length-append (omega arith)
+
+-- what was read is written first, and what comes is put behind it
+module _ {read old new : List ℕ} {e : ℕ} (w : Wrote old 0 read new e) (k : ℕ) (ys : List ℕ) where
+  ends : length read ≤ length old → length read ≡ e
+  ends h = let q : 0 + length read ≤ length old = omega arith in omega (arith, next w q)
+
+  pub filled : (n : ℕ) → e + n ≤ length old → Filled read old (putMid e k new ys) (e + n)
+  filled n h = record {
+    within = h;
+    behind = λ l. omega (arith, ends l);
+    begins = λ l. ap (λ (i : ℕ). take i (putMid e k new ys)) (ends l) ∙ take-put e k new ys (within w) ∙ held w l;
+  }

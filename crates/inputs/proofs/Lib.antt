@@ -1,0 +1,2 @@
+-- Laws of an input that was read.
+pub mod Came

@@ -1,0 +1,2 @@
+-- What is told of an input that is read into a lent buffer.
+pub mod Filled
