@@ -1,0 +1,26 @@
+use mathlib.Core.Path.{sym}
+use borrow.Author.Needs.{needs}
+use lib.Seq.{length-take-le}
+use Rattle.listing.proofs.Placed.{within}
+use Rattle.bloblist.proofs.Printing.{all-printed}
+use Rattle.bloblist.proofs.list.Statement.{statement}
+use Rattle.bloblist.proofs.list.Tie as tie
+
+slice-reshare-prefix-print : tie.Need-slice-reshare-prefix-print
+slice-reshare-prefix-print c = within (c .before .before .before .before .before .before .write .ensures .wrote)
+
+slice-aggregate-print : tie.Need-slice-aggregate-print
+slice-aggregate-print c = let w = c .before .before .before .before .before .before .before .write in sym (length-take-le (w .result) _ (within (w .ensures .wrote)))
+
+print-requires : tie.Need-print-requires
+print-requires c κs = all-printed (c .before .before .before .before .before .before .before .write .ensures) (c .before .before .before .before .before .before .before .before .before .before .before .before .before .before .before .pre)
+
+pub list-spec : {M : Type 1} → statement M
+list-spec =
+    tie.close
+    (tie.spec
+    (λ c κs. search needs)
+    slice-reshare-prefix-print
+    slice-aggregate-print
+    print-requires
+    (λ c. search needs) (λ c. search needs) (λ c. search needs) (λ c. search needs))

@@ -1,0 +1,17 @@
+use native.Mathlib.Omega.{arith}
+use borrow.Author.Needs.{needs}
+use lib.ListN.{length-replicate}
+use Rattle.bloblist.proofs.Printing.{small-roomy}
+use Rattle.bloblist.proofs.list_small.Statement.{statement}
+use Rattle.bloblist.proofs.list_small.Tie as tie
+
+list-requires : tie.Need-list-requires
+list-requires c κs = small-roomy (c .before .before .before .before .before .pre) (simp length-replicate (omega arith)) (simp length-replicate (omega arith)) (omega (arith, c .before .before .before .small-lines .ensures))
+
+pub list-small-spec : {M : Type 1} → statement M
+list-small-spec =
+    tie.close
+    (tie.spec
+    (λ c κs. search needs) (λ c. search needs) (λ c. search needs) (λ c. search needs)
+    list-requires
+    (λ c. search needs))

@@ -1,0 +1,29 @@
+use borrow.Author.Needs.{needs}
+use Rattle.names.proofs.InOrder.{texts, numbers, bytes, control-types}
+use Rattle.bloblist.proofs.write.Statement.{statement}
+use Rattle.bloblist.proofs.write.Tie as tie
+
+write-listing-requires : tie.Need-write-listing-requires
+write-listing-requires c κs =
+    let t = c .before .before .before .before .before .before .before .before .before .before .before in
+    let b = t .before .before in
+    let n = b .before .before in
+    let x = n .before .before in (
+      record {
+        texts = record { in-order = texts; ids-are = x .before .text-ids .ensures; rows-are = x .text-rows .ensures };
+        numbers = record { in-order = numbers; ids-are = n .before .number-ids .ensures; rows-are = n .number-rows .ensures };
+        bytes = record { in-order = bytes; ids-are = b .before .bytes-ids .ensures; rows-are = b .bytes-rows .ensures };
+      },
+      record { in-order = control-types; ids-are = t .before .control-type-ids .ensures; rows-are = t .control-type-rows .ensures },
+    )
+
+pub write-spec : {M : Type 1} → statement M
+write-spec =
+    tie.close
+    (tie.spec
+    (λ c κs. search needs) (λ c κs. search needs) (λ c κs. search needs) (λ c κs. search needs)
+    (λ c κs. search needs) (λ c κs. search needs) (λ c κs. search needs) (λ c κs. search needs)
+    (λ c. search needs) (λ c. search needs) (λ c. search needs) (λ c. search needs)
+    (λ c. search needs) (λ c. search needs) (λ c. search needs) (λ c. search needs)
+    write-listing-requires
+    (λ c. search needs) (λ c. search needs) (λ c. search needs) (λ c. search needs))

@@ -1,0 +1,133 @@
+// Lists the Blob that standard input holds behind its code table, as `formlist` does, for larger Blobs.
+use libc::STDIN_FILENO;
+use libc::STDOUT_FILENO;
+ghost use mathlib.Core.Path.{_≡_};
+ghost use mathlib.Core.Bool.{true};
+ghost use mathlib.Core.List.{List};
+ghost use Prim.Native.Nat.{ℕ, _≤_, _<_};
+ghost use lib.ListN.{length};
+ghost use Rattle.lister.specs.Listed.{Begun};
+ghost use Rattle.bloblines.specs.Blobs.{longestInput, blobListing, listedIn, mostIn, Written};
+ghost use Rattle.bloblist.specs.Space.{Roomy};
+
+// Of the large arrays only the length is told, since a proof that computed with their elements would not end.
+fn small_lines() -> [u8; 1927879]
+    ensures { λ r. ⌜ 1927879 ≡ length r ⌝ }
+{
+    [0; 1927879]
+}
+
+fn large_input() -> [u8; 4259844]
+    ensures { λ r. ⌜ 4259844 ≡ length r ⌝ }
+{
+    [0; 4259844]
+}
+
+fn large_controls() -> [u32; 98304]
+    ensures { λ r. ⌜ 98304 ≡ length r ⌝ }
+{
+    [0; 98304]
+}
+
+fn large_properties() -> [u32; 1572864]
+    ensures { λ r. ⌜ 1572864 ≡ length r ⌝ }
+{
+    [0; 1572864]
+}
+
+fn large_lines() -> [u8; 26017843]
+    ensures { λ r. ⌜ 26017843 ≡ length r ⌝ }
+{
+    [0; 26017843]
+}
+
+// Prints the listing of standard input, of which `input` was read and `more` tells whether bytes came behind it.
+fn print(input: &[u8], more: bool, listed: &[u8])
+    requires { ⌜ ((whole : List ℕ) → Begun (now input) more whole → now listed ≡ blobListing whole) ⌝ }
+{
+    io::write_all(STDOUT_FILENO, listed);
+}
+
+fn refuse(input: &[u8])
+    requires { ⌜ longestInput ≤ length (now input) ⌝ }
+{
+    let mut out = [0; 64];
+    let end = listing::refusal_line(&mut out, 5);
+    print(input, true, &out[..end]);
+}
+
+// Writes the listing with the names of the name tables.
+fn write(input: &[u8], controls: &mut [u32], properties: &mut [u32], out: &mut [u8]) -> usize
+    ensures { λ r. ⌜ Written (now (out .entry)) (listedIn (now (input .entry)) (now (controls .entry)) (now (properties .entry))) (mostIn (now (controls .entry)) (now (properties .entry))) (now (out .exit)) r ⌝ }
+{
+    let text_ids = nametables::text_ids();
+    let text_rows = nametables::text_rows();
+    let number_ids = nametables::number_ids();
+    let number_rows = nametables::number_rows();
+    let bytes_ids = nametables::bytes_ids();
+    let bytes_rows = nametables::bytes_rows();
+    let type_ids = nametables::control_type_ids();
+    let type_rows = nametables::control_type_rows();
+    bloblines::write_listing(
+        input,
+        controls,
+        properties,
+        &text_ids,
+        &text_rows,
+        &number_ids,
+        &number_rows,
+        &bytes_ids,
+        &bytes_rows,
+        &type_ids,
+        &type_rows,
+        out,
+    )
+}
+
+fn list(input: &[u8], controls: &mut [u32], properties: &mut [u32], out: &mut [u8])
+    requires { ⌜ Roomy (now input) (now controls) (now properties) (now out) ⌝ }
+{
+    let end = write(input, controls, properties, out);
+    print(input, false, &out[..end]);
+}
+
+// So short an input has no Blob with more controls and properties than there is room for.
+fn list_small(input: &[u8])
+    requires { ⌜ length (now input) < 16384 ⌝ }
+{
+    let mut controls = [0; 32766];
+    let mut properties = [0; 98304];
+    let mut out = small_lines();
+    list(input, &mut controls, &mut properties, &mut out);
+}
+
+// Of a longer input `head` is the start; `more` says that it is the longest that is read, and that bytes came behind it.
+// As it calls itself it is compiled apart, so that no shorter input needs its stack of 37 MB.
+fn list_large(head: &[u8], more: bool)
+    requires { ⌜ (more ≡ true → longestInput ≤ length (now head)) ⌝ }
+{
+    if more {
+        refuse(head);
+        return;
+    }
+    let mut space = large_input();
+    let mut controls = large_controls();
+    let mut properties = large_properties();
+    let mut out = large_lines();
+    let size = inputs::fill(&mut space, head);
+    if inputs::has_more(size, 4259844) {
+        list_large(&space, true);
+        return;
+    }
+    list(&space[..size], &mut controls, &mut properties, &mut out);
+}
+
+fn main() {
+    let mut head = [0; 16384];
+    let size = io::read_full(STDIN_FILENO, &mut head);
+    if size < 16384 {
+        list_small(&head[..size]);
+    } else {
+        list_large(&head, false);
+    }
+}
