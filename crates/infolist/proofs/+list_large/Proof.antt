@@ -1,0 +1,96 @@
+use mathlib.Core.Path.{_≡_, sym, ap, _∙_}
+use mathlib.Core.Bool.{Bool, cond}
+use Prim.Native.Nat.{ℕ, _<_}
+use native.Mathlib.Omega.{arith}
+use borrow.Author.Needs.{needs}
+use borrow.Fn.Kinds.{In}
+use borrow.Fn.PlainCycle.{Measures, is, falls, and}
+use lib.ListN.{length-take}
+use lib.Seq.{length-take-le}
+use Rattle.infolist.proofs.Printing.{roomy}
+use Rattle.infolist.proofs.list_large.Reads as list-large
+use Rattle.infolist.proofs.list_large.Kinds as list-large-kinds
+use Rattle.infolist.proofs.+list_large.Lts-list_large as list-large-lts
+use Rattle.inputs.proofs.fill.Reads as fill-reads
+use Rattle.inputs.proofs.has_more.Reads as has-more-reads
+use Rattle.infolist.proofs.large_stream.Reads as large-stream-reads
+use Rattle.infolist.proofs.large_rows.Reads as large-rows-reads
+use Rattle.infolist.proofs.large_lines.Reads as large-lines-reads
+use Rattle.infolist.proofs.list.Reads as list-reads
+use Rattle.infolist.proofs.refuse.Reads as refuse-reads
+use Rattle.infolist.proofs.+list_large.{statement}
+use Rattle.infolist.proofs.+list_large.Tie.{close}
+
+-- it calls itself with `more` alone
+abbrev μ-list-large : Measures 1 list-large-kinds.ps ℕ
+μ-list-large κs a = cond (a .1 .0) 0 1
+
+abbrev list-large-at : ℕ → In 1 list-large-kinds.ps
+list-large-at t = and 1 list-large-kinds.ps (is 1 list-large-kinds.ps μ-list-large t) list-large.Pre
+
+abbrev list-large-below : ℕ → In 1 list-large-kinds.ps
+list-large-below t = and 1 list-large-kinds.ps (falls 1 list-large-kinds.ps _<_ μ-list-large t) list-large.Pre
+
+-- what each function called asks and tells
+abbrev list-large-calls : ℕ → list-large-lts.Claims
+list-large-calls t = (
+  refuse-reads.Asked,
+  refuse-reads.Learnt,
+  large-stream-reads.Asked,
+  large-stream-reads.Learnt,
+  large-rows-reads.Asked,
+  large-rows-reads.Learnt,
+  large-lines-reads.Asked,
+  large-lines-reads.Learnt,
+  fill-reads.Asked,
+  fill-reads.Learnt,
+  has-more-reads.Asked,
+  has-more-reads.Learnt,
+  list-large-below t,
+  list-large.Post,
+  list-reads.Asked,
+  list-reads.Learnt,
+)
+
+module _ (t : ℕ) where
+  refuse-requires : list-large-lts.Need-refuse-requires (list-large-calls t) (list-large-at t) list-large.Post
+  refuse-requires c κs = c .before .before .pre .1 (c .if1 .taken)
+
+  slice-aggregate-again : list-large-lts.Need-slice-aggregate-list-large (list-large-calls t) (list-large-at t) list-large.Post
+  slice-aggregate-again c = c .before .before .before .before .before .before .before .before .large-stream .ensures ∙ sym (c .before .before .before .before .fill .kept .0)
+
+  again-requires : list-large-lts.Need-list-large-requires (list-large-calls t) (list-large-at t) list-large.Post
+  again-requires c κs =
+      let first = ap {B = ℕ} (λ (b : Bool). cond b 0 1) (c .before .before .before .before .before .before .before .before .before .if1 .left) in
+      (omega (arith, c .before .before .before .before .before .before .before .before .before .before .before .pre .0), λ _. omega (arith, c .before .before .before .before .before .before .before .before .large-stream .ensures, c .before .before .before .before .fill .kept .0))
+
+  array-share-prefix-space : list-large-lts.Need-array-share-prefix-space (list-large-calls t) (list-large-at t) list-large.Post
+  array-share-prefix-space c = let f = c .before .before .before .fill in omega (arith, f .ensures .within, f .kept .0)
+
+  slice-aggregate-list : list-large-lts.Need-slice-aggregate-list (list-large-calls t) (list-large-at t) list-large.Post
+  slice-aggregate-list c = let f = c .before .before .before .before .fill in sym (length-take-le (f .result) _ (omega (arith, f .ensures .within, f .kept .0)))
+
+  list-requires : list-large-lts.Need-list-requires (list-large-calls t) (list-large-at t) list-large.Post
+  list-requires c κs =
+      let f = c .before .before .before .before .before .before .fill in
+      roomy 4194304 (omega arith) (omega (arith, length-take (f .result) (f .last .0), f .kept .0, c .before .before .before .before .before .before .before .before .before .before .large-stream .ensures))
+      (omega (arith, c .before .before .before .before .before .before .before .before .before .large-rows .ensures)) (omega (arith, c .before .before .before .before .before .before .before .before .large-lines .ensures))
+
+pub +list-large-spec : {M : Type 1} → statement M
++list-large-spec = close μ-list-large λ t. list-large-lts.spec (list-large-calls t)
+    (list-large-at t)
+    list-large.Post
+    (refuse-requires t)
+    (λ c. search needs)
+    (λ c κs. search needs) (λ c κs. search needs) (λ c κs. search needs)
+    (λ c. search needs)
+    (λ c κs. search needs)
+    (λ c κs. search needs)
+    (slice-aggregate-again t)
+    (again-requires t)
+    (λ c. search needs)
+    (array-share-prefix-space t)
+    (slice-aggregate-list t)
+    (λ c. search needs) (λ c. search needs)
+    (list-requires t)
+    (λ c. search needs)

@@ -1,0 +1,2 @@
+-- What the listing of a stream needs.
+pub mod Space
