@@ -1,7 +1,9 @@
-# shellcheck shell=sh disable=SC2154
+# shellcheck shell=sh disable=SC2154,SC3045
 # What the commands at the repository's root share. Sourced with `name`, the command, and `root`, the repository's folder.
 
-say() { printf '%s: %s\n' "$name" "$*" >&2; }
+# What clears a terminal's line where a progress line stands on it.
+wipe=
+say() { printf '%s%s: %s\n' "$wipe" "$name" "$*" >&2; }
 
 die() {
     say "$@"
@@ -17,6 +19,11 @@ scratch=
 trap '[ -z "$scratch" ] || rm -rf "$scratch"' EXIT
 trap 'exit 2' HUP INT TERM
 
+# Makes the folder `scratch`, which is removed at the end.
+need_scratch() {
+    [ -n "$scratch" ] || scratch=$(mktemp -d) || die "no scratch folder could be made"
+}
+
 # `taken` is a file with the bytes of FILE, which may be a pipe, or - for standard input. Of those no more than LIMIT bytes and one are taken.
 # A file that can't be read is told, and the status is 2.
 take_file() { # FILE LIMIT
@@ -30,7 +37,7 @@ take_file() { # FILE LIMIT
             return 0
         fi
     fi
-    [ -n "$scratch" ] || scratch=$(mktemp -d) || die "no scratch folder could be made"
+    need_scratch
     taken=$(mktemp "$scratch/taken.XXXXXX") || die "no scratch file could be made"
     if [ "$1" = - ]; then
         head -c "$(($2 + 1))" >"$taken"
@@ -103,6 +110,21 @@ run_program() { # CRATE
     ${emulator:+"$emulator"} "$loader" --library-path "$tools/lib" "$root/target/bin/$1"
 }
 
+# Runs a program on standard input and passes on what it prints; its first line is `answer` and a number, and the status is 1 where that isn't 0.
+# `scratch` is there already: behind a pipe this is a shell of its own.
+answer_of() { # CRATE FILE
+    if ! run_program "$1" >"$scratch/printed"; then
+        say "the program $1 failed on $2; a long stream needs a stack of $stack_kb KB, and the limit here is $(ulimit -s) (ulimit -Hs)"
+        return 2
+    fi
+    cat "$scratch/printed"
+    IFS= read -r first <"$scratch/printed" || first=
+    case $first in
+    "answer 0 "*) return 0 ;;
+    *) refused "$2" "$first" ;;
+    esac
+}
+
 # A number as four bytes, the lowest first.
 four_bytes() { # NUMBER
     n=$1
@@ -111,4 +133,31 @@ four_bytes() { # NUMBER
         printf "\\$(printf %03o $((n % 256)))"
         n=$((n / 256))
     done
+}
+
+# The programs hold a long stream, its rows and what they print on the stack; a short one needs no more than is usual.
+stack_kb=131072
+large_stack() {
+    need_scratch
+    ulimit -S -s "$stack_kb" 2>/dev/null || ulimit -S -s "$(ulimit -H -s)" 2>/dev/null || :
+}
+
+# Says in words why an answer is a refusal. The status is 1. The verb has said how many bytes (`longest`) it reads.
+refused() { # FILE LINE
+    case $2 in
+    "answer 1 "*) why="it is no TypeInfo stream: it has fewer than 32 bytes" ;;
+    "answer 2 "*) why="it is no TypeInfo stream: it doesn't begin with F7 EA CD AC" ;;
+    "answer 3 "*) why="it says that it has more entries than its length allows; see that it is whole" ;;
+    "answer 4 "*) why="it is of the Access 2000 layout and fits no reading; see that it is a Blob, whole" ;;
+    "answer 5 "*) why="it is too long: it has more than $longest bytes" ;;
+    "answer 6 "* | "answer 7 "*)
+        counts=${2#answer ? }
+        left=${counts#* }
+        why="it has ${counts%% *} controls and ${left%% *} properties, which is more than there is room for"
+        ;;
+    "answer 8 "*) why="the code table $table is not well formed; ./oskuramos table says where" ;;
+    *) why="the answer is none that this command knows" ;;
+    esac
+    say "$1 was refused: $why"
+    return 1
 }
