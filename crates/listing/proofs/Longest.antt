@@ -77,7 +77,7 @@ value-names m =
     (table-by (eqb m 6 || eqb m 8) _ _ _ (omega arith)
     (table-by (eqb m 5 || eqb m 7) _ _ _ (omega arith) (omega (arith, some-place textNames))))
 
-value-name-short : (m x : ℕ) → length (orDash (nameIn (namesFor m) x)) ≤ longestName
+pub value-name-short : (m x : ℕ) → length (orDash (nameIn (namesFor m) x)) ≤ longestName
 value-name-short m x = omega (arith, name-short (namesFor m) x, value-names m)
 
 -- ---- fields
