@@ -1,0 +1,6 @@
+-- Laws of the text; the public ones serve whoever writes or bounds it.
+pub mod Remains
+pub mod Lines
+pub mod Longest
+pub mod Arms
+pub mod Room

@@ -1,0 +1,118 @@
+-- The lines, as the code meets them: by the numbers that it has read, and one at a time.
+use mathlib.Core.Path.{_≡_, refl, ap, _∙_}
+use mathlib.Core.List.{List, [], _∷_, _++_}
+use Prim.Native.Nat.{ℕ, zero, suc, _+_, _*_, _-_, _≤_, _<_}
+use native.Mathlib.Nat.{not-suc-le-zero}
+use native.Mathlib.Numerals.{sub-one}
+use native.Mathlib.Omega.{arith}
+use borrow.Author.Tests.{lt-ltb, le-ltb, le-leb, lt-leb}
+use lib.ListN.{length, getD, take, replicate, length-append, List·getD-eq-default}
+use lib.Seq.{take-at}
+use Rattle.rules.specs.Lists.{text}
+use Rattle.rules.specs.Bytes.{byte, u16}
+use Rattle.rules.specs.Digits.{hex}
+use Rattle.rules.specs.NameTables.{controlTypeNames}
+use Rattle.rules.specs.Names.{nameIn, filled}
+use Rattle.rules.specs.CodeTable.{Tie, codesAt, tieAt, tiesAt, scopesAt}
+use Rattle.names.specs.Lookup.{named}
+use Rattle.names.specs.declared.Name.{Name}
+use Rattle.codetable.specs.Reads.{ReadsRow}
+use Rattle.codetable.specs.declared.RowRead.{RowRead}
+use Rattle.tabletext.specs.Text.{remark, kindWords, kindWord, markOf, rowLine, rowLines, scopeName, typeRemark, scopeLine, scopeLines, headerLine, headerLines, tableText}
+
+-- ---- names
+pub no-remark : (n : ℕ) (s : List ℕ) → n ≡ 0 → remark (take n s) ≡ []
+unfolding remark
+no-remark zero s e = refl
+no-remark (suc n) s e = absurd (omega arith)
+
+pub a-remark : (n : ℕ) (s : List ℕ) → (n ≡ 0 → ⊥) → n ≤ length s → remark (take n s) ≡ text "  # " ++ take n s
+unfolding remark
+a-remark zero s h l = absurd (h refl)
+a-remark (suc n) [] h l = absurd (not-suc-le-zero l)
+a-remark (suc n) (b ∷ s) h l = refl
+
+module _ {r : Name} (name : List ℕ) (e : r ≡ named name) where
+  pub in-row : r .len ≤ length (r .bytes)
+  in-row =
+      let a : r .len ≡ length name = ap (λ (x : Name). x .len) e in
+      let b : length (r .bytes) ≡ length (filled name) = ap (λ (x : Name). length (x .bytes)) e in
+      omega (arith, length-append name (replicate (26 - length name) 0))
+
+  pub remark-of : remark (take (r .len) (r .bytes)) ≡ remark name
+  remark-of =
+      ap (λ (x : Name). remark (take (x .len) (x .bytes))) e
+      ∙ ap remark (take-at name (replicate (26 - length name) 0) (length name) refl)
+
+-- ---- rows
+pub bytes-kind : (k : ℕ) → 4 ≤ k → kindWord k ≡ text "bytes"
+unfolding kindWord
+bytes-kind k h = List·getD-eq-default kindWords (text "bytes") h
+
+pub mark-number : (i k : ℕ) → i ≤ 0xBC → markOf i k ≡ 3
+unfolding markOf
+mark-number i k h = rw (le-leb i 0xBC h)
+
+pub mark-above : (i k : ℕ) → 0xBC < i → markOf i k ≡ getD (7 ∷ 6 ∷ 5 ∷ 4 ∷ []) k 7
+unfolding markOf
+mark-above i k h = rw (lt-leb i 0xBC h)
+
+tie-of : {i x k i′ x′ k′ : ℕ} → i ≡ i′ → x ≡ x′ → k ≡ k′ → _≡_ {A = Tie} (record { id = i; target = x; kind = k }) (record { id = i′; target = x′; kind = k′ })
+tie-of a b c = rw (a, b, c)
+
+rows-next : (t : List ℕ) (at left : ℕ) → 0 < left → rowLines (tiesAt t at left) ≡ rowLine (tieAt t at) ++ rowLines (tiesAt t (at + 4) (left - 1))
+unfolding rowLines tiesAt
+rows-next t at zero h = absurd (not-suc-le-zero h)
+rows-next t at (suc k) h = rw sub-one
+
+pub rows-read : (t : List ℕ) (at left : ℕ) (r : RowRead) → 0 < left → ReadsRow t at r
+    → rowLines (tiesAt t at left) ≡ rowLine (record { id = r .id; target = r .target; kind = r .kind }) ++ rowLines (tiesAt t (at + 4) (left - 1))
+rows-read t at left r h R = rw (tie-of (R .id .is) (R .target .is) (R .kind .is)) (rows-next t at left h)
+
+pub rows-done : (t : List ℕ) (at left : ℕ) → left ≤ 0 → rowLines (tiesAt t at left) ≡ []
+unfolding rowLines tiesAt
+rows-done t at zero h = refl
+rows-done t at (suc k) h = absurd (not-suc-le-zero h)
+
+-- ---- scopes
+pub entry-name : (k c : ℕ) → 2 ≤ k → scopeName k c ≡ text "entry " ++ hex 4 c
+unfolding scopeName
+entry-name k c h = List·getD-eq-default (text "form" ∷ text "report" ∷ []) (text "entry " ++ hex 4 c) h
+
+pub plain-scope : (k c : ℕ) → k < 2 → typeRemark k c ≡ []
+unfolding typeRemark
+plain-scope k c h = rw (lt-ltb k 2 h)
+
+pub entry-scope : (k c : ℕ) → 2 ≤ k → typeRemark k c ≡ remark (nameIn controlTypeNames c)
+unfolding typeRemark
+entry-scope k c h = rw (le-ltb k 2 h)
+
+pub scopes-read : (t : List ℕ) (at body left : ℕ) {k c n : ℕ} → 0 < left → k ≡ byte t at → c ≡ u16 t (at + 1) → n ≡ u16 t (at + 3)
+    → scopeLines (scopesAt t at body left)
+    ≡ scopeLine k c ++ (rowLines (tiesAt t body n) ++ scopeLines (scopesAt t (at + 5) (body + 4 * n) (left - 1)))
+unfolding scopeLines scopesAt
+scopes-read t at body zero h ek ec en = absurd (not-suc-le-zero h)
+scopes-read t at body (suc j) h ek ec en = rw (ek, ec, en, sub-one)
+
+pub scopes-done : (t : List ℕ) (at body left : ℕ) → left ≤ 0 → scopeLines (scopesAt t at body left) ≡ []
+unfolding scopeLines scopesAt
+scopes-done t at body zero h = refl
+scopes-done t at body (suc k) h = absurd (not-suc-le-zero h)
+
+-- ---- header codes, and the table
+pub headers-read : (t : List ℕ) (at left : ℕ) {c : ℕ} → 0 < left → c ≡ u16 t at
+    → headerLines (codesAt t at left) ≡ headerLine c ++ headerLines (codesAt t (at + 2) (left - 1))
+unfolding headerLines codesAt
+headers-read t at zero h e = absurd (not-suc-le-zero h)
+headers-read t at (suc k) h e = rw (e, sub-one)
+
+pub headers-done : (t : List ℕ) (at left : ℕ) → left ≤ 0 → headerLines (codesAt t at left) ≡ []
+unfolding headerLines codesAt
+headers-done t at zero h = refl
+headers-done t at (suc k) h = absurd (not-suc-le-zero h)
+
+pub table-lines : (t : List ℕ) {x h n : ℕ} → x ≡ byte t 0 → h ≡ byte t 1 → n ≡ u16 t 2
+    → tableText t
+    ≡ text "layout " ++ (hex 2 x ++ (text "\n" ++ (headerLines (codesAt t 4 h) ++ scopeLines (scopesAt t (4 + 2 * h) (4 + 2 * h + 5 * n) n))))
+unfolding tableText
+table-lines t ex eh en = rw (ex, eh, en)

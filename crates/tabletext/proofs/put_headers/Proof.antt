@@ -1,0 +1,50 @@
+use Prim.Native.Nat.{_+_, _*_, _<_, _^_}
+use native.Mathlib.Omega.{arith}
+use borrow.Author.Needs.{needs}
+use Rattle.text.proofs.Chain.{same}
+use Rattle.rules.specs.CodeTable.{codesAt}
+use Rattle.tabletext.specs.Text.{headerLines}
+use Rattle.tabletext.proofs.Remains.{Remains, all-remains, on, done}
+use Rattle.tabletext.proofs.Lines.{headers-read, headers-done}
+use Rattle.tabletext.proofs.put_headers.Statement.{statement}
+use Rattle.tabletext.proofs.put_headers.Tie as tie
+
+abbrev Inv-loop : tie.InvT-loop
+Inv-loop out₀ at table start n p₀ place₀ left₀ out p place left =
+    Remains out₀ at (headerLines (codesAt table start n)) out p (headerLines (codesAt table place left)) × (place + 2 * left < 2 ^ 32)
+
+abbrev μ-loop : tie.MeasureT-loop
+μ-loop out₀ at table start n p₀ place₀ left₀ out p place left = left
+
+loop-holds : tie.Need-loop-holds Inv-loop μ-loop
+loop-holds c = (all-remains, omega arith)
+
+put-header-requires : tie.Need-put-header-requires Inv-loop μ-loop
+put-header-requires c κs = c .word .ensures .small
+
+loop-again : tie.Need-loop-again Inv-loop μ-loop
+loop-again c =
+    let l = c .before .before .before .before .before .before in
+    (on (l .loop .inv .0) (headers-read (l .before .before .before .args .table .now) (l .loop .place) (l .loop .left) (omega arith) (c .before .before .before .word .ensures .is)) (c .before .before .put-header .ensures), omega arith)
+
+returns : tie.Need-returns Inv-loop μ-loop
+returns c = let l = c .before in done (l .loop .inv .0) (headers-done (l .before .before .before .args .table .now) (l .loop .place) (l .loop .left) (omega arith))
+
+same-length : tie.Need-same-length Inv-loop μ-loop
+same-length c = same (returns c)
+
+pub put-headers-spec : {M : Type 1} → statement M
+put-headers-spec =
+    tie.close
+    (tie.spec
+    Inv-loop
+    μ-loop
+    loop-holds
+    (λ c κs. omega arith)
+    put-header-requires
+    (λ c. omega arith)
+    (λ c. omega arith)
+    (λ c. omega arith)
+    loop-again
+    same-length
+    returns)

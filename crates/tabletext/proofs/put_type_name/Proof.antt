@@ -1,0 +1,22 @@
+use borrow.Author.Needs.{needs}
+use Rattle.rules.specs.NameTables.{controlTypeNames}
+use Rattle.rules.specs.Names.{nameIn}
+use Rattle.tabletext.proofs.Lines.{in-row, remark-of}
+use Rattle.tabletext.proofs.put_type_name.Statement.{statement}
+use Rattle.tabletext.proofs.put_type_name.Tie as tie
+
+put-remark-requires : tie.Need-put-remark-requires
+put-remark-requires c κs = let a = c .before .before .before .before .before .args in in-row (nameIn controlTypeNames (a .code)) (c .before .before .before .control-type-name .ensures)
+
+returns : tie.Need-returns
+returns c = let a = c .before .before .before .before .before .before .before .before .args in rw (remark-of (nameIn controlTypeNames (a .code)) (c .before .before .before .before .before .before .control-type-name .ensures)) at (c .before .before .put-remark .ensures)
+
+pub put-type-name-spec : {M : Type 1} → statement M
+put-type-name-spec =
+    tie.close
+    (tie.spec
+    (λ c κs. search needs)
+    (λ c. search needs)
+    put-remark-requires
+    (λ c. search needs)
+    returns)
