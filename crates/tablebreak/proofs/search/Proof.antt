@@ -1,0 +1,96 @@
+use mathlib.Core.Path.{_≡_, refl, sym, _∙_}
+use Prim.Native.Nat.{_+_, _*_, _≤_, _<_, _^_}
+use native.Mathlib.Omega.{arith}
+use borrow.Author.Needs.{needs}
+use Rattle.tablebreak.specs.Rules.{longest}
+use Rattle.tablebreak.proofs.Turns.{here, later, Counted, head-short, many-headers, many-scopes, contents-short, contents-there, next-is}
+use Rattle.tablebreak.proofs.search.Statement.{statement}
+use Rattle.tablebreak.proofs.search.Tie as tie
+
+-- the counts that the code has read
+counts : (c : tie.Else3) → Counted (c .before .before .before .before .before .before .args .table .now) (c .before .before .before .byte .result) (c .before .word .result)
+counts c = record {
+  head = c .before .before .before .before .if1 .left;
+  headers-are = c .before .before .before .byte .ensures .is;
+  few = c .before .before .if2 .left;
+  scopes-are = c .before .word .ensures .is;
+  some = c .if3 .left;
+}
+
+returns : tie.Need-returns
+returns c = c .broken .ensures ∙ sym (head-short (c .before .before .before .args .table .now) (c .before .if1 .taken))
+
+returns-2 : tie.Need-returns-2
+returns-2 c = c .broken2 .ensures ∙ sym (many-headers (c .before .before .before .before .before .args .table .now) (c .before .before .before .if1 .left) (c .before .before .byte .ensures .is) (c .before .if2 .taken))
+
+returns-3 : tie.Need-returns-3
+returns-3 c = c .broken3 .ensures ∙ sym (many-scopes (c .before .before .before .before .before .before .before .args .table .now) (c .before .before .before .before .before .if1 .left) (c .before .before .before .before .byte .ensures .is) (c .before .before .before .if2 .left) (c .before .before .word .ensures .is) (c .before .if3 .taken))
+
+returns-4 : tie.Need-returns-4
+returns-4 c = c .broken4 .ensures ∙ sym (contents-short (counts (c .before .before)) (c .before .if4 .taken))
+
+header-break-requires : tie.Need-header-break-requires
+header-break-requires c κs = omega (arith, counts (c .before) .few)
+
+scope-break-requires : tie.Need-scope-break-requires
+scope-break-requires c κs = omega (arith, counts (c .before .before .before .before) .few, counts (c .before .before .before .before) .some)
+
+body-break-requires : tie.Need-body-break-requires
+body-break-requires c κs =
+    let n = counts (c .before .before .before .before .before .before .before) in (
+      (omega (arith, n .headers-are), omega (arith, n .headers-are, n .scopes-are), n .scopes-are),
+      (n .some, c .before .before .before .before .before .before .if4 .left, c .before .before .before .before .before .before .before .before .before .before .before .before .before .pre),
+    )
+
+returns-5 : tie.Need-returns-5
+returns-5 c =
+    let f = c .before .before .header-break in
+    sym (contents-there (counts (c .before .before .before .before)) (c .before .before .before .if4 .left) (f .ensures) ∙ here (f .result) _ (c .if5 .taken))
+
+returns-6 : tie.Need-returns-6
+returns-6 c =
+    let f = c .before .before .before .before .before .header-break in
+    let g = c .before .before .scope-break in
+    sym
+    (contents-there (counts (c .before .before .before .before .before .before .before)) (c .before .before .before .before .before .before .if4 .left) (f .ensures)
+    ∙ later (f .result) _ (c .before .before .before .if5 .left)
+    ∙ next-is _ (g .ensures)
+    ∙ here (g .result) _ (c .if6 .taken))
+
+returns-7 : tie.Need-returns-7
+returns-7 c =
+    let f = c .before .before .before .before .before .before .header-break in
+    let g = c .before .before .before .scope-break in
+    c .body-break .ensures
+    ∙ sym
+    (contents-there (counts (c .before .before .before .before .before .before .before .before)) (c .before .before .before .before .before .before .before .if4 .left) (f .ensures)
+    ∙ later (f .result) _ (c .before .before .before .before .if5 .left)
+    ∙ next-is _ (g .ensures)
+    ∙ later (g .result) _ (c .before .if6 .left))
+
+pub search-spec : {M : Type 1} → statement M
+search-spec =
+    tie.close
+    (tie.spec
+    (λ c. omega arith)
+    (λ c κs. (omega (arith, c .before .before .pre), omega arith, omega arith))
+    returns
+    (λ c κs. search needs)
+    (λ c κs. (omega arith, omega (arith, c .before .byte .ensures .small), omega arith))
+    returns-2
+    (λ c κs. omega arith)
+    (λ c κs. (omega arith, omega (arith, c .before .word .ensures .small), omega arith))
+    returns-3
+    (λ c. omega (arith, counts c .few, counts c .some))
+    (λ c. omega (arith, counts c .few, counts c .some))
+    (λ c. omega (arith, counts c .few, counts c .some))
+    (λ c. omega (arith, counts c .few, counts c .some))
+    (λ c. omega arith)
+    (λ c κs. (omega (arith, c .before .before .before .before .before .before .before .pre), omega (arith, counts (c .before) .few, counts (c .before) .some), omega arith))
+    returns-4
+    header-break-requires
+    returns-5
+    scope-break-requires
+    returns-6
+    body-break-requires
+    returns-7)

@@ -1,0 +1,485 @@
+// Where a code table breaks which of document 01's rules, and the line that says so. specs/Rules.antt has the rules by number.
+use codetable::byte;
+use codetable::read_row;
+use codetable::word;
+use tabletext::put_scope_name;
+use text::put_byte;
+use text::put_decimal;
+use text::put_hex;
+use text::put_text;
+ghost use mathlib.Core.Path.{_≡_};
+ghost use Prim.Native.Nat.{_+_, _*_, _≤_, _<_, _^_};
+ghost use lib.ListN.{length};
+ghost use Rattle.rules.specs.CodeTable.{scopeCount, contentsAt, bodiesAt, scopesAt, rowCount};
+ghost use Rattle.text.specs.Writer.{Wrote};
+ghost use Rattle.tablebreak.specs.Rules as law;
+ghost use Rattle.tablebreak.specs.Words as w;
+ghost use Rattle.tablebreak.specs.Shown.{shownText, longestShown};
+
+const MANY_HEADERS: u32 = 1;
+
+const MANY_SCOPES: u32 = 2;
+
+const HEADER_ORDER: u32 = 3;
+
+const SCOPE_KIND: u32 = 4;
+
+const SCOPE_CODE: u32 = 5;
+
+const SCOPE_ORDER: u32 = 6;
+
+const ID_ORDER: u32 = 7;
+
+const ID_HIGH: u32 = 8;
+
+const TARGET_HIGH: u32 = 9;
+
+const ROW_KIND: u32 = 10;
+
+const TOO_SHORT: u32 = 11;
+
+const TOO_LONG: u32 = 12;
+
+const OVER_LONGEST: u32 = 13;
+
+const LONGEST: usize = 65100;
+
+// A rule broken at a byte, 0 for none. Scopes and rows are counted from 1, and 0 where the rule is of none; kind and code are the scope's.
+// `found` is what stands there, `before` what stands in front of it.
+pub struct Break {
+    pub rule: u32,
+    pub at: u32,
+    pub scope: u32,
+    pub kind: u32,
+    pub code: u32,
+    pub row: u32,
+    pub found: u32,
+    pub before: u32,
+}
+
+// ---- a break
+fn unbroken() -> Break
+    ensures { λ r. ⌜ r ≡ law.unbroken ⌝ }
+{
+    Break {
+        rule: 0,
+        at: 0,
+        scope: 0,
+        kind: 0,
+        code: 0,
+        row: 0,
+        found: 0,
+        before: 0,
+    }
+}
+
+// A rule of the table as a whole.
+fn broken(rule: u32, at: usize, found: usize, before: usize) -> Break
+    requires { ⌜ (at < 2 ^ 32) × (found < 2 ^ 32) × (before < 2 ^ 32) ⌝ }
+    ensures { λ r. ⌜ r ≡ law.broken rule at found before ⌝ }
+{
+    Break {
+        rule,
+        at: at as u32,
+        scope: 0,
+        kind: 0,
+        code: 0,
+        row: 0,
+        found: found as u32,
+        before: before as u32,
+    }
+}
+
+// A rule of a scope, or of one of its rows.
+fn placed(found: Break, scope: usize, kind: usize, code: usize, row: usize) -> Break
+    requires { ⌜ (scope < 2 ^ 32) × (kind < 2 ^ 32) × (code < 2 ^ 32) × (row < 2 ^ 32) ⌝ }
+    ensures { λ r. ⌜ r ≡ law.placed found scope kind code row ⌝ }
+{
+    Break {
+        rule: found.rule,
+        at: found.at,
+        scope: scope as u32,
+        kind: kind as u32,
+        code: code as u32,
+        row: row as u32,
+        found: found.found,
+        before: found.before,
+    }
+}
+
+// ---- where it is
+// The n header codes at 4.
+fn header_break(table: &[u8], n: usize) -> Break
+    requires { ⌜ 4 + 2 * n < 2 ^ 32 ⌝ }
+    ensures { λ r. ⌜ r ≡ law.headerBreak (now (table .entry)) 4 0 n ⌝ }
+{
+    let mut at = 4;
+    let mut left = n;
+    let mut least = 0;
+    while 0 < left {
+        let code = word(table, at);
+        if code < least {
+            return broken(HEADER_ORDER, at, code, least - 1);
+        }
+        least = code + 1;
+        at += 2;
+        left -= 1;
+    }
+    unbroken()
+}
+
+// A scope of the contents; the one in front of it has the key least - 1.
+fn order_rule(at: usize, key: usize, least: usize) -> Break
+    requires { ⌜ (at < 2 ^ 32) × (least < 2 ^ 32) ⌝ }
+    ensures { λ r. ⌜ r ≡ law.orderRule at key least ⌝ }
+{
+    if key < least {
+        let last = least - 1;
+        return broken(SCOPE_ORDER, at, last / 65536, last % 65536);
+    }
+    unbroken()
+}
+
+fn scope_rule(at: usize, kind: usize, code: usize, least: usize) -> Break
+    requires { ⌜ (at + 1 < 2 ^ 32) × (kind < 256) × (code < 65536) × (least < 2 ^ 32) ⌝ }
+    ensures { λ r. ⌜ r ≡ law.scopeRule at kind code least ⌝ }
+{
+    if 2 < kind {
+        return broken(SCOPE_KIND, at, kind, 0);
+    }
+    let key = kind * 65536 + code;
+    if kind == 2 {
+        return order_rule(at, key, least);
+    }
+    if 0 < code {
+        return broken(SCOPE_CODE, at + 1, code, 0);
+    }
+    order_rule(at, key, least)
+}
+
+// The n scopes whose contents start at start.
+fn scope_break(table: &[u8], start: usize, n: usize) -> Break
+    requires { ⌜ start + 5 * n + 2 < 2 ^ 32 ⌝ }
+    ensures { λ r. ⌜ r ≡ law.scopeBreak (now (table .entry)) start 0 1 n ⌝ }
+{
+    let mut at = start;
+    let mut left = n;
+    let mut number = 1;
+    let mut least = 0;
+    while 0 < left {
+        let kind = byte(table, at);
+        let code = word(table, at + 1);
+        let found = scope_rule(at, kind, code, least);
+        if found.rule != 0 {
+            return placed(found, number, kind, code, 0);
+        }
+        least = kind * 65536 + code + 1;
+        at += 5;
+        number += 1;
+        left -= 1;
+    }
+    unbroken()
+}
+
+// Where the bodies of n scopes end; they start at bodies.
+fn bodies_end(table: &[u8], start: usize, bodies: usize, n: usize) -> usize
+    requires { ⌜ (start + 5 * n < 2 ^ 32) × (bodies + 262144 * n < 2 ^ 32) ⌝ }
+    ensures { λ r. ⌜ (r ≡ bodies + 4 * rowCount (scopesAt (now (table .entry)) start bodies n)) × (r < 2 ^ 32) ⌝ }
+{
+    let mut at = start;
+    let mut end = bodies;
+    let mut left = n;
+    while 0 < left {
+        end += 4 * word(table, at + 3);
+        at += 5;
+        left -= 1;
+    }
+    end
+}
+
+// A row; the one in front of it has the id least - 1.
+fn row_rule(at: usize, id: usize, target: usize, kind: usize, least: usize) -> Break
+    requires { ⌜ (at + 3 < 2 ^ 32) × (id < 256) × (target < 65536) × (kind < 256) × (least < 2 ^ 32) ⌝ }
+    ensures { λ r. ⌜ r ≡ law.rowRule at id target kind least ⌝ }
+{
+    if id < least {
+        return broken(ID_ORDER, at, id, least - 1);
+    }
+    if 0xFC < id {
+        return broken(ID_HIGH, at, id, 0);
+    }
+    if 0x7FFF < target {
+        return broken(TARGET_HIGH, at + 1, target, 0);
+    }
+    if 4 < kind {
+        return broken(ROW_KIND, at + 3, kind, 0);
+    }
+    unbroken()
+}
+
+// The n rows from start on, of one scope.
+fn row_break(table: &[u8], start: usize, n: usize, scope: usize, kind: usize, code: usize) -> Break
+    requires { ⌜ (start + 4 * n + 4 < 2 ^ 32) × (scope < 2 ^ 32) × (kind < 2 ^ 32) × (code < 2 ^ 32) ⌝ }
+    ensures { λ r. ⌜ r ≡ law.rowBreak (now (table .entry)) start 0 scope kind code 1 n ⌝ }
+{
+    let mut at = start;
+    let mut left = n;
+    let mut number = 1;
+    let mut least = 0;
+    while 0 < left {
+        let r = read_row(table, at);
+        let found = row_rule(at, r.id, r.target, r.kind, least);
+        if found.rule != 0 {
+            return placed(found, scope, kind, code, number);
+        }
+        least = r.id + 1;
+        at += 4;
+        number += 1;
+        left -= 1;
+    }
+    unbroken()
+}
+
+// The rows of n scopes.
+fn rows_break(table: &[u8], start: usize, bodies: usize, n: usize) -> Break
+    requires { ⌜ (start + 5 * n + 2 < 2 ^ 32) × (bodies + 262144 * n + 4 < 2 ^ 32) ⌝ }
+    ensures { λ r. ⌜ r ≡ law.rowsBreak (now (table .entry)) start bodies 1 n ⌝ }
+{
+    let mut at = start;
+    let mut body = bodies;
+    let mut left = n;
+    let mut number = 1;
+    while 0 < left {
+        let kind = byte(table, at);
+        let code = word(table, at + 1);
+        let count = word(table, at + 3);
+        let found = row_break(table, body, count, number, kind, code);
+        if found.rule != 0 {
+            return found;
+        }
+        at += 5;
+        body += 4 * count;
+        number += 1;
+        left -= 1;
+    }
+    unbroken()
+}
+
+// The length against the contents, and then the rows.
+fn body_break(table: &[u8], contents: usize, bodies: usize, scopes: usize) -> Break
+    requires { ⌜ (contents ≡ contentsAt (now table)) × (bodies ≡ bodiesAt (now table)) × (scopes ≡ scopeCount (now table)) ⌝ }
+    requires { ⌜ (scopes ≤ 64) × (bodies ≤ length (now table)) × (length (now table) ≤ law.longest) ⌝ }
+    ensures { λ r. ⌜ r ≡ law.bodyBreak (now (table .entry)) ⌝ }
+{
+    let size = table.len();
+    let end = bodies_end(table, contents, bodies, scopes);
+    if size < end {
+        return broken(TOO_SHORT, size, end - size, 0);
+    }
+    if end < size {
+        return broken(TOO_LONG, end, size - end, 0);
+    }
+    rows_break(table, contents, bodies, scopes)
+}
+
+// The order of specs/Rules.antt.
+fn search(table: &[u8]) -> Break
+    requires { ⌜ length (now table) ≤ law.longest ⌝ }
+    ensures { λ r. ⌜ r ≡ law.searched (now (table .entry)) ⌝ }
+{
+    let size = table.len();
+    if size < 4 {
+        return broken(TOO_SHORT, size, 4 - size, 0);
+    }
+    let headers = byte(table, 1);
+    if 4 < headers {
+        return broken(MANY_HEADERS, 1, headers, 0);
+    }
+    let scopes = word(table, 2);
+    if 64 < scopes {
+        return broken(MANY_SCOPES, 2, scopes, 0);
+    }
+    let contents = 4 + 2 * headers;
+    let bodies = contents + 5 * scopes;
+    if size < bodies {
+        return broken(TOO_SHORT, size, bodies - size, 0);
+    }
+    let found = header_break(table, headers);
+    if found.rule != 0 {
+        return found;
+    }
+    let found = scope_break(table, contents, scopes);
+    if found.rule != 0 {
+        return found;
+    }
+    body_break(table, contents, bodies, scopes)
+}
+
+// Where a table breaks a rule first; nothing is broken where it is well formed.
+fn first_break(table: &[u8]) -> Break
+    ensures { λ r. ⌜ r ≡ law.breakOf (now (table .entry)) ⌝ }
+{
+    if codetable::well_formed(table) {
+        return unbroken();
+    }
+    if LONGEST < table.len() {
+        return broken(OVER_LONGEST, LONGEST, 0, 0);
+    }
+    search(table)
+}
+
+// ---- the line
+fn put_scope_place(out: &mut [u8], at: usize, scope: u32) -> usize
+    ensures { λ r. ⌜ Wrote (now (out .entry)) at (w.scopePlace scope) (now (out .exit)) r ⌝ }
+{
+    if scope == 0 {
+        return at;
+    }
+    let p = put_text(out, at, b", scope ");
+    put_decimal(out, p, scope)
+}
+
+fn put_row_place(out: &mut [u8], at: usize, row: u32, kind: u32, code: u32) -> usize
+    ensures { λ r. ⌜ Wrote (now (out .entry)) at (w.rowPlace row kind code) (now (out .exit)) r ⌝ }
+{
+    let p = put_text(out, at, b", row ");
+    let p = put_decimal(out, p, row);
+    let p = put_text(out, p, b" of ");
+    put_scope_name(out, p, kind, code)
+}
+
+fn put_within(out: &mut [u8], at: usize, b: Break) -> usize
+    ensures { λ r. ⌜ Wrote (now (out .entry)) at (w.within b) (now (out .exit)) r ⌝ }
+{
+    if b.row == 0 {
+        return put_scope_place(out, at, b.scope);
+    }
+    put_row_place(out, at, b.row, b.kind, b.code)
+}
+
+// A text with a number in decimal, or in hex, or with two numbers in hex.
+fn put_counted(out: &mut [u8], at: usize, before: &[u8], n: u32, behind: &[u8]) -> usize
+    ensures { λ r. ⌜ Wrote (now (out .entry)) at (w.counted (now (before .entry)) n (now (behind .entry))) (now (out .exit)) r ⌝ }
+{
+    let p = put_text(out, at, before);
+    let p = put_decimal(out, p, n);
+    put_text(out, p, behind)
+}
+
+fn put_coded(out: &mut [u8], at: usize, before: &[u8], k: u32, n: u32, behind: &[u8]) -> usize
+    ensures { λ r. ⌜ Wrote (now (out .entry)) at (w.coded (now (before .entry)) k n (now (behind .entry))) (now (out .exit)) r ⌝ }
+{
+    let p = put_text(out, at, before);
+    let p = put_hex(out, p, k, n);
+    put_text(out, p, behind)
+}
+
+fn put_ordered(
+    out: &mut [u8],
+    at: usize,
+    before: &[u8],
+    k: u32,
+    n: u32,
+    other: u32,
+    behind: &[u8],
+) -> usize
+    ensures { λ r. ⌜ Wrote (now (out .entry)) at (w.ordered (now (before .entry)) k n other (now (behind .entry))) (now (out .exit)) r ⌝ }
+{
+    let p = put_text(out, at, before);
+    let p = put_hex(out, p, k, n);
+    let p = put_text(out, p, b" stands behind ");
+    let p = put_hex(out, p, k, other);
+    put_text(out, p, behind)
+}
+
+fn put_scopes_order(out: &mut [u8], at: usize, b: Break) -> usize
+    ensures { λ r. ⌜ Wrote (now (out .entry)) at (w.scopesOrder b) (now (out .exit)) r ⌝ }
+{
+    let p = put_scope_name(out, at, b.kind, b.code);
+    let p = put_text(out, p, b" stands behind ");
+    let p = put_scope_name(out, p, b.found, b.before);
+    put_text(out, p, b"; form, report, entries by code must ascend")
+}
+
+// The rules of the contents, up to 6.
+fn put_contents_rule(out: &mut [u8], at: usize, b: Break) -> usize
+    ensures { λ r. ⌜ Wrote (now (out .entry)) at (w.contentsRule b) (now (out .exit)) r ⌝ }
+{
+    let rule = b.rule;
+    match rule {
+        0 => put_text(out, at, b"nothing is broken"),
+        1 => put_counted(out, at, b"there are ", b.found, b" header codes; at most 4"),
+        2 => put_counted(out, at, b"there are ", b.found, b" scopes; at most 64"),
+        3 => put_ordered(
+            out,
+            at,
+            b"header code ",
+            4,
+            b.found,
+            b.before,
+            b"; they must ascend",
+        ),
+        4 => put_counted(out, at, b"kind ", b.found, b" is above 2 (entry)"),
+        5 => put_coded(
+            out,
+            at,
+            b"code ",
+            4,
+            b.found,
+            b"; a form or report has 0000",
+        ),
+        _ => put_scopes_order(out, at, b),
+    }
+}
+
+// The rules of rows and of the length, from 7 on.
+fn put_body_rule(out: &mut [u8], at: usize, b: Break) -> usize
+    requires { ⌜ 7 ≤ b .rule ⌝ }
+    ensures { λ r. ⌜ Wrote (now (out .entry)) at (w.bodyRule b) (now (out .exit)) r ⌝ }
+{
+    let rule = b.rule;
+    match rule {
+        7 => put_ordered(out, at, b"id ", 2, b.found, b.before, b"; ids must ascend"),
+        8 => put_coded(out, at, b"id ", 2, b.found, b" is above FC"),
+        9 => put_coded(out, at, b"target ", 4, b.found, b" is above 7FFF"),
+        10 => put_counted(out, at, b"kind ", b.found, b" is above 4 (bytes)"),
+        11 => put_counted(out, at, b"it is too short; bytes missing: ", b.found, b""),
+        12 => put_counted(out, at, b"it is too long; bytes left over: ", b.found, b""),
+        _ => put_text(out, at, b"it goes on here; a table has at most 65100 bytes"),
+    }
+}
+
+fn put_rule(out: &mut [u8], at: usize, b: Break) -> usize
+    ensures { λ r. ⌜ Wrote (now (out .entry)) at (w.ruleText b) (now (out .exit)) r ⌝ }
+{
+    if b.rule < 7 {
+        put_contents_rule(out, at, b)
+    } else {
+        put_body_rule(out, at, b)
+    }
+}
+
+// The line of a break, from the buffer's start on.
+fn break_line(b: Break, out: &mut [u8]) -> usize
+    ensures { λ r. ⌜ Wrote (now (out .entry)) 0 (w.breakText b) (now (out .exit)) r ⌝ }
+{
+    let p = put_text(out, 0, b"byte ");
+    let p = put_decimal(out, p, b.at);
+    let p = put_within(out, p, b);
+    let p = put_text(out, p, b": ");
+    let p = put_rule(out, p, b);
+    put_byte(out, p, b'\n')
+}
+
+// ---- the table
+// The text of a table, or the line that says where it breaks which rule, from the buffer's start on.
+pub fn show_table(table: &[u8], out: &mut [u8]) -> usize
+    ensures { λ r. ⌜ Wrote (now (out .entry)) 0 (shownText (now (table .entry))) (now (out .exit)) r ⌝ }
+    ensures { λ r. ⌜ length (shownText (now (table .entry))) ≤ longestShown ⌝ }
+{
+    let found = first_break(table);
+    if found.rule == 0 {
+        return tabletext::table_text(table, out);
+    }
+    break_line(found, out)
+}
