@@ -1,0 +1,2 @@
+-- What the reader of a table's text hands from one function to the next.
+pub mod Places
