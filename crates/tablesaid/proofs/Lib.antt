@@ -1,0 +1,2 @@
+-- Laws of what a text says.
+pub mod Steps

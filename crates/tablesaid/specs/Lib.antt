@@ -1,0 +1,2 @@
+-- What a text says, comments and blanks left out.
+pub mod Said
