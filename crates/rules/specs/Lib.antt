@@ -16,6 +16,7 @@ pub mod Names  -- "Names and listing": which table, and look-up
 pub mod Rows  -- "Rows": widths and room
 pub mod TypeInfo  -- "TypeInfo"
 pub mod CodeTable  -- "Code table"
+pub mod Join  -- wish 9 of document 02: two code tables joined
 pub mod Tree  -- what both layouts share: entries, levels, what is reported
 pub mod Access2000  -- "Access 2000 layout", to a tree
 pub mod Later  -- "Later layout", to a tree or a scan
