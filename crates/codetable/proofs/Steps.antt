@@ -29,7 +29,7 @@ or-true true = refl
 or-true false = refl
 
 -- ---- codes
-codes-next : (t : List ℕ) (at left : ℕ) → 0 < left → codesAt t at left ≡ u16 t at ∷ codesAt t (at + 2) (left - 1)
+pub codes-next : (t : List ℕ) (at left : ℕ) → 0 < left → codesAt t at left ≡ u16 t at ∷ codesAt t (at + 2) (left - 1)
 unfolding codesAt
 codes-next t at zero h = absurd (not-suc-le-zero h)
 codes-next t at (suc k) h = rw sub-one
@@ -71,7 +71,7 @@ pub ties-at-zero : (rs : List Tie) → tiesFrom 0 rs ≡ tiesOk rs
 unfolding tiesFrom tiesOk
 ties-at-zero rs = refl
 
-ties-next : (t : List ℕ) (at left : ℕ) → 0 < left → tiesAt t at left ≡ tieAt t at ∷ tiesAt t (at + 4) (left - 1)
+pub ties-next : (t : List ℕ) (at left : ℕ) → 0 < left → tiesAt t at left ≡ tieAt t at ∷ tiesAt t (at + 4) (left - 1)
 unfolding tiesAt
 ties-next t at zero h = absurd (not-suc-le-zero h)
 ties-next t at (suc k) h = rw sub-one
@@ -135,7 +135,7 @@ pub scopes-at-zero : (t : List ℕ) (at body n : ℕ) → scopesFrom t 0 at body
 unfolding scopesFrom scopesFit
 scopes-at-zero t at body n = refl
 
-scopes-next : (t : List ℕ) (at body left : ℕ) → 0 < left
+pub scopes-next : (t : List ℕ) (at body left : ℕ) → 0 < left
     → scopesAt t at body left
     ≡ record { kind = byte t at; code = u16 t (at + 1); rows = tiesAt t body (u16 t (at + 3)) }
     ∷ scopesAt t (at + 5) (body + 4 * u16 t (at + 3)) (left - 1)

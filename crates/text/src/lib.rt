@@ -101,7 +101,7 @@ pub fn put_guid(out: &mut [u8], at: usize, g: &[u8]) -> usize
     put_byte(out, p, b'}')
 }
 
-fn refused(number: u32) -> Answer
+pub fn refused(number: u32) -> Answer
     ensures { λ r. ⌜ r ≡ refusal number ⌝ }
 {
     Answer {
@@ -112,7 +112,7 @@ fn refused(number: u32) -> Answer
     }
 }
 
-fn wrote(size: u32) -> Answer
+pub fn wrote(size: u32) -> Answer
     ensures { λ r. ⌜ r ≡ answer 0 size 0 0 ⌝ }
 {
     Answer {
