@@ -1,0 +1,2 @@
+-- What the walks through two tables say.
+pub mod Walk

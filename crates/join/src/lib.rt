@@ -1,0 +1,443 @@
+// Two code tables joined: the scopes and the rows of either, each once, in order. Both tables are walked at once: to count, and to find two different rows
+// for one scope and id; then to write.
+use codetable::byte;
+use codetable::layout;
+use codetable::read_row;
+use codetable::well_formed;
+use codetable::word;
+use rules::Answer;
+use text::put_byte;
+use text::refused;
+use text::wrote;
+ghost use mathlib.Core.Path.{_≡_};
+ghost use mathlib.Core.Bool.{true};
+ghost use mathlib.Core.List.{_∷_, _++_};
+ghost use Prim.Native.Nat.{_+_, _-_, _*_, _<_, _^_};
+ghost use Rattle.rules.specs.Lists.{same};
+ghost use Rattle.rules.specs.CodeTable as t;
+ghost use Rattle.rules.specs.Join.{joinRows, joinScopes, sameRow, scopesAgree, twoBytes, tieBytes, tiesBytes, sameHead, joinExit};
+ghost use Rattle.text.specs.Writer.{Wrote};
+ghost use Rattle.join.specs.Walk.{alone, tieOf, rowsIn, RowsWalk, RowsTurn, counted, scopesOf, ReadsKey, ScopesWalk, taken, stayed, ScopesTurn, sized, kindOf, codeOf, Formed, codesBytes, headBytes, contentsBytes, bodiesBytes};
+
+// Rows of a scope that are left: where the next one is, and how many they are.
+struct Rows {
+    at: usize,
+    left: usize,
+}
+
+// Scopes of a table that are left: where the contents tell the next one, where its rows start, and how many scopes they are.
+struct Scopes {
+    at: usize,
+    body: usize,
+    left: usize,
+}
+
+struct Row {
+    id: u8,
+    target: u16,
+    kind: u8,
+}
+
+// The next row of two scopes, whether it is the only one with its id, and what is left.
+struct RowTurn {
+    row: Row,
+    agreed: bool,
+    one: Rows,
+    other: Rows,
+}
+
+// What a turn takes of a table's scopes: the rows of the scope that it takes, or none, and the scopes that are left.
+struct Taken {
+    rows: Rows,
+    rest: Scopes,
+}
+
+// The next scope of two tables, kind and code as one number, and what is taken of each.
+struct ScopeTurn {
+    key: usize,
+    front: Taken,
+    back: Taken,
+}
+
+// How many rows two scopes have together, if no id has two different ones.
+struct Counted {
+    agreed: bool,
+    rows: usize,
+}
+
+// The same of two tables, with the number of scopes.
+struct Sized {
+    agreed: bool,
+    scopes: usize,
+    rows: usize,
+}
+
+// Of two walks, with so many left and these numbers next, the first goes on by itself: its number is less, or the second is at its end.
+fn alone(left: usize, number: usize, others: usize, other: usize) -> bool
+    ensures { λ r. ⌜ r ≡ alone left number others other ⌝ }
+{
+    if left == 0 {
+        return false;
+    }
+    if others == 0 {
+        return true;
+    }
+    number < other
+}
+
+// ---- rows
+fn row_at(table: &[u8], at: usize) -> Row
+    requires { ⌜ at + 3 < 2 ^ 60 ⌝ }
+    ensures { λ r. ⌜ tieOf r ≡ t.tieAt (now (table .entry)) at ⌝ }
+{
+    let row = read_row(table, at);
+    Row {
+        id: row.id as u8,
+        target: row.target as u16,
+        kind: row.kind as u8,
+    }
+}
+
+fn same_row(x: Row, y: Row) -> bool
+    ensures { λ r. ⌜ r ≡ sameRow (tieOf x) (tieOf y) ⌝ }
+{
+    if x.target != y.target {
+        return false;
+    }
+    x.kind == y.kind
+}
+
+fn behind(a: Rows) -> Rows
+    requires { ⌜ (a .at < 2 ^ 32) × (0 < a .left) ⌝ }
+    ensures { λ r. ⌜ (r .at ≡ a .at + 4) × (r .left ≡ a .left - 1) ⌝ }
+{
+    Rows {
+        at: a.at + 4,
+        left: a.left - 1,
+    }
+}
+
+fn row_turn(one: &[u8], a: Rows, other: &[u8], b: Rows) -> RowTurn
+    requires { ⌜ RowsWalk (now one) a × RowsWalk (now other) b × (0 < a .left + b .left) ⌝ }
+    ensures { λ r. ⌜ RowsTurn (now (one .entry)) a (now (other .entry)) b r ⌝ }
+{
+    let x = row_at(one, a.at);
+    let y = row_at(other, b.at);
+    if alone(a.left, x.id as usize, b.left, y.id as usize) {
+        let rest = behind(a);
+        return RowTurn {
+            row: x,
+            agreed: true,
+            one: rest,
+            other: b,
+        };
+    }
+    if alone(b.left, y.id as usize, a.left, x.id as usize) {
+        let rest = behind(b);
+        return RowTurn {
+            row: y,
+            agreed: true,
+            one: a,
+            other: rest,
+        };
+    }
+    let agreed = same_row(x, y);
+    let front = behind(a);
+    let back = behind(b);
+    RowTurn {
+        row: x,
+        agreed,
+        one: front,
+        other: back,
+    }
+}
+
+fn count_rows(one: &[u8], front: Rows, other: &[u8], back: Rows) -> Counted
+    requires { ⌜ RowsWalk (now one) front × RowsWalk (now other) back ⌝ }
+    ensures { λ r. ⌜ r ≡ counted (rowsIn (now (one .entry)) front) (rowsIn (now (other .entry)) back) ⌝ }
+{
+    let mut a = front;
+    let mut b = back;
+    let mut rows = 0;
+    while 0 < a.left + b.left {
+        let turn = row_turn(one, a, other, b);
+        if !turn.agreed {
+            return Counted {
+                agreed: false,
+                rows: 0,
+            };
+        }
+        rows += 1;
+        a = turn.one;
+        b = turn.other;
+    }
+    Counted { agreed: true, rows }
+}
+
+// ---- scopes
+// Kind and code of the next scope as one number.
+fn key_at(table: &[u8], a: Scopes) -> usize
+    requires { ⌜ a .at < 2 ^ 32 ⌝ }
+    ensures { λ r. ⌜ ReadsKey (now (table .entry)) (a .at) r ⌝ }
+{
+    byte(table, a.at) * 65536 + word(table, a.at + 1)
+}
+
+fn take(table: &[u8], a: Scopes) -> Taken
+    requires { ⌜ (a .at < 2 ^ 32) × (a .body < 2 ^ 32) × (0 < a .left) ⌝ }
+    ensures { λ r. ⌜ r ≡ taken (now (table .entry)) a ⌝ }
+{
+    let count = word(table, a.at + 3);
+    let rows = Rows {
+        at: a.body,
+        left: count,
+    };
+    let rest = Scopes {
+        at: a.at + 5,
+        body: a.body + 4 * count,
+        left: a.left - 1,
+    };
+    Taken { rows, rest }
+}
+
+fn stay(a: Scopes) -> Taken
+    ensures { λ r. ⌜ r ≡ stayed a ⌝ }
+{
+    let rows = Rows { at: 0, left: 0 };
+    Taken { rows, rest: a }
+}
+
+fn scope_turn(one: &[u8], a: Scopes, other: &[u8], b: Scopes) -> ScopeTurn
+    requires { ⌜ ScopesWalk (now one) a × ScopesWalk (now other) b × (0 < a .left + b .left) ⌝ }
+    ensures { λ r. ⌜ ScopesTurn (now (one .entry)) a (now (other .entry)) b r ⌝ }
+{
+    let x = key_at(one, a);
+    let y = key_at(other, b);
+    if alone(a.left, x, b.left, y) {
+        let front = take(one, a);
+        let back = stay(b);
+        return ScopeTurn {
+            key: x,
+            front,
+            back,
+        };
+    }
+    if alone(b.left, y, a.left, x) {
+        let front = stay(a);
+        let back = take(other, b);
+        return ScopeTurn {
+            key: y,
+            front,
+            back,
+        };
+    }
+    let front = take(one, a);
+    let back = take(other, b);
+    ScopeTurn {
+        key: x,
+        front,
+        back,
+    }
+}
+
+fn scopes_of(table: &[u8]) -> Scopes
+    ensures { λ r. ⌜ r ≡ scopesOf (now (table .entry)) ⌝ }
+{
+    let contents = 4 + 2 * byte(table, 1);
+    let scopes = word(table, 2);
+    Scopes {
+        at: contents,
+        body: contents + 5 * scopes,
+        left: scopes,
+    }
+}
+
+fn count_scopes(one: &[u8], other: &[u8]) -> Sized
+    requires { ⌜ Formed (now one) × Formed (now other) ⌝ }
+    ensures { λ r. ⌜ r ≡ sized (t.scopes (now (one .entry))) (t.scopes (now (other .entry))) ⌝ }
+{
+    let mut a = scopes_of(one);
+    let mut b = scopes_of(other);
+    let mut scopes = 0;
+    let mut rows = 0;
+    while 0 < a.left + b.left {
+        let turn = scope_turn(one, a, other, b);
+        let here = count_rows(one, turn.front.rows, other, turn.back.rows);
+        if !here.agreed {
+            return Sized {
+                agreed: false,
+                scopes: 0,
+                rows: 0,
+            };
+        }
+        scopes += 1;
+        rows += here.rows;
+        a = turn.front.rest;
+        b = turn.back.rest;
+    }
+    Sized {
+        agreed: true,
+        scopes,
+        rows,
+    }
+}
+
+// ---- heads
+// The first n header codes of two tables are the same.
+fn same_codes(one: &[u8], other: &[u8], n: usize) -> bool
+    requires { ⌜ n < 256 ⌝ }
+    ensures { λ r. ⌜ r ≡ same (t.codesAt (now (one .entry)) 4 n) (t.codesAt (now (other .entry)) 4 n) ⌝ }
+{
+    let mut at = 4;
+    let mut left = n;
+    while 0 < left {
+        if word(one, at) != word(other, at) {
+            return false;
+        }
+        at += 2;
+        left -= 1;
+    }
+    true
+}
+
+fn same_head(one: &[u8], other: &[u8]) -> bool
+    ensures { λ r. ⌜ r ≡ sameHead (now (one .entry)) (now (other .entry)) ⌝ }
+{
+    if layout(one) != layout(other) {
+        return false;
+    }
+    let codes = byte(one, 1);
+    if codes != byte(other, 1) {
+        return false;
+    }
+    same_codes(one, other, codes)
+}
+
+// ---- writing
+// Two bytes, the low byte first.
+fn put_two(out: &mut [u8], at: usize, n: u16) -> usize
+    ensures { λ r. ⌜ Wrote (now (out .entry)) at (twoBytes n) (now (out .exit)) r ⌝ }
+{
+    let o = put_byte(out, at, (n % 256) as u8);
+    put_byte(out, o, (n / 256) as u8)
+}
+
+fn put_codes(out: &mut [u8], at: usize, table: &[u8]) -> usize
+    ensures { λ r. ⌜ Wrote (now (out .entry)) at (codesBytes (t.header (now (table .entry)))) (now (out .exit)) r ⌝ }
+{
+    let mut o = at;
+    let mut from = 4;
+    let mut left = byte(table, 1);
+    while 0 < left {
+        o = put_two(out, o, word(table, from) as u16);
+        from += 2;
+        left -= 1;
+    }
+    o
+}
+
+fn put_head(out: &mut [u8], table: &[u8], scopes: u16) -> usize
+    ensures { λ r. ⌜ Wrote (now (out .entry)) 0 (headBytes (now (table .entry)) scopes) (now (out .exit)) r ⌝ }
+{
+    let o = put_byte(out, 0, layout(table));
+    let o = put_byte(out, o, byte(table, 1) as u8);
+    let o = put_two(out, o, scopes);
+    put_codes(out, o, table)
+}
+
+fn put_scope(out: &mut [u8], at: usize, key: usize, rows: u16) -> usize
+    requires { ⌜ key < 2 ^ 24 ⌝ }
+    ensures { λ r. ⌜ Wrote (now (out .entry)) at (kindOf key ∷ twoBytes (codeOf key) ++ twoBytes rows) (now (out .exit)) r ⌝ }
+{
+    let o = put_byte(out, at, (key / 65536) as u8);
+    let o = put_two(out, o, (key % 65536) as u16);
+    put_two(out, o, rows)
+}
+
+fn put_contents(out: &mut [u8], at: usize, one: &[u8], other: &[u8]) -> usize
+    requires { ⌜ Formed (now one) × Formed (now other) × (scopesAgree (t.scopes (now one)) (t.scopes (now other)) ≡ true) ⌝ }
+    ensures { λ r. ⌜ Wrote (now (out .entry)) at (contentsBytes (joinScopes (t.scopes (now (one .entry))) (t.scopes (now (other .entry))))) (now (out .exit)) r ⌝ }
+{
+    let mut a = scopes_of(one);
+    let mut b = scopes_of(other);
+    let mut o = at;
+    while 0 < a.left + b.left {
+        let turn = scope_turn(one, a, other, b);
+        let here = count_rows(one, turn.front.rows, other, turn.back.rows);
+        o = put_scope(out, o, turn.key, here.rows as u16);
+        a = turn.front.rest;
+        b = turn.back.rest;
+    }
+    o
+}
+
+fn put_row(out: &mut [u8], at: usize, row: Row) -> usize
+    ensures { λ r. ⌜ Wrote (now (out .entry)) at (tieBytes (tieOf row)) (now (out .exit)) r ⌝ }
+{
+    let o = put_byte(out, at, row.id);
+    let o = put_two(out, o, row.target);
+    put_byte(out, o, row.kind)
+}
+
+fn put_rows(out: &mut [u8], at: usize, one: &[u8], front: Rows, other: &[u8], back: Rows) -> usize
+    requires { ⌜ RowsWalk (now one) front × RowsWalk (now other) back ⌝ }
+    ensures { λ r. ⌜ Wrote (now (out .entry)) at (tiesBytes (joinRows (rowsIn (now (one .entry)) front) (rowsIn (now (other .entry)) back))) (now (out .exit)) r ⌝ }
+{
+    let mut a = front;
+    let mut b = back;
+    let mut o = at;
+    while 0 < a.left + b.left {
+        let turn = row_turn(one, a, other, b);
+        o = put_row(out, o, turn.row);
+        a = turn.one;
+        b = turn.other;
+    }
+    o
+}
+
+fn put_bodies(out: &mut [u8], at: usize, one: &[u8], other: &[u8]) -> usize
+    requires { ⌜ Formed (now one) × Formed (now other) ⌝ }
+    ensures { λ r. ⌜ Wrote (now (out .entry)) at (bodiesBytes (joinScopes (t.scopes (now (one .entry))) (t.scopes (now (other .entry))))) (now (out .exit)) r ⌝ }
+{
+    let mut a = scopes_of(one);
+    let mut b = scopes_of(other);
+    let mut o = at;
+    while 0 < a.left + b.left {
+        let turn = scope_turn(one, a, other, b);
+        o = put_rows(out, o, one, turn.front.rows, other, turn.back.rows);
+        a = turn.front.rest;
+        b = turn.back.rest;
+    }
+    o
+}
+
+// ---- joining
+pub fn join(one: &[u8], other: &[u8], out: &mut [u8]) -> Answer
+    ensures { λ r. ⌜ r ≡ joinExit (now (one .entry)) (now (other .entry)) (now (out .entry)) .answer ⌝ }
+    ensures { λ r. ⌜ now (out .exit) ≡ joinExit (now (one .entry)) (now (other .entry)) (now (out .entry)) .out ⌝ }
+{
+    if !well_formed(one) {
+        return refused(8);
+    }
+    if !well_formed(other) {
+        return refused(8);
+    }
+    if !same_head(one, other) {
+        return refused(16);
+    }
+    let sized = count_scopes(one, other);
+    if !sized.agreed {
+        return refused(17);
+    }
+    if 64 < sized.scopes {
+        return refused(18);
+    }
+    let size = 4 + 2 * byte(one, 1) + 5 * sized.scopes + 4 * sized.rows;
+    if out.len() < size {
+        return refused(9);
+    }
+    let at = put_head(out, one, sized.scopes as u16);
+    let at = put_contents(out, at, one, other);
+    put_bodies(out, at, one, other);
+    wrote(size as u32)
+}
