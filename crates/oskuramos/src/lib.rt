@@ -2,6 +2,7 @@
 ghost use mathlib.Core.Path.{_≡_};
 ghost use Rattle.rules.specs.Blob.{exit};
 ghost use Rattle.rules.specs.CodeTable.{wellFormed};
+ghost use Rattle.rules.specs.Join.{joinExit};
 ghost use Rattle.rules.specs.NamePart.{namePart};
 ghost use Rattle.rules.specs.NameTables.{textNames, numberNames, bytesNames, controlTypeNames};
 ghost use Rattle.rules.specs.Names.{nameIn, namesFor};
@@ -190,6 +191,15 @@ pub extern "C" fn oskuramos_control_name(
         1 => part_or(1, label.len(), 0, length),
         _ => part_or(0, 0, 0, 0),
     }
+}
+
+// ---- two code tables joined
+#[no_mangle]
+pub extern "C" fn oskuramos_join(one: &[u8], other: &[u8], out: &mut [u8]) -> Answer
+    ensures { λ r. ⌜ r ≡ handedAnswer (joinExit (now (one .entry)) (now (other .entry)) (now (out .entry)) .answer) ⌝ }
+    ensures { λ _. ⌜ now (out .exit) ≡ joinExit (now (one .entry)) (now (other .entry)) (now (out .entry)) .out ⌝ }
+{
+    handed_answer(join::join(one, other, out))
 }
 
 // ---- text
