@@ -1,21 +1,25 @@
 -- What is promised of the public functions holds: each function's theorem (`met`) says its contract of its code.
 use Prim.Native.Nat.{ℕ}
-use mathlib.Core.Path.{_≡_, refl, sym, ap, subst, _∙_}
+use mathlib.Core.Path.{_≡_, refl, sym, ap, ap₂, subst, _∙_}
 use mathlib.Core.List.{List, []}
+use mathlib.Core.Option.{Option, none, some}
 use contract.Lifetimes.{Lfts}
 use denote.Ref.{RefT}
 use denote.Triple.Clauses.{AtExit}
 use denote.Triple.Entry.{Args, Res}
+use Rattle.rules.specs.Lists.{_>>=_}
 use Rattle.rules.specs.Bytes.{Bytes}
 use Rattle.rules.specs.Texts.{TextExit, guidExit, labelExit}
 use Rattle.rules.specs.TypeInfo.{TypeInfoExit, typeInfoExit}
 use Rattle.rules.specs.Blob.{Exit, exit}
+use Rattle.rules.specs.Join.{joinExit, result}
 use Rattle.rules.specs.NamePart.{partBytes}
 use Rattle.blob.specs.Exit.{partPlace}
 use Rattle.oskuramos.specs.Handed.{handedAnswer}
 use Rattle.claims.specs.Demand3.{SameBut, Same}
-use Rattle.claims.specs.Always.{Always, OneResult, Fn, Every, Gives, Call, handed, seen}
+use Rattle.claims.specs.Always.{Saying, Always, OneResult, Fn, Every, Gives, Call, handed, seen}
 use Rattle.codetable.proofs.well_formed.Met as well-formed-code
+use Rattle.join.proofs.join.Met as join-code
 use Rattle.room.proofs.room_for.Met as room-code
 use Rattle.room.proofs.room_2000.Met as room-2000-code
 use Rattle.room.proofs.room_later.Met as room-later-code
@@ -39,6 +43,7 @@ use Rattle.blob.proofs.control_name.Met as control-name-code
 use Rattle.oskuramos.proofs.oskuramos_read_blob.Met as exported-read-blob-code
 use Rattle.oskuramos.proofs.oskuramos_read_type_info.Met as exported-read-type-info-code
 use Rattle.oskuramos.proofs.oskuramos_well_formed.Met as exported-well-formed-code
+use Rattle.oskuramos.proofs.oskuramos_join.Met as exported-join-code
 use Rattle.oskuramos.proofs.oskuramos_room.Met as exported-room-code
 use Rattle.oskuramos.proofs.oskuramos_room_2000.Met as exported-room-2000-code
 use Rattle.oskuramos.proofs.oskuramos_room_later.Met as exported-room-later-code
@@ -58,20 +63,23 @@ use Rattle.oskuramos.proofs.«oskuramos_value_as».Met as exported-value-as-cod
 use Rattle.typeinfo.proofs.read_type_info.Reads as read-type-info-clauses
 use Rattle.text.proofs.guid_text.Reads as guid-text-clauses
 use Rattle.text.proofs.label_text.Reads as label-text-clauses
+use Rattle.join.proofs.join.Reads as join-clauses
 use Rattle.blob.proofs.control_name.Reads as control-name-clauses
 use Rattle.leaf.proofs.widen.Reads as widen-clauses
 use Rattle.oskuramos.proofs.oskuramos_read_blob.Reads as exported-read-blob-clauses
 use Rattle.oskuramos.proofs.oskuramos_read_type_info.Reads as exported-read-type-info-clauses
 use Rattle.oskuramos.proofs.oskuramos_guid_text.Reads as exported-guid-text-clauses
 use Rattle.oskuramos.proofs.oskuramos_label_text.Reads as exported-label-text-clauses
+use Rattle.oskuramos.proofs.oskuramos_join.Reads as exported-join-clauses
 use Rattle.claims.specs.Functions as f
 use Rattle.claims.specs.Functions.{Blob}
 use Rattle.claims.specs.Calls as calls
 use Rattle.claims.proofs.Always.{both-facts, three-facts, so, told, Tells, knowing}
-use Rattle.claims.proofs.LentBytes.{stream-told}
+use Rattle.claims.proofs.LentBytes.{stream-told, one-told, other-told}
 use Rattle.claims.proofs.Demand1.{demand1}
 use Rattle.claims.proofs.Demand2.{demand2}
 use Rattle.claims.proofs.Demand3.{demand3}
+use Rattle.claims.proofs.Joining.{wish9, wish12}
 use Rattle.claims.proofs.LaterTree.{later-tree}
 use Rattle.claims.proofs.Counts.{counts-hold}
 use Rattle.claims.proofs.RowChecks.{row-checks}
@@ -198,6 +206,62 @@ label-texts f p one = record {
   one-result = one;
 }
 
+-- ---- join
+abbrev join-of : f.Join → TextExit
+join-of a = joinExit (a .one) (a .other) (a .out)
+
+module _ (g : Fn f.Join TextExit) (p : Proved g join-of) (one : OneResult (g .function))
+    (one-tells : Tells (g .function) (λ κs a. Bytes (g .handed κs a .one))) (other-tells : Tells (g .function) (λ κs a. Bytes (g .handed κs a .other))) where
+  abbrev one-too : Saying (g .function .ended)
+  one-too κs a r e = g .function .says κs a r e × Bytes (g .handed κs a .one)
+
+  -- the tables of a call are lists of bytes: each is told by itself
+  every-tables : (said : f.Join → TextExit → Type 0) → ((a : f.Join) → Bytes (a .one) → Bytes (a .other) → said a (join-of a)) → Every g said
+  every-tables said h = record {
+    holds = knowing (g .function) (λ κs a. Bytes (g .handed κs a .other)) one-too _ other-tells
+        (λ κs a r e q small. subst (said (g .handed κs a)) (sym (p .told κs a r e (q .0))) (h (g .handed κs a) (q .1) small))
+        (knowing (g .function) (λ κs a. Bytes (g .handed κs a .one)) (g .function .says) one-too one-tells (λ κs a r e q small. (q, small)) (p .met));
+  }
+
+  told-of : (one other : List ℕ) (c : Call g) → calls.Of g one other c → seen c ≡ joinExit one other (handed c .out)
+  told-of one other c o = call-told g join-of p c ∙ ap₂ (λ a b. joinExit a b (handed c .out)) (o .first) (o .second)
+
+  -- what is had after two calls
+  chain : (x : TextExit) (then : List ℕ → TextExit) (x′ : TextExit) (then′ : List ℕ → TextExit) → x ≡ x′ → ((t : List ℕ) → then t ≡ then′ t)
+      → (result x >>= λ t. result (then t)) ≡ (result x′ >>= λ t. result (then′ t))
+  chain x then x′ then′ e h = ap (λ y. result y >>= λ t. result (then t)) e ∙ after (result x′)
+    where
+      after : (o : Option (List ℕ)) → (o >>= λ t. result (then t)) ≡ (o >>= λ t. result (then′ t))
+      after none = refl
+      after (some t) = ap result (h t)
+
+  joins : calls.JoinTables g
+  joins = record {
+    is-exit = every g join-of p _ (λ a. refl);
+    demand1 = every g join-of p _ (λ a. wish9 .answers (a .one) (a .other) (a .out));
+    bytes = every-tables _ (λ a A B. (A, B));
+    together = every-tables _ (λ a A B t e. wish9 .together (a .one) (a .other) (a .out) t A B e);
+    behind = every g join-of p _ (λ a t e. wish9 .behind (a .one) (a .other) (a .out) t e);
+    first-gains = every-tables _ (λ a A B t s l l′ e. wish9 .first-gains (a .one) (a .other) (a .out) t s l l′ A B e);
+    second-gains = every-tables _ (λ a A B t s l l′ e. wish9 .second-gains (a .one) (a .other) (a .out) t s l l′ A B e);
+    with-itself = every-tables _ (λ a A B e w room. ap (λ t. result (joinExit (a .one) t (a .out))) (sym e) ∙ wish12 .with-itself (a .one) (a .out) (record { bytes = A; formed = w }) room);
+    two-orders = λ c d h A B room room′.
+        ap result (call-told g join-of p c)
+        ∙ wish12 .two-orders (handed c .one) (handed c .other) (handed c .out) (handed d .out) A B room room′
+        ∙ ap₂ (λ a b. result (joinExit a b (handed d .out))) (h .second) (h .first)
+        ∙ sym (ap result (call-told g join-of p d));
+    two-groupings = λ a b c A B C ab bc Ab Bc ab-c a-bc Abc aBc.
+        chain (seen ab) (λ t. seen (ab-c t)) _ (λ t. joinExit t c (handed (ab-c t) .out)) (told-of a b ab Ab) (λ t. told-of t c (ab-c t) (Abc t))
+        ∙ wish12 .two-groupings a b c (handed ab .out) (handed bc .out) (λ t. handed (ab-c t) .out) (λ t. handed (a-bc t) .out) A B C (Ab .room) (λ t. Abc t .room) (Bc .room) (λ t. aBc t .room)
+        ∙ sym (chain (seen bc) (λ t. seen (a-bc t)) _ (λ t. joinExit a t (handed (a-bc t) .out)) (told-of b c bc Bc) (λ t. told-of a t (a-bc t) (aBc t)));
+    same-exit = λ c d h e.
+        call-told g join-of p c
+        ∙ wish12 .same-exit (handed c .one) (handed c .other) (handed c .out)
+        ∙ (λ i. joinExit (h .second i) (h .first i) (e i))
+        ∙ sym (call-told g join-of p d);
+    one-result = one;
+  }
+
 -- ---- as the crates have them
 of-crates : calls.Promised f.crates
 of-crates = record {
@@ -214,6 +278,10 @@ of-crates = record {
     met = told (f.crates .label-text .function) (λ w κs a r e. label-text-clauses.ensures κs a tt r e w) _ (λ w κs a r e. both-facts (w .𝓤) _ _) (λ w. label-text-code.met (w .𝓤) (w .H) (w .𝓜) (w .𝓖) (w .𝓡));
     told = λ κs a r e q i. record { answer = q .0 i; out = q .1 i };
   }) (λ κs a r r′ x y p q. (p .0 ∙ sym (q .0), λ i. (tt, ((p .1 ∙ sym (q .1)) i, tt))));
+  join = joins (f.crates .join) (record {
+    met = told (f.crates .join .function) (λ w κs a r e. join-clauses.ensures κs a tt r e w) _ (λ w κs a r e. both-facts (w .𝓤) _ _) (λ w. join-code.met (w .𝓤) (w .H) (w .𝓜) (w .𝓖) (w .𝓡));
+    told = λ κs a r e q i. record { answer = q .0 i; out = q .1 i };
+  }) (λ κs a r r′ x y p q. (p .0 ∙ sym (q .0), λ i. (tt, (tt, ((p .1 ∙ sym (q .1)) i, tt))))) (one-told (f.crates .join .function .ended .signature .result)) (other-told (f.crates .join .function .ended .signature .result));
   well-formed = gives (f.crates .well-formed) _ (record { met = λ w. well-formed-code.met (w .𝓤) (w .H) (w .𝓜) (w .𝓖) (w .𝓡); told = λ κs a r e q. q }) (λ κs a r r′ x y p q. (p ∙ sym q, refl));
   room = gives (f.crates .room) _ (record { met = λ w. room-code.met (w .𝓤) (w .H) (w .𝓜) (w .𝓖) (w .𝓡); told = λ κs a r e q. q }) (λ κs a r r′ x y p q. (p ∙ sym q, refl));
   room-2000 = gives (f.crates .room-2000) _ (record { met = λ w. room-2000-code.met (w .𝓤) (w .H) (w .𝓜) (w .𝓖) (w .𝓡); told = λ κs a r e q. q }) (λ κs a r r′ x y p q. (p ∙ sym q, refl));
@@ -246,6 +314,10 @@ of-exported = record {
     met = told (f.exported .label-text .function) (λ w κs a r e. exported-label-text-clauses.ensures κs a tt r e w) _ (λ w κs a r e. both-facts (w .𝓤) _ _) (λ w. exported-label-text-code.met (w .𝓤) (w .H) (w .𝓜) (w .𝓖) (w .𝓡));
     told = λ κs a r e q i. record { answer = f.takenAnswer (q .0 i); out = q .1 i };
   }) (λ κs a r r′ x y p q. (p .0 ∙ sym (q .0), λ i. (tt, ((p .1 ∙ sym (q .1)) i, tt))));
+  join = joins (f.exported .join) (record {
+    met = told (f.exported .join .function) (λ w κs a r e. exported-join-clauses.ensures κs a tt r e w) _ (λ w κs a r e. both-facts (w .𝓤) _ _) (λ w. exported-join-code.met (w .𝓤) (w .H) (w .𝓜) (w .𝓖) (w .𝓡));
+    told = λ κs a r e q i. record { answer = f.takenAnswer (q .0 i); out = q .1 i };
+  }) (λ κs a r r′ x y p q. (p .0 ∙ sym (q .0), λ i. (tt, (tt, ((p .1 ∙ sym (q .1)) i, tt))))) (one-told (f.exported .join .function .ended .signature .result)) (other-told (f.exported .join .function .ended .signature .result));
   well-formed = gives (f.exported .well-formed) _ (record { met = λ w. exported-well-formed-code.met (w .𝓤) (w .H) (w .𝓜) (w .𝓖) (w .𝓡); told = λ κs a r e q. q }) (λ κs a r r′ x y p q. (p ∙ sym q, refl));
   room = gives (f.exported .room) _ (record { met = λ w. exported-room-code.met (w .𝓤) (w .H) (w .𝓜) (w .𝓖) (w .𝓡); told = λ κs a r e q. ap f.takenRoom q }) (λ κs a r r′ x y p q. (p ∙ sym q, refl));
   room-2000 = gives (f.exported .room-2000) _ (record { met = λ w. exported-room-2000-code.met (w .𝓤) (w .H) (w .𝓜) (w .𝓖) (w .𝓡); told = λ κs a r e q. ap f.takenRoom q }) (λ κs a r r′ x y p q. (p ∙ sym q, refl));

@@ -58,36 +58,36 @@ two-orders : (a b out out′ : List ℕ) → Table a → Table b → Roomy out �
 two-orders a b out out′ A B room room′ =
     some-iff _ _ (same-result a b out out′ A B room room′) (same-result a b out′ out A B room′ room) ∙ ap result (exit-turned a b out′)
 
-module _ (a b c o₁ o₂ o₃ o₄ : List ℕ) (A : Table a) (B : Table b) (C : Table c) (r₁ : Roomy o₁) (r₂ : Roomy o₂) (r₃ : Roomy o₃) (r₄ : Roomy o₄) where
+module _ (a b c o₁ o₃ : List ℕ) (o₂ o₄ : List ℕ → List ℕ) (A : Table a) (B : Table b) (C : Table c) (r₁ : Roomy o₁) (r₂ : (t : List ℕ) → Roomy (o₂ t)) (r₃ : Roomy o₃) (r₄ : (t : List ℕ) → Roomy (o₄ t)) where
   abbrev Left : Option (List ℕ)
-  Left = result (joinExit a b o₁) >>= λ ab. result (joinExit ab c o₂)
+  Left = result (joinExit a b o₁) >>= λ ab. result (joinExit ab c (o₂ ab))
 
   abbrev Right : Option (List ℕ)
-  Right = result (joinExit b c o₃) >>= λ bc. result (joinExit a bc o₄)
+  Right = result (joinExit b c o₃) >>= λ bc. result (joinExit a bc (o₄ bc))
 
   to-right : (r : List ℕ) → Left ≡ some r → Right ≡ some r
   to-right r e =
-      let h = bind-some (result (joinExit a b o₁)) (λ ab. result (joinExit ab c o₂)) r e in
+      let h = bind-some (result (joinExit a b o₁)) (λ ab. result (joinExit ab c (o₂ ab))) r e in
       let j = result-joins a b o₁ (h .0) (h .1) in
-      let k = result-joins (h .0) c o₂ r (h .2) in
+      let k = result-joins (h .0) c (o₂ (h .0)) r (h .2) in
       let k′ : Joins (joined a b) c = subst (λ (t : List ℕ). Joins t c) (j .1) (k .0) in
       let q : r ≡ joined (joined a b) c = k .1 ∙ ap (λ (t : List ℕ). joined t c) (j .1) in
       let g = grouped a b c (A .bytes) (B .bytes) (C .bytes) (j .0) k′ in
       rw (joins-result b c o₃ (B .bytes) (C .bytes) (enough o₃ r₃) (g .last-two))
-      (joins-result a (joined b c) o₄ (A .bytes) (bytes-joined b c (B .bytes) (C .bytes) (g .last-two)) (enough o₄ r₄) (g .first-to-them)
+      (joins-result a (joined b c) (o₄ (joined b c)) (A .bytes) (bytes-joined b c (B .bytes) (C .bytes) (g .last-two)) (enough (o₄ (joined b c)) (r₄ (joined b c))) (g .first-to-them)
       ∙ ap some (sym (g .same-bytes) ∙ sym q))
 
   to-left : (r : List ℕ) → Right ≡ some r → Left ≡ some r
   to-left r e =
-      let h = bind-some (result (joinExit b c o₃)) (λ bc. result (joinExit a bc o₄)) r e in
+      let h = bind-some (result (joinExit b c o₃)) (λ bc. result (joinExit a bc (o₄ bc))) r e in
       let j = result-joins b c o₃ (h .0) (h .1) in
-      let k = result-joins a (h .0) o₄ r (h .2) in
+      let k = result-joins a (h .0) (o₄ (h .0)) r (h .2) in
       let k′ : Joins a (joined b c) = subst (λ (t : List ℕ). Joins a t) (j .1) (k .0) in
       let q : r ≡ joined a (joined b c) = k .1 ∙ ap (λ (t : List ℕ). joined a t) (j .1) in
       let w = regrouped a b c (A .bytes) (B .bytes) (C .bytes) (j .0) k′ in
       let g = grouped a b c (A .bytes) (B .bytes) (C .bytes) (w .0) (w .1) in
       rw (joins-result a b o₁ (A .bytes) (B .bytes) (enough o₁ r₁) (w .0))
-      (joins-result (joined a b) c o₂ (bytes-joined a b (A .bytes) (B .bytes) (w .0)) (C .bytes) (enough o₂ r₂) (w .1)
+      (joins-result (joined a b) c (o₂ (joined a b)) (bytes-joined a b (A .bytes) (B .bytes) (w .0)) (C .bytes) (enough (o₂ (joined a b)) (r₂ (joined a b))) (w .1)
       ∙ ap some (g .same-bytes ∙ sym q))
 
   two-groupings : Left ≡ Right

@@ -66,3 +66,40 @@ stream-told result w κs qs a vss =
     (via (w .𝓤) (sep (w .𝓤) L L′) (snd∗ (w .𝓤) (w .𝓖 .A .lft (κs .0) (qs .0)) (sep (w .𝓤) L L′)) (fst∗ (w .𝓤) L L′))
     (via (w .𝓤) (sep (w .𝓤) O Q) (snd∗ (w .𝓤) P (sep (w .𝓤) O Q)) (fst∗ (w .𝓤) O Q)))
     (via (w .𝓤) (sep (w .𝓤) O L) (comm∗ (w .𝓤) L O) (slice-told w (named 1) (κs .1 .0) (qs .1 .0) (a .1 .0) (vss .1 .0)))
+
+-- the two tables of join: the first and the second of the arguments
+abbrev join-signature : Slot 3 → Signature
+join-signature result = record { lifetimes = 3; outlives = []; params = SliceRef 0 tt u8 tt ∷ SliceRef 1 tt u8 tt ∷ SliceRefMut 2 tt u8 tt ∷ []; result = result }
+
+module _ (result : Slot 3) (w : World) (κs : Lfts 3) (qs : Shares 3) (a : Args (join-signature result) κs) (vss : Vals (join-signature result) κs) where
+  abbrev One : Pr w
+  One = sem (w .𝓤) (w .H) (w .𝓖 .A) (ShrSlice (named 0) (κs .0) u8 .own (a .0) (vss .0))
+
+  abbrev Other : Pr w
+  Other = sem (w .𝓤) (w .H) (w .𝓖 .A) (ShrSlice (named 1) (κs .1 .0) u8 .own (a .1 .0) (vss .1 .0))
+
+  abbrev Out : Pr w
+  Out = sem (w .𝓤) (w .H) (w .𝓖 .A) (owns (MutSlice (named 2) (κs .1 .1 .0) u8 ∷ []) (a .1 .1) (vss .1 .1))
+
+  abbrev One-lives : Pr w
+  One-lives = w .𝓖 .A .lft (κs .0) (qs .0)
+
+  abbrev Other-lives : Pr w
+  Other-lives = w .𝓖 .A .lft (κs .1 .0) (qs .1 .0)
+
+  abbrev Out-lives : Pr w
+  Out-lives = toks (w .𝓤) (w .𝓖 .A) 1 (κs .1 .1) (qs .1 .1)
+
+  pub one-told : ent (w .𝓤) (onEntry (w .𝓤) (w .H) (w .𝓖 .A) (join-signature result) κs qs a vss) (w .H .⇛ (fact (w .𝓤) (Bytes (now (a .0)))))
+  one-told =
+      via (w .𝓤) (sep (w .𝓤) One-lives One)
+      (mono∗ (w .𝓤) (fst∗ (w .𝓤) One-lives (sep (w .𝓤) Other-lives Out-lives)) (fst∗ (w .𝓤) One (sep (w .𝓤) Other Out)))
+      (via (w .𝓤) (sep (w .𝓤) One One-lives) (comm∗ (w .𝓤) One-lives One) (slice-told w (named 0) (κs .0) (qs .0) (a .0) (vss .0)))
+
+  pub other-told : ent (w .𝓤) (onEntry (w .𝓤) (w .H) (w .𝓖 .A) (join-signature result) κs qs a vss) (w .H .⇛ (fact (w .𝓤) (Bytes (now (a .1 .0)))))
+  other-told =
+      via (w .𝓤) (sep (w .𝓤) Other-lives Other)
+      (mono∗ (w .𝓤)
+      (via (w .𝓤) (sep (w .𝓤) Other-lives Out-lives) (snd∗ (w .𝓤) One-lives (sep (w .𝓤) Other-lives Out-lives)) (fst∗ (w .𝓤) Other-lives Out-lives))
+      (via (w .𝓤) (sep (w .𝓤) Other Out) (snd∗ (w .𝓤) One (sep (w .𝓤) Other Out)) (fst∗ (w .𝓤) Other Out)))
+      (via (w .𝓤) (sep (w .𝓤) Other Other-lives) (comm∗ (w .𝓤) Other-lives Other) (slice-told w (named 1) (κs .1 .0) (qs .1 .0) (a .1 .0) (vss .1 .0)))

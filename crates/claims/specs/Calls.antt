@@ -4,12 +4,15 @@
 -- that it may write at exit. `OneResult` says that its contract allows one result only, to the last word. Functions.antt has the names.
 -- A call is one of the function's code: the routine that it is on the logic's machine. That the compiler keeps to it is believed.
 -- Each promise stands once. It holds of the functions of the crates (`crates`) and of those that C and Rust have (`exported`).
+use Prim.Native.Nat.{ℕ}
 use mathlib.Core.Path.{_≡_}
 use mathlib.Core.Bool.{true}
-use mathlib.Core.List.{map}
+use mathlib.Core.List.{List, _++_, map}
 use mathlib.Core.Logic.{_↔_}
+use mathlib.Core.Option.{some}
 use lib.Ieee.{binary32, binary64, ofBits}
-use lib.ListN.{drop}
+use lib.ListN.{length, drop}
+use Rattle.rules.specs.Lists.{_>>=_}
 use Rattle.rules.specs.Bytes.{Bytes}
 use Rattle.rules.specs.Utf16.{isUtf16}
 use Rattle.rules.specs.Value.{integerValue, entryValue, storedValue, valueAs, widened}
@@ -19,6 +22,7 @@ use Rattle.rules.specs.NameTables.{textNames, numberNames, bytesNames, controlT
 use Rattle.rules.specs.Names.{nameIn, namesFor}
 use Rattle.rules.specs.TypeInfo.{TypeInfoExit, typeInfoExit}
 use Rattle.rules.specs.CodeTable.{wellFormed}
+use Rattle.rules.specs.Join.{joinExit, result}
 use Rattle.rules.specs.NamePart.{Part, namePart, partBytes}
 use Rattle.rules.specs.Room.{room2000, roomLater, roomFor, typeInfoRoom}
 use Rattle.rules.specs.Blob.{Exit, is2000, exit, spots}
@@ -31,6 +35,7 @@ use Rattle.claims.specs.Answers.{GuidAnswer, LabelAnswer}
 use Rattle.claims.specs.Demand1.{Blobs, TypeInfos, Texts}
 use Rattle.claims.specs.Demand2.{Given, Enough, Spelled, Judges}
 use Rattle.claims.specs.Demand3.{Successor, Lent, SameRoom, SameBut, Same}
+use Rattle.claims.specs.Joining.{Table, Roomy, JoinAnswer, Together, Gains}
 use Rattle.claims.specs.Grammar.{Stream, _spells_}
 use Rattle.claims.specs.Stored.{storedOf, spotSays}
 use Rattle.claims.specs.LaterTree as later
@@ -43,6 +48,7 @@ use Rattle.claims.specs.Functions.{
   TypeInfo,
   Guid,
   Label,
+  Join,
   ControlName,
   Interface,
   crates,
@@ -133,12 +139,53 @@ pub record LabelText (f : Fn Label TextExit) : Type 2 where
   pub demand1 : Every f (λ a seen. Texts (LabelAnswer (a .n) (a .out)) (a .out) seen)
   pub one-result : OneResult (f .function)
 
+-- ---- join(one, other, out): wishes 9 and 12 (Joining)
+-- of two calls: the same two tables, in the other order
+pub record Turned (a b : Join) : Type 0 where
+  pub first : a .one ≡ b .other
+  pub second : a .other ≡ b .one
+
+-- a call that joins these two, with room
+pub record Of (f : Fn Join TextExit) (one other : List ℕ) (c : Call f) : Type 0 where
+  pub first : handed c .one ≡ one
+  pub second : handed c .other ≡ other
+  pub room : Roomy (handed c .out)
+
+pub record JoinTables (f : Fn Join TextExit) : Type 2 where
+  -- what is seen is what the definition says: the answer, and every byte of the buffer
+  pub is-exit : Every f (λ a seen. seen ≡ joinExit (a .one) (a .other) (a .out))
+  -- "Refusals: 8 ..; 16 ..; 17 ..; 18 ..; 9 ..; in that order"; a refusal writes nothing
+  pub demand1 : Every f (λ a seen. Texts (JoinAnswer (a .one) (a .other) (a .out)) (a .out) seen)
+  -- tables that are lent are lists of bytes
+  pub bytes : Every f (λ a seen. Bytes (a .one) × Bytes (a .other))
+  -- "the result holds every scope and row of either, in the order of document 01"
+  pub together : Every f (λ a seen. (t : List ℕ) → result seen ≡ some t → Together (a .one) (a .other) t)
+  -- "writes nothing else": the bytes behind stay
+  pub behind : Every f (λ a seen. (t : List ℕ) → result seen ≡ some t → seen .out ≡ t ++ drop (length t) (a .out))
+  -- "Two offices learn codes separately": what each gains by joining, over any stream and room
+  pub first-gains : Every f (λ a seen. (t s : List ℕ) (lent lent′ : Lent) → result seen ≡ some t → SameRoom lent lent′ → Gains (a .one) (a .other) t s lent lent′)
+  pub second-gains : Every f (λ a seen. (t s : List ℕ) (lent lent′ : Lent) → result seen ≡ some t → SameRoom lent lent′ → Gains (a .other) (a .one) t s lent lent′)
+  -- "joining a table with itself gives it back"
+  pub with-itself : Every f (λ a seen. a .one ≡ a .other → wellFormed (a .one) ≡ true → Roomy (a .out) → result seen ≡ some (a .one))
+  -- "the two orders of a pair give the same bytes or are both refused". Of any two calls that the contract allows
+  pub two-orders : (c d : Call f) → Turned (handed c) (handed d) → Table (handed c .one) → Table (handed c .other) → Roomy (handed c .out) → Roomy (handed d .out)
+      → result (seen c) ≡ result (seen d)
+  -- "the two groupings of three are both joined with the same bytes, or both refused, the number possibly another": a and b, then the third; b and c, then
+  -- the first. The second call of each joins whatever table the first one gave
+  pub two-groupings : (a b c : List ℕ) → Table a → Table b → Table c → (ab bc : Call f) → Of f a b ab → Of f b c bc
+      → (ab-c a-bc : List ℕ → Call f) → ((t : List ℕ) → Of f t c (ab-c t)) → ((t : List ℕ) → Of f a t (a-bc t))
+      → (result (seen ab) >>= λ t. result (seen (ab-c t))) ≡ (result (seen bc) >>= λ t. result (seen (a-bc t)))
+  -- more than asked: into buffers that hold the same, of any length, all that is seen is the same
+  pub same-exit : (c d : Call f) → Turned (handed c) (handed d) → handed c .out ≡ handed d .out → seen c ≡ seen d
+  pub one-result : OneResult (f .function)
+
 -- ---- the functions that both the crates and the archive have. `Gives f d` says that every call of f gives what d says, and that the contract allows nothing else
 pub record Promised (i : Interface) : Type 2 where
   pub read-blob : ReadBlob (i .read-blob)
   pub read-type-info : ReadTypeInfo (i .read-type-info)
   pub guid-text : GuidText (i .guid-text)
   pub label-text : LabelText (i .label-text)
+  pub join : JoinTables (i .join)
   pub well-formed : Gives (i .well-formed) (λ table. wellFormed table)
   pub room : Gives (i .room) (λ length. roomFor length)
   pub room-2000 : Gives (i .room-2000) (λ length. room2000 length)

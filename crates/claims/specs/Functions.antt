@@ -35,6 +35,7 @@ use Rattle.names.proofs.value_name as value_name
 use Rattle.text.proofs.guid_text as guid_text
 use Rattle.text.proofs.label_text as label_text
 use Rattle.codetable.proofs.well_formed as well_formed
+use Rattle.join.proofs.join as join
 use Rattle.typeinfo.proofs.read_type_info as read_type_info
 use Rattle.blob.proofs.read_blob as read_blob
 use Rattle.blob.proofs.control_name as control_name
@@ -45,6 +46,7 @@ use Rattle.room.proofs.type_info_room as type_info_room
 use Rattle.oskuramos.proofs.oskuramos_read_blob as oskuramos_read_blob
 use Rattle.oskuramos.proofs.oskuramos_read_type_info as oskuramos_read_type_info
 use Rattle.oskuramos.proofs.oskuramos_well_formed as oskuramos_well_formed
+use Rattle.oskuramos.proofs.oskuramos_join as oskuramos_join
 use Rattle.oskuramos.proofs.oskuramos_room as oskuramos_room
 use Rattle.oskuramos.proofs.oskuramos_room_2000 as «oskuramos_room_2000»
 use Rattle.oskuramos.proofs.oskuramos_room_later as oskuramos_room_later
@@ -103,6 +105,15 @@ pub record Label : Type 0 where
 
 abbrev label : ℕ × (Slice × End) → Label
 label a = record { n = a .0; out = now (a .1 .0) }
+
+-- (one, other, out)
+pub record Join : Type 0 where
+  pub one : List ℕ
+  pub other : List ℕ
+  pub out : List ℕ
+
+abbrev tables : Slice × (Slice × (Slice × End)) → Join
+tables a = record { one = now (a .0); other = now (a .1 .0); out = now (a .1 .1 .0) }
 
 -- (stream, label, mark, start, length)
 pub record ControlName : Type 0 where
@@ -180,6 +191,9 @@ guid-exit r e = record { answer = r; out = guid e .out }
 abbrev label-exit : Answer → ℕ × (Slice × End) → TextExit
 label-exit r e = record { answer = r; out = label e .out }
 
+abbrev join-exit : Answer → Slice × (Slice × (Slice × End)) → TextExit
+join-exit r e = record { answer = r; out = tables e .out }
+
 -- what C gets has the same fields, in structs laid out as C's: here they are read back
 abbrev pub takenAnswer : c-answer.Answer → Answer
 takenAnswer a = record { number = a .number; first = a .first; second = a .second; third = a .third }
@@ -204,6 +218,7 @@ pub record Interface : Type 2 where
   pub type-info-room : Fn ℕ ℕ
   pub guid-text : Fn Guid TextExit
   pub label-text : Fn Label TextExit
+  pub join : Fn Join TextExit
   pub is-utf16 : Fn (List ℕ) Bool
   pub text-name : Fn ℕ Name
   pub number-name : Fn ℕ Name
@@ -261,6 +276,11 @@ crates = record {
     function = record { ended = label_text.ended; routine = label_text.Symbol.routine; says = label_text.Reads.Learnt };
     handed = λ κs a. label a;
     seen = λ κs r e. label-exit r e;
+  };
+  join = record {
+    function = record { ended = join.ended; routine = join.Symbol.routine; says = join.Reads.Learnt };
+    handed = λ κs a. tables a;
+    seen = λ κs r e. join-exit r e;
   };
   is-utf16 = record {
     function = record { ended = is_utf16.ended; routine = is_utf16.Symbol.routine; says = is_utf16.Reads.Learnt };
@@ -356,6 +376,11 @@ exported = record {
     function = record { ended = oskuramos_label_text.ended; routine = oskuramos_label_text.Symbol.routine; says = oskuramos_label_text.Reads.Learnt };
     handed = λ κs a. label a;
     seen = λ κs r e. label-exit (takenAnswer r) e;
+  };
+  join = record {
+    function = record { ended = oskuramos_join.ended; routine = oskuramos_join.Symbol.routine; says = oskuramos_join.Reads.Learnt };
+    handed = λ κs a. tables a;
+    seen = λ κs r e. join-exit (takenAnswer r) e;
   };
   is-utf16 = record {
     function = record { ended = oskuramos_is_utf16.ended; routine = oskuramos_is_utf16.Symbol.routine; says = oskuramos_is_utf16.Reads.Learnt };

@@ -121,5 +121,7 @@ pub record Wish12 : Type 0 where
   -- more than asked: into one buffer, whatever stands there and however short it is, all that a caller sees is the same, the number too
   pub same-exit : (a b out : List ℕ) → joinExit a b out ≡ joinExit b a out
   -- "the two groupings of three are both joined with the same bytes, or both refused, the number possibly another"
-  pub two-groupings : (a b c out₁ out₂ out₃ out₄ : List ℕ) → Table a → Table b → Table c → Roomy out₁ → Roomy out₂ → Roomy out₃ → Roomy out₄
-      → (result (joinExit a b out₁) >>= λ ab. result (joinExit ab c out₂)) ≡ (result (joinExit b c out₃) >>= λ bc. result (joinExit a bc out₄))
+  -- (each call has a buffer of its own; that of a second call may be another for each table that the first gives)
+  pub two-groupings : (a b c out₁ out₃ : List ℕ) (out₂ out₄ : List ℕ → List ℕ) → Table a → Table b → Table c
+      → Roomy out₁ → ((t : List ℕ) → Roomy (out₂ t)) → Roomy out₃ → ((t : List ℕ) → Roomy (out₄ t))
+      → (result (joinExit a b out₁) >>= λ ab. result (joinExit ab c (out₂ ab))) ≡ (result (joinExit b c out₃) >>= λ bc. result (joinExit a bc (out₄ bc)))
