@@ -22,10 +22,11 @@ use Rattle.rules.proofs.AgreeLaws.{apart, agree-there}
 use Rattle.rules.proofs.TableBytesLaws.{layout-back, header-back, scopes-read, table-formed, written-again}
 use Rattle.rules.proofs.JoinLaws.{one-row, row-itself, one-key, good-there, good-fits}
 use Rattle.rules.proofs.JoinedLaws.{head-same, same-head, good, at-most, Joins, exit-joins, result-joins, layout-joined, header-joined, scopes-joined, formed-joined, bytes-joined, joins-result, joins-itself, joined-itself, exit-turned, grouped, regrouped}
+use Rattle.rules.proofs.LongestTable.{longest, longest-formed, longest-length, longest-bytes}
 use Rattle.rules.proofs.JoinedHolds.{joined-scope, joined-row, extends-first, extends-second}
 use Rattle.claims.specs.Demand1.{Refused}
 use Rattle.claims.specs.Demand3.{Successor, Learned, RowSays, Lent, SameRoom}
-use Rattle.claims.specs.Joining.{Table, Roomy, Sayable, Says, Alike, Clash, JoinAnswer, Together, Gains, Wish9, Wish12}
+use Rattle.claims.specs.Joining.{Table, Roomy, Sayable, Says, Alike, Clash, JoinAnswer, Together, Gains, Longest, Wish9, Wish12}
 use Rattle.claims.proofs.Answers.{exactly, text-short, text-wrote}
 use Rattle.claims.proofs.Demand1.{text-stays}
 use Rattle.claims.proofs.Demand3.{demand3}
@@ -92,9 +93,6 @@ module _ (a b c o₁ o₃ : List ℕ) (o₂ o₄ : List ℕ → List ℕ) (A : T
 
   two-groupings : Left ≡ Right
   two-groupings = some-iff Left Right to-right to-left
-
-pub wish12 : Wish12
-wish12 = record { with-itself = with-itself; two-orders = two-orders; same-exit = exit-turned; two-groupings = two-groupings }
 
 -- ---- wish 9
 together : (a b out t : List ℕ) → Bytes a → Bytes b → result (joinExit a b out) ≡ some t → Together a b t
@@ -314,6 +312,50 @@ module _ (a b out : List ℕ) where
   out-stays =
       stays 8 after8 (stays 16 after16 (stays 17 after17 (stays 18 (textExit (joined a b) out) (text-stays (joined a b) out)
       (ltb 64 many)) (not (scopesAgree (scopes a) (scopes b)))) (not (sameHead a b))) (not (wellFormed a && wellFormed b))
+
+-- ---- room
+module _ (a b out : List ℕ) (A : Bytes a) (B : Bytes b) (room : Roomy out) where
+  short : Alike a b → ¬ Clash a b → length (joinScopes (scopes a) (scopes b)) ≤ 64 → length (joined a b) ≤ 65100
+  short l n h = at-most (joined a b) (formed-joined a b A B (record {
+    formed-a = fa a b l;
+    formed-b = fb a b l;
+    one-layout = l .one-layout;
+    same-header = l .same-header;
+    agreed = is-true (scopesAgree (scopes a) (scopes b)) (λ e. n (clash a b l e));
+    few = h;
+  }))
+
+  never-nine : (r : Answer) → JoinAnswer a b out r → ¬ (r .number ≡ 9)
+  never-nine _ (JoinAnswer.eight w) e = absurd (omega arith)
+  never-nine _ (JoinAnswer.sixteen w h) e = absurd (omega arith)
+  never-nine _ (JoinAnswer.seventeen l c) e = absurd (omega arith)
+  never-nine _ (JoinAnswer.eighteen l n h) e = absurd (omega arith)
+  never-nine _ (JoinAnswer.nine l n h k) e = let s = short l n h in absurd (omega arith)
+  never-nine _ (JoinAnswer.zero l n h k) e = absurd (omega arith)
+
+longest-there : Longest
+longest-there = record {
+  table = longest;
+  is-table = T;
+  its-length = longest-length;
+  no-less = λ out h.
+      let j = joins-itself longest longest-formed in
+      let l : length (joined longest longest) ≡ 65100 = ap length (joined-itself longest longest-bytes longest-formed) ∙ longest-length in
+      ap (λ (x : TextExit). x .answer) (exit-joins longest longest out j ∙ text-short (joined longest longest) out (omega arith));
+}
+  where
+    T : Table longest
+    T = record { bytes = longest-bytes; formed = longest-formed }
+
+pub wish12 : Wish12
+wish12 = record {
+  with-itself = with-itself;
+  two-orders = two-orders;
+  same-exit = exit-turned;
+  two-groupings = two-groupings;
+  room-enough = λ a b out A B room. never-nine a b out A B room (joinExit a b out .answer) (told a b out);
+  no-less-room = longest-there;
+}
 
 pub wish9 : Wish9
 wish9 = record {

@@ -113,6 +113,13 @@ pub record Wish9 : Type 0 where
   pub read-back : (first : ℕ) (codes : List ℕ) (ss : List Scope) → Sayable codes ss → Says (tableBytes first codes ss) first codes ss
 
 -- ---- wish 12
+-- a code table that is as long as any can be: no room below 65,100 bytes will do
+pub record Longest : Type 0 where
+  pub table : List ℕ
+  pub is-table : Table table
+  pub its-length : length table ≡ 65100
+  pub no-less : (out : List ℕ) → length out < 65100 → joinExit table table out .answer ≡ refusal 9
+
 pub record Wish12 : Type 0 where
   -- "joining a table with itself gives it back"
   pub with-itself : (t out : List ℕ) → Table t → Roomy out → result (joinExit t t out) ≡ some t
@@ -120,8 +127,12 @@ pub record Wish12 : Type 0 where
   pub two-orders : (a b out out′ : List ℕ) → Table a → Table b → Roomy out → Roomy out′ → result (joinExit a b out) ≡ result (joinExit b a out′)
   -- more than asked: into one buffer, whatever stands there and however short it is, all that a caller sees is the same, the number too
   pub same-exit : (a b out : List ℕ) → joinExit a b out ≡ joinExit b a out
-  -- "the two groupings of three are both joined with the same bytes, or both refused, the number possibly another"
+  -- "the two groupings of three are both joined with the same bytes, or both refused, the number possibly another". (Rules' WorkedOrder.antt has three tables
+  -- that are refused with 17 in one grouping and with 16 in the other, and three with 18 and 17. JoiningMany has more than three)
   -- (each call has a buffer of its own; that of a second call may be another for each table that the first gives)
   pub two-groupings : (a b c out₁ out₃ : List ℕ) (out₂ out₄ : List ℕ → List ℕ) → Table a → Table b → Table c
       → Roomy out₁ → ((t : List ℕ) → Roomy (out₂ t)) → Roomy out₃ → ((t : List ℕ) → Roomy (out₄ t))
       → (result (joinExit a b out₁) >>= λ ab. result (joinExit ab c (out₂ ab))) ≡ (result (joinExit b c out₃) >>= λ bc. result (joinExit a bc (out₄ bc)))
+  -- "room for 65,100 bytes": with that nothing is refused for want of room, and it can't be less
+  pub room-enough : (a b out : List ℕ) → Bytes a → Bytes b → Roomy out → ¬ (joinExit a b out .answer .number ≡ 9)
+  pub no-less-room : Longest
