@@ -77,7 +77,8 @@ def main():
     with tempfile.TemporaryDirectory() as folder:
         copy = pathlib.Path(folder) / "copy"
         shutil.copytree(HERE, copy / "compare", ignore=shutil.ignore_patterns("target"))
-        shutil.copytree(ROOT / "examples", copy / "examples")
+        for used in ("examples", "crates/rules"):
+            shutil.copytree(ROOT / used, copy / used)
         source = os.environ.get("JETDB_SRC") or "../shared/docs/src/crates/jetdb/src"
         environment = dict(os.environ, JETDB_SRC=str((ROOT / source).resolve()), CARGO_TARGET_DIR=str(pathlib.Path(folder) / "target"), RUSTFLAGS="-Awarnings")
         results = [try_slip(copy, environment, *slip) for slip in SLIPS]
