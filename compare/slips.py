@@ -1,5 +1,5 @@
 #!/usr/bin/env python3
-"""Shows that the comparison sees slips: each edit below puts one into the plain reader, and jetdb must then differ.
+"""Shows that the comparison sees slips: each edit below puts one into the plain reader, and jetdb must then differ, or for a joining document 02 read once more.
 
 Works on a copy of this folder; takes some minutes. Prints a line for each slip; fails if one isn't seen.
 """
@@ -47,6 +47,11 @@ SLIPS = [
     ("typeinfo", "{ (at + 8, first_length) }", "{ (second.min(s.len() - first_length), first_length) }"),
     ("typeinfo", "(s.len() - 32) / 8", "(s.len() - 31) / 8"),
     ("typeinfo", "while all.len() < count", "while all.iter().filter(|e: &&Entry| e.type_code != 0x1EFF).count() < count"),
+    ("join", "(one.layout, &one.header) != (other.layout, &other.header)", "one.header != other.header"),
+    ("join", "said.len() > 1", "said.len() > 2"),
+    ("join", "all.len() > MOST_SCOPES", "all.len() >= MOST_SCOPES"),
+    ("join", "bytes.len() > room", "bytes.len() >= room"),
+    ("join", "insert((row.target, row.kind))", "insert((row.target, 0))"),
 ]
 
 
@@ -54,7 +59,7 @@ def is_seen(copy, environment):
     build = ["cargo", "build", "--profile", "slips", "--offline", "--quiet"]
     subprocess.run(build, cwd=copy / "compare", env=environment, check=True)
     program = pathlib.Path(environment["CARGO_TARGET_DIR"]) / "slips" / "compare"
-    for words in (["random", "1", "10000"], ["all", "2"]):
+    for words in (["random", "1", "10000"], ["joins", "2000", "1"], ["all", "2"]):
         run = subprocess.run([program, *words], stdout=subprocess.PIPE, stderr=subprocess.STDOUT, text=True)
         if run.returncode != 0:
             return run.stdout

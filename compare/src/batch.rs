@@ -1,7 +1,7 @@
 //! Batch files: many cases for one run of another program. README.md has the format.
 
 use crate::cases::rng::Rng;
-use crate::cases::{fixed, leaves, random, typeinfo, Case, Kind, KINDS};
+use crate::cases::{fixed, join, leaves, random, typeinfo, Case, Kind, KINDS};
 use crate::expect::{Expected, Judge};
 use crate::plain::u32_at;
 use std::borrow::Cow;
@@ -39,6 +39,16 @@ fn sample(rng: &mut Rng, wanted: usize, cases: &mut Vec<Case>) {
             cases.push(case);
         }
     });
+}
+
+/// Draws cases from a seed: how many, and no longer than so many bytes.
+pub type Draw = fn(u64, usize, usize, &mut dyn FnMut(Case) -> Result<(), String>) -> Result<(), String>;
+
+/// `count` pairs of code tables.
+pub fn joins(seed: u64, count: usize, longest: usize, out: &mut dyn FnMut(Case) -> Result<(), String>) -> Result<(), String> {
+    let mut rng = Rng::new(seed);
+    let mut fitting = std::iter::repeat_with(|| join::random(&mut rng)).filter(|case| case.bytes.len() <= longest);
+    fitting.by_ref().take(count).try_for_each(out)
 }
 
 /// `count` cases, none longer than `longest` bytes: a third of them exhaustive ones, the others random. `out` may end it.

@@ -1,7 +1,7 @@
 //! What must be printed for a case, after jetdb and the plain reading were held against each other on it.
 
 use crate::cases::{Case, Kind};
-use crate::listing::{self, bytes_line, dump, dump_bytes, dump_type_info};
+use crate::listing::{self, bytes_line, dump, dump_bytes, dump_joined, dump_type_info};
 use crate::plain::codes::Codes;
 use crate::plain::{self, value, Answer, Rows, Shape};
 use crate::{data, form, judge, oracle};
@@ -53,6 +53,7 @@ impl Judge {
             Kind::Label => Ok(Expected::new(label(second, first as usize), false)),
             Kind::Names => names(first as u16),
             Kind::NamePart => Ok(Expected::new(name_part(&case.bytes, first, second as usize), false)),
+            Kind::Join => joined(case.pair(), first as usize),
         }
     }
 
@@ -126,6 +127,13 @@ fn guid(bytes: &[u8], room: usize) -> Result<Expected, String> {
         return Err(format!("GUID text: jetdb {text}"));
     }
     Ok(Expected::new(written(room, &text), true))
+}
+
+/// Two tables joined; document 02 is read in two ways, and both must agree.
+fn joined((one, other): (&[u8], &[u8]), room: usize) -> Result<Expected, String> {
+    let (answer, written) = plain::join::join(one, other, room);
+    plain::join::kept(one, other, room, answer, &written)?;
+    Ok(Expected::new(dump_joined(answer, &written, room), false))
 }
 
 fn label(n: u32, room: usize) -> String {

@@ -22,7 +22,7 @@ mod stubs;
 mod tests;
 
 use cases::rng::Rng;
-use cases::{fixed, leaves, Case};
+use cases::{fixed, join, leaves, Case};
 use expect::Judge;
 use std::io::{Read, Write};
 use std::process::ExitCode;
@@ -38,6 +38,7 @@ compare random SEED COUNT                  random cases
 compare batch SEED COUNT NAME [LONGEST]    writes NAME.cases and NAME.expected, no case over LONGEST bytes (32768)
 compare judge NAME.cases PRINTED           holds what a program printed against what must be printed
 compare run COUNT SEED PROGRAM ..          fresh cases through a program that reads batch files; stops at the first difference
+compare joins COUNT SEED [PROGRAM ..]      pairs of code tables alone; without a program document 02 is read in two ways
 ";
 
 /// The program's main function.
@@ -73,7 +74,13 @@ fn command(words: &[&str]) -> Result<bool, String> {
             let agreed = batch::judge(&judge, &load(cases)?, &printed)?;
             print(&format!("{agreed} cases agree\n"))
         }
-        ["run", count, seed, ref program @ ..] if !program.is_empty() => through(&judge, number(count)? as usize, number(seed)?, program),
+        ["run", count, seed, ref program @ ..] if !program.is_empty() => {
+            through(&judge, number(count)? as usize, number(seed)?, program, batch::drawn)
+        }
+        ["joins", count, seed] => Ok(joins(&judge, number(seed)?, number(count)?)),
+        ["joins", count, seed, ref program @ ..] if !program.is_empty() => {
+            through(&judge, number(count)? as usize, number(seed)?, program, batch::joins)
+        }
         _ => Err(USAGE.to_string()),
     }
 }
@@ -120,6 +127,7 @@ fn all(judge: &Judge, longest: usize) -> bool {
     leaves::labels(&mut add);
     leaves::names(&mut rng, &mut add);
     leaves::name_parts(&mut add);
+    join::telling(&mut add);
     figures.print();
     figures.is_clean()
 }
@@ -134,11 +142,19 @@ fn random(judge: &Judge, seed: u64, count: u64) -> bool {
     figures.is_clean()
 }
 
-fn through(judge: &Judge, count: usize, seed: u64, words: &[&str]) -> Result<bool, String> {
+fn joins(judge: &Judge, seed: u64, count: u64) -> bool {
+    let mut figures = run::Figures::default();
+    let mut rng = Rng::new(seed);
+    (0..count).for_each(|_| figures.add(judge, &join::random(&mut rng)));
+    figures.print();
+    figures.is_clean()
+}
+
+fn through(judge: &Judge, count: usize, seed: u64, words: &[&str], draw: batch::Draw) -> Result<bool, String> {
     let program = program::Program { words };
     let prints = |frames: &[u8]| program.prints(frames);
     let mut run = program::Run::new(judge, &prints);
-    match run.compare(seed, count, listing::BUFFER) {
+    match run.compare(seed, count, listing::BUFFER, draw) {
         Ok(()) => print(&format!("{count} cases of seed {seed}: no difference\n{}", run.figures.summary())),
         Err(why) => Err(format!("seed {seed}: a difference\n{why}")),
     }

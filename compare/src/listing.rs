@@ -99,6 +99,11 @@ pub fn dump_bytes(answer: Answer, bytes: &[u8]) -> String {
     answer_line("A", answer) + &bytes_line(bytes)
 }
 
+/// The same of two tables joined into so many bytes, with a K line: how many bytes behind those written have kept their values.
+pub fn dump_joined(answer: Answer, written: &[u8], room: usize) -> String {
+    dump_bytes(answer, written) + &row_line('K', &[(room - written.len()) as u32])
+}
+
 /// A B line: the letter, then each byte as two hex digits behind a blank.
 pub fn bytes_line(bytes: &[u8]) -> String {
     let shown: String = bytes.iter().map(|b| format!(" {b:02X}")).collect();

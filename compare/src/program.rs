@@ -1,6 +1,6 @@
 //! Cases sent through another program, many in one process, and what it prints held against what must be printed.
 
-use crate::batch;
+use crate::batch::{self, Draw};
 use crate::cases::Case;
 use crate::expect::Judge;
 use crate::run::Figures;
@@ -47,8 +47,8 @@ impl<'a> Run<'a> {
     }
 
     /// Draws and compares `count` cases; stops at the first that differs, and then says which and why.
-    pub fn compare(&mut self, seed: u64, count: usize, longest: usize) -> Result<(), String> {
-        batch::drawn(seed, count, longest, &mut |case| {
+    pub fn compare(&mut self, seed: u64, count: usize, longest: usize, draw: Draw) -> Result<(), String> {
+        draw(seed, count, longest, &mut |case| {
             self.waiting.push(case);
             if self.waiting.len() == MANY {
                 self.send()?;

@@ -1,7 +1,7 @@
 //! A case made small: the shortest found that still differs.
 
 use crate::batch::shown;
-use crate::cases::Case;
+use crate::cases::{join, Case, Kind};
 
 /// Up to so many bytes every cut is tried, beyond it only halves, quarters and so on.
 const EVERY_CUT: usize = 256;
@@ -25,7 +25,7 @@ pub fn smallest(case: &Case, why: String, differs: Differs) -> String {
 }
 
 fn first_shorter(case: &Case, left: &mut usize, differs: Differs) -> Option<(Case, String)> {
-    let mut all = shorter(&case.bytes).map(|bytes| Case { bytes, ..case.clone() }).peekable();
+    let mut all = shorter_cases(case).peekable();
     while all.peek().is_some() {
         let mut some = Vec::new();
         let mut size = 0;
@@ -40,6 +40,16 @@ fn first_shorter(case: &Case, left: &mut usize, differs: Differs) -> Option<(Cas
         }
     }
     None
+}
+
+/// A case with shorter bytes; of a pair first scopes and rows are left out, then bytes of one table at a time.
+fn shorter_cases(case: &Case) -> Box<dyn Iterator<Item = Case> + '_> {
+    if case.kind != Kind::Join {
+        return Box::new(shorter(&case.bytes).map(|bytes| Case { bytes, ..case.clone() }));
+    }
+    let ((one, other), room) = (case.pair(), case.numbers[0] as usize);
+    let first = shorter(one).map(move |one| Case::join(case.family, &one, other, room));
+    Box::new(join::less(case).into_iter().chain(first).chain(shorter(other).map(move |other| Case::join(case.family, one, &other, room))))
 }
 
 /// Shorter bytes to try; of few bytes the shortest first, and those with a lowered count behind all others.

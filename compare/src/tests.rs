@@ -3,7 +3,7 @@
 use crate::batch;
 use crate::cases::build::*;
 use crate::cases::rng::Rng;
-use crate::cases::{worked, Case, Kind};
+use crate::cases::{join, worked, Case, Kind};
 use crate::expect::Judge;
 use crate::plain::codes::Codes;
 use crate::plain::{self, value, Name, Shape};
@@ -258,6 +258,7 @@ fn batch_files_lend_what_the_readme_says() {
             Kind::Blob => first <= 6 * 256 && second <= 6 * 1024,
             Kind::TypeInfo => first <= 4 * 256,
             Kind::Guid | Kind::Label => first <= 64,
+            Kind::Join => first <= 32_768 && second <= case.bytes.len(),
             _ => true,
         });
     }
@@ -287,7 +288,7 @@ fn a_program_that_prints_what_it_must_agrees() {
     let judge = Judge::new();
     let prints = |frames: &[u8]| printed(&judge, frames, "", "");
     let mut run = Run::new(&judge, &prints);
-    assert_eq!(run.compare(8, 7_000, 32_768), Ok(()));
+    assert_eq!(run.compare(8, 7_000, 32_768, batch::drawn), Ok(()));
     assert!(run.figures.summary().contains("answers: 0: "));
 }
 
@@ -295,7 +296,7 @@ fn a_program_that_prints_what_it_must_agrees() {
 fn a_difference_is_made_small() {
     let judge = Judge::new();
     let prints = |frames: &[u8]| printed(&judge, frames, "P 32768 ", "P 32769 ");
-    let why = Run::new(&judge, &prints).compare(8, 7_000, 32_768).unwrap_err();
+    let why = Run::new(&judge, &prints).compare(8, 7_000, 32_768, batch::drawn).unwrap_err();
     // An object with the one flag 0x00 and an empty list.
     assert!(why.contains("bytes 13 ") && why.contains("P 32769 "), "{why}");
     let bytes = why.lines().find(|line| line.starts_with("bytes")).unwrap();
@@ -303,12 +304,22 @@ fn a_difference_is_made_small() {
 }
 
 #[test]
+fn a_pair_is_made_small() {
+    let judge = Judge::new();
+    let prints = |frames: &[u8]| printed(&judge, frames, "A 16 0 0 0", "A 17 0 0 0");
+    let why = Run::new(&judge, &prints).compare(8, 7_000, 32_768, batch::joins).unwrap_err();
+    // Two tables of a head each, and one has a header code or another layout byte.
+    let bytes = why.lines().find(|line| line.starts_with("bytes")).unwrap();
+    assert!(bytes.split(' ').count() <= 1 + 4 + 6, "{why}");
+}
+
+#[test]
 fn a_program_that_prints_less_or_more_is_found() {
     let judge = Judge::new();
     let nothing = |_: &[u8]| Ok(String::new());
-    assert!(Run::new(&judge, &nothing).compare(8, 100, 32_768).is_err());
+    assert!(Run::new(&judge, &nothing).compare(8, 100, 32_768, batch::drawn).is_err());
     let more = |frames: &[u8]| printed(&judge, frames, "", "").map(|text| text + "A 0 0 0 0\n");
-    assert!(Run::new(&judge, &more).compare(8, 100, 32_768).unwrap_err().starts_with("more was printed"));
+    assert!(Run::new(&judge, &more).compare(8, 100, 32_768, batch::drawn).unwrap_err().starts_with("more was printed"));
 }
 
 #[test]
@@ -389,6 +400,36 @@ fn small_functions() {
     assert_eq!(text(Kind::Names, [0x63, 0], &[]), "B\nB\nB 4F 62 6A 65 63 74 50 61 6C 65 74 74 65\nB\n");
     assert_eq!(text(Kind::NamePart, [1, 2], &[9, 0, 0, 0, 1, 0, 0, 0, 0xA0, 0xA1, 0x50]), "B A0\n");
     assert_eq!(text(Kind::NamePart, [0, 2], &[0, 0, 0, 0, 1, 0, 0, 0, 0xA0, 0xA1, 0x50]), "B 50\n");
+}
+
+// ---- code tables joined
+
+/// Document 02 is read in two ways, which agree on each pair; every answer comes often, and most pairs share rows.
+#[test]
+fn pairs_of_tables_are_joined_as_document_02_says() {
+    let (judge, mut rng, mut sharing) = (Judge::new(), Rng::new(7), 0);
+    let mut answers = std::collections::BTreeMap::new();
+    for _ in 0..4_000 {
+        let case = join::random(&mut rng);
+        let number = judge.expected(&case).unwrap_or_else(|why| panic!("{why}\n{}", batch::shown(&case))).number();
+        *answers.entry(number.unwrap()).or_insert(0) += 1;
+        let (one, other) = case.pair();
+        if let (Some(one), Some(other)) = (Codes::parse(one), Codes::parse(other)) {
+            let has = |s: &plain::codes::Scope| s.rows.iter().any(|r| other.row(s.kind, s.code, r.id) == Some(r));
+            sharing += one.scopes.iter().any(has) as usize;
+        }
+    }
+    assert_eq!(Vec::from_iter(answers.keys().copied()), [0, 8, 9, 16, 17, 18]);
+    assert!(answers.values().all(|&count| count > 200) && sharing > 2_000, "{answers:?}, {sharing} share rows");
+}
+
+#[test]
+fn a_joined_pair_is_printed_with_what_stays() {
+    let (one, other) = (join::table(0x13, &[], &[(0, 0, &[])]).bytes(), join::table(0x13, &[], &[(2, 0x64, &[(0xDC, 0x14, 1)])]).bytes());
+    let text = |other: &[u8], room| Judge::new().expected(&Case::join("", &one, other, room)).unwrap().text;
+    assert_eq!(text(&other, 20), "A 0 18 0 0\nB 13 00 02 00 00 00 00 00 00 02 64 00 01 00 DC 14 00 01\nK 2\n");
+    assert_eq!(text(&other, 17), "A 9 0 0 0\nB\nK 17\n");
+    assert_eq!(text(&other[1..], 0), "A 8 0 0 0\nB\nK 0\n");
 }
 
 // ---- the example streams

@@ -2,6 +2,7 @@
 
 pub mod build;
 pub mod fixed;
+pub mod join;
 pub mod leaves;
 pub mod random;
 pub mod rng;
@@ -22,9 +23,11 @@ pub enum Kind {
     Label = 5,
     Names = 6,
     NamePart = 7,
+    Join = 8,
 }
 
-pub const KINDS: [Kind; 8] = [Kind::Table, Kind::Blob, Kind::TypeInfo, Kind::Listing, Kind::Guid, Kind::Label, Kind::Names, Kind::NamePart];
+pub const KINDS: [Kind; 9] =
+    [Kind::Table, Kind::Blob, Kind::TypeInfo, Kind::Listing, Kind::Guid, Kind::Label, Kind::Names, Kind::NamePart, Kind::Join];
 
 #[derive(Debug, Clone)]
 pub struct Case {

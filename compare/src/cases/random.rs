@@ -6,7 +6,7 @@ use super::{Case, Kind};
 use crate::plain::codes::{Codes, Row, Scope};
 use crate::{listing, oracle, plain};
 
-const TELLING: [u8; 20] =
+pub const TELLING: [u8; 20] =
     [0x00, 0x01, 0x02, 0x0A, 0x13, 0x14, 0x30, 0x60, 0x64, 0x80, 0x97, 0x98, 0x9A, 0x9E, 0xDC, 0xDF, 0xFC, 0xFD, 0xFE, 0xFF];
 
 /// One Blob case under jetdb's own table.
@@ -67,7 +67,7 @@ fn entry(rng: &mut Rng, s: &mut Vec<u8>, level: usize) {
     }
 }
 
-fn type_code(rng: &mut Rng) -> u16 {
+pub fn type_code(rng: &mut Rng) -> u16 {
     let any = rng.next() as u16;
     let section = 0x97 + rng.below(9) as u16;
     let control = 0x64 + rng.below(0x1A) as u16;
@@ -268,7 +268,7 @@ pub fn other_table(rng: &mut Rng) -> Case {
 }
 
 /// A well-formed table.
-fn codes(rng: &mut Rng) -> Codes {
+pub fn codes(rng: &mut Rng) -> Codes {
     let layout = rng.pick(&[0x13, 0x13, 0x2A, 0x00, 0xFF]);
     let most = rng.pick(&[0, 1, 2, 4]);
     let mut header: Vec<u16> = (0..most).map(|_| type_code(rng)).collect();
