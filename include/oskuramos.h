@@ -47,8 +47,11 @@ enum {
     OSKURAMOS_MORE_CONTROLS = 6,    /* more control rows needed than lent (TypeInfo: more rows) */
     OSKURAMOS_MORE_PROPERTIES = 7,  /* more property rows needed than lent */
     OSKURAMOS_BAD_TABLE = 8,        /* the code table isn't well formed */
-    OSKURAMOS_NO_ROOM_FOR_TEXT = 9, /* the text buffer is too short */
-    OSKURAMOS_NOT_A_GUID = 10       /* the GUID value isn't 16 bytes */
+    OSKURAMOS_NO_ROOM_FOR_TEXT = 9, /* the buffer for text, or for a joined code table, is too short */
+    OSKURAMOS_NOT_A_GUID = 10,      /* the GUID value isn't 16 bytes */
+    OSKURAMOS_OTHER_HEAD = 16,      /* two code tables differ in layout byte or header codes */
+    OSKURAMOS_TWO_ROWS = 17,        /* two code tables have different rows for one scope and id */
+    OSKURAMOS_TOO_MANY_SCOPES = 18  /* two code tables have more than 64 scopes together */
 };
 
 /* The number and three counts. Every refusal but 6 and 7 has counts 0; these two say how many rows are needed. */
@@ -126,8 +129,19 @@ oskuramos_rows oskuramos_room_later(size_t length);
 /* The same for TypeInfo: with so many rows of OSKURAMOS_TYPE_INFO_WORDS words it is never answered 6. */
 uint32_t oskuramos_type_info_room(size_t length);
 
+/* ---- code tables */
+/* The longest code table that is well formed. */
+enum { OSKURAMOS_TABLE_LONGEST = 65100 };
+
 /* Whether a code table is well formed. */
 bool oskuramos_well_formed(const uint8_t *table, size_t table_length);
+
+/* Joins two code tables of the same layout byte and header codes: writes the table that holds every scope and row of either, also scopes
+   without rows. It is well formed, and a Blob is read under it as under either, but for the codes that this one lacked.
+   Answers 0 with the length written, or 8 where either isn't well formed, 16, 17, 18, 9, tried in this order. Bytes behind it keep their values.
+   A buffer of both lengths together is enough, and one of OSKURAMOS_TABLE_LONGEST for any two. It may not be one of the tables. */
+oskuramos_answer oskuramos_join(const uint8_t *one, size_t one_length, const uint8_t *other, size_t other_length, uint8_t *out,
+                                size_t out_length);
 
 /* ---- the name of a control
    By its mark a name is

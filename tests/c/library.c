@@ -176,6 +176,90 @@ static void rooms(void) {
     check(oskuramos_type_info_room(39) == 0 && oskuramos_type_info_room(40) == 1 && oskuramos_type_info_room(SIZE_MAX) == 2097148, "room for TypeInfo");
 }
 
+/* ---- two code tables joined */
+typedef struct {
+    size_t length;
+    uint8_t byte[64];
+} code_table;
+
+/* An entry's row for 0xDC; a form scope without rows with an entry's row for 0x30; what both give. */
+static const code_table names_of_64 = {13, {0x2A, 0, 1, 0, 2, 0x64, 0, 1, 0, 0xDC, 0x14, 0, 1}};
+static const code_table form_and_64 = {18, {0x2A, 0, 2, 0, 0, 0, 0, 0, 0, 2, 0x64, 0, 1, 0, 0x30, 0x94, 0, 0}};
+static const code_table of_both = {22, {0x2A, 0, 2, 0, 0, 0, 0, 0, 0, 2, 0x64, 0, 2, 0, 0x30, 0x94, 0, 0, 0xDC, 0x14, 0, 1}};
+
+static oskuramos_answer join(const code_table *one, const code_table *other, bytes *out, size_t room) {
+    return oskuramos_join(one->byte, one->length, other->byte, other->length, lend_bytes(out), room);
+}
+
+static bool joined(const code_table *one, const code_table *other, const code_table *result, size_t room) {
+    bytes out;
+    oskuramos_answer a = join(one, other, &out, room);
+    return is(a, 0, (uint32_t)result->length, 0, 0) && memcmp(out.byte + GUARD, result->byte, result->length) == 0 && bytes_kept(&out, result->length);
+}
+
+static bool join_refused(const code_table *one, const code_table *other, size_t room, uint32_t number) {
+    bytes out;
+    return is(join(one, other, &out, room), number, 0, 0, 0) && bytes_kept(&out, 0) && is(join(other, one, &out, room), number, 0, 0, 0) &&
+           bytes_kept(&out, 0);
+}
+
+static code_table changed(code_table t, size_t at, uint8_t byte) {
+    t.byte[at] = byte;
+    return t;
+}
+
+/* Four header codes and `scopes` entry scopes from `first` on, each with `rows` rows that scope and id tell. Returns the length. */
+static size_t put_table(uint8_t *t, unsigned first, unsigned scopes, unsigned rows) {
+    uint8_t head[12] = {0x2A, 4, (uint8_t)scopes, 0, 1, 0, 2, 0, 3, 0, 4, 0};
+    uint8_t *at = t + sizeof head;
+    memcpy(t, head, sizeof head);
+    for (unsigned i = 0; i < scopes; i++, at += 5) at[0] = 2, at[1] = (uint8_t)(first + i), at[2] = 0, at[3] = (uint8_t)rows, at[4] = 0;
+    for (unsigned i = 0; i < scopes * rows; i++, at += 4)
+        at[0] = (uint8_t)(i % rows), at[1] = (uint8_t)(first + i / rows), at[2] = 0x7F, at[3] = (uint8_t)(i % rows % 5);
+    return (size_t)(at - t);
+}
+
+static uint8_t whole[OSKURAMOS_TABLE_LONGEST], half[2][OSKURAMOS_TABLE_LONGEST], result[OSKURAMOS_TABLE_LONGEST + 1];
+
+/* The longest table of its two halves: with room to the byte, and a byte less. */
+static bool longest_joined(void) {
+    size_t length = put_table(whole, 0, 64, 253), low = put_table(half[0], 0, 32, 253), high = put_table(half[1], 32, 32, 253);
+    result[length - 1] = result[length] = 0xA5;
+    bool short_of_it = is(oskuramos_join(half[1], high, half[0], low, result, length - 1), 9, 0, 0, 0) && result[length - 1] == 0xA5;
+    bool fits = is(oskuramos_join(half[1], high, half[0], low, result, length), 0, (uint32_t)length, 0, 0) && memcmp(result, whole, length) == 0;
+    return length == OSKURAMOS_TABLE_LONGEST && short_of_it && fits && result[length] == 0xA5 &&
+           is(oskuramos_join(whole, length, whole, length, result, length), 0, (uint32_t)length, 0, 0) && memcmp(result, whole, length) == 0;
+}
+
+/* 64 scopes with a row each, and `scopes` more from `first` on; whether the first of these has its row changed. */
+static oskuramos_answer join_scopes(unsigned first, unsigned scopes, bool change, size_t room) {
+    size_t many = put_table(whole, 0, 64, 1), few = put_table(half[0], first, scopes, 1);
+    half[0][few - 4 * scopes + 1] ^= change;
+    return oskuramos_join(whole, many, half[0], few, result, room);
+}
+
+static void joinings(void) {
+    code_table short_of_a_byte = {names_of_64.length - 1, {0}}, more_header = {15, {0x2A, 1, 1, 0, 5, 0, 2, 0x64, 0, 1, 0, 0xDC, 0x14, 0, 1}};
+    memcpy(short_of_a_byte.byte, names_of_64.byte, short_of_a_byte.length);
+    code_table other_layout = changed(names_of_64, 0, 0x2B), other_target = changed(names_of_64, 10, 0x15), other_kind = changed(names_of_64, 12, 2);
+    code_table other_both = changed(other_layout, 10, 0x15);
+    check(joined(&names_of_64, &form_and_64, &of_both, 22), "two tables joined with room to the byte: each byte, and the guards");
+    check(joined(&form_and_64, &names_of_64, &of_both, ROOM), "the other way round, with much room: bytes beyond stay");
+    check(joined(&of_both, &of_both, &of_both, 22) && joined(&of_both, &names_of_64, &of_both, ROOM), "rows that both have stand once");
+    check(join_refused(&short_of_a_byte, &form_and_64, ROOM, 8), "8 for a table whose last byte is missing, first or other");
+    check(join_refused(&other_layout, &names_of_64, ROOM, 16), "16 for another layout byte");
+    check(join_refused(&more_header, &names_of_64, ROOM, 16), "16 for a header code more");
+    check(join_refused(&other_target, &names_of_64, ROOM, 17) && join_refused(&other_kind, &of_both, ROOM, 17), "17 for another target, and for another kind");
+    check(is(join_scopes(64, 1, false, sizeof result), 18, 0, 0, 0), "18 for a scope beyond 64");
+    check(is(join_scopes(63, 1, false, sizeof result), 0, 12 + 9 * 64, 0, 0), "not 18 for one of the 64");
+    check(join_refused(&names_of_64, &form_and_64, 21, 9) && join_refused(&names_of_64, &form_and_64, 0, 9), "9 for a byte too few, and for none");
+    check(join_refused(&short_of_a_byte, &other_layout, 0, 8), "8 before 16");
+    check(join_refused(&other_both, &names_of_64, 0, 16), "16 before 17");
+    check(is(join_scopes(63, 2, true, sizeof result), 17, 0, 0, 0), "17 before 18");
+    check(is(join_scopes(64, 1, false, 0), 18, 0, 0, 0), "18 before 9");
+    check(longest_joined(), "the longest table of its halves, 65,100 bytes, and of itself");
+}
+
 /* ---- text */
 static bool guid_refused(size_t guid_length, size_t out_length, uint32_t number) {
     static const uint8_t guid[17] = {0};
@@ -288,6 +372,8 @@ static void nulls(void) {
     check(is(oskuramos_read_blob(table, sizeof table, NULL, 0, NULL, 0, NULL, 0), 0, 0, 0, 0), "null for an empty stream, and no room");
     check(oskuramos_read_type_info(NULL, 0, NULL, 0).number == 1, "null for all that read_type_info is lent");
     check(!oskuramos_well_formed(NULL, 0) && oskuramos_well_formed(table, sizeof table), "null for a code table");
+    check(is(oskuramos_join(NULL, 0, NULL, 0, NULL, 0), 8, 0, 0, 0), "null for two tables, and no room");
+    check(is(oskuramos_join(table, sizeof table, table, sizeof table, NULL, 0), 9, 0, 0, 0), "null for the joined table");
     check(oskuramos_guid_text(NULL, 0, NULL, 0).number == 10, "null for a GUID and its text");
     check(oskuramos_label_text(0, NULL, 0).number == 9, "null for a label");
     check(oskuramos_is_utf16(NULL, 0), "null for no bytes at all, which are UTF-16");
@@ -304,6 +390,7 @@ int main(void) {
     blob_refusals(large);
     type_info(large);
     rooms();
+    joinings();
     texts();
     parts();
     version();

@@ -12,7 +12,8 @@ enum { PAINT = 0xA5, PAINTED = 1 << 20, LEVELS = 256, ROOM = 1 << 22, ROWS = 1 <
 
 static uint8_t painted[PAINTED], table[1 << 16], stream[ROOM];
 static uint32_t controls[ROWS], properties[ROWS * 8];
-static size_t table_length, length;
+static uint8_t half[2][OSKURAMOS_TABLE_LONGEST], joined[OSKURAMOS_TABLE_LONGEST];
+static size_t table_length, length, half_length;
 
 /* ---- a call on a stack of its own */
 static ucontext_t here, there;
@@ -40,6 +41,9 @@ static void read_blob(void) {
 static void read_type_info(void) { answer = oskuramos_read_type_info(stream, length, controls, ROWS); }
 
 static void well_formed(void) { answer.number = !oskuramos_well_formed(table, table_length); }
+
+/* The longest table of its halves. */
+static void join(void) { answer = oskuramos_join(half[0], half_length, half[1], half_length, joined, sizeof joined); }
 
 static void small_calls(void) {
     static uint8_t guid[16], out[OSKURAMOS_GUID_LENGTH];
@@ -138,6 +142,15 @@ static void type_info(void) {
     }
 }
 
+/* 32 scopes with every id, from the code on. */
+static void half_table(uint8_t *t, unsigned code) {
+    uint8_t *at = t + 12;
+    memcpy(t, "\x13\4\x20\0\1\0\2\0\3\0\4", 12);
+    for (unsigned i = 0; i < 32; i++, at += 5) at[0] = 2, at[1] = (uint8_t)(code + i), at[3] = 253;
+    for (unsigned i = 0; i < 32 * 253; i++, at += 4) at[0] = (uint8_t)(i % 253);
+    half_length = (size_t)(at - t);
+}
+
 /* ---- what is taken, less what the switch to that stack takes */
 static size_t most = 0, least;
 
@@ -184,6 +197,9 @@ int main(int argc, char **argv) {
     expect(0, "TypeInfo");
     told(well_formed, "well_formed");
     expect(0, "the code table");
+    half_table(half[0], 0), half_table(half[1], 32);
+    told(join, "join");
+    expect(0, "two code tables");
     told(small_calls, "texts, parts and values");
     told(names, "names");
     printf("%6zu at most, of %d\n", most, OSKURAMOS_STACK);
