@@ -53,6 +53,9 @@ extern "C" {
     ) -> Answer;
     fn oskuramos_read_type_info(stream: *const u8, stream_length: usize, rows: *mut u32, rows_length: usize) -> Answer;
     fn oskuramos_well_formed(table: *const u8, table_length: usize) -> bool;
+    fn oskuramos_join(
+        one: *const u8, one_length: usize, other: *const u8, other_length: usize, out: *mut u8, out_length: usize,
+    ) -> Answer;
     fn oskuramos_room(length: usize) -> Rows;
     fn oskuramos_room_2000(length: usize) -> Rows;
     fn oskuramos_room_later(length: usize) -> Rows;
@@ -86,6 +89,10 @@ pub fn read_type_info(stream: &[u8], rows: &mut [u32]) -> Answer {
 
 pub fn well_formed(table: &[u8]) -> bool {
     unsafe { oskuramos_well_formed(table.as_ptr(), table.len()) }
+}
+
+pub fn join(one: &[u8], other: &[u8], out: &mut [u8]) -> Answer {
+    unsafe { oskuramos_join(one.as_ptr(), one.len(), other.as_ptr(), other.len(), out.as_mut_ptr(), out.len()) }
 }
 
 pub fn room(length: usize) -> Rows {

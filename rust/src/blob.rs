@@ -42,6 +42,8 @@ impl<'a> Blob<'a> {
     /// Asks how many rows there are, makes room and reads them. They take no more memory than [`Room`](crate::Room) for the stream's length, and
     /// mostly far less: `form-2000.blob` has 52 rows, and room for its length is 612.
     ///
+    /// The table is given by its bytes, [`ACCESS_2000_CODES`](crate::ACCESS_2000_CODES) or those of a [`CodeTable`](crate::CodeTable).
+    ///
     /// The later layout has no mark of its own: bytes that are no Blob at all are mostly read as one without properties or controls.
     pub fn read(table: &[u8], stream: &'a [u8]) -> Result<Blob<'a>, Refused> {
         let needed = match read_blob(table, stream, &mut [], &mut []) {

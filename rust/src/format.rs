@@ -20,6 +20,8 @@ pub const GUID_TEXT: usize = 38;
 pub const LABEL_LONGEST: usize = 18;
 /// Room for a name by id.
 pub const NAME_ROOM: usize = 26;
+/// Bytes of the longest code table that is well formed.
+pub const TABLE_LONGEST: usize = 65_100;
 /// What a raw code that the code table lacks is joined with.
 pub const UNMAPPED: u16 = 0x8000;
 
@@ -36,6 +38,9 @@ pub mod answer {
     pub const BAD_TABLE: u32 = 8;
     pub const NO_ROOM_FOR_TEXT: u32 = 9;
     pub const NOT_A_GUID: u32 = 10;
+    pub const OTHER_HEAD: u32 = 16;
+    pub const TWO_ROWS: u32 = 17;
+    pub const TOO_MANY_SCOPES: u32 = 18;
 }
 
 /// Where a part of a name is: in the stream, or else in the label.
@@ -68,4 +73,27 @@ pub mod kind {
     pub const GUID: u8 = 2;
     pub const DOUBLE: u8 = 3;
     pub const BYTES: u8 = 4;
+}
+
+/// Where what stands in a code table, and in a row of it.
+pub mod table {
+    pub const LAYOUT: usize = 0;
+    pub const HEADER_COUNT: usize = 1;
+    pub const SCOPE_COUNT: usize = 2;
+    pub const HEADER_CODES: usize = 4;
+    pub const SCOPE_BYTES: usize = 5;
+    pub const MOST_SCOPES: usize = 64;
+    pub const ROW_BYTES: usize = 4;
+    pub const ROW_ID: usize = 0;
+    pub const ROW_TARGET: usize = 1;
+    pub const ROW_KIND: usize = 3;
+}
+
+/// Where what stands in a scope of the contents, and its kinds; the third is an entry's.
+pub mod scope {
+    pub const KIND: usize = 0;
+    pub const CODE: usize = 1;
+    pub const ROW_COUNT: usize = 3;
+    pub const FORM: u8 = 0;
+    pub const REPORT: u8 = 1;
 }

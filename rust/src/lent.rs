@@ -5,8 +5,8 @@
 
 use crate::archive;
 use crate::format::OF_STREAM;
-pub use crate::format::{CONTROL_WORDS, GUID_TEXT, LABEL_LONGEST, LONGEST, PROPERTY_WORDS, STACK, TYPE_INFO_WORDS};
-use crate::refused::{of_blob, of_text, of_type_info, Counts, Refused};
+pub use crate::format::{CONTROL_WORDS, GUID_TEXT, LABEL_LONGEST, LONGEST, PROPERTY_WORDS, STACK, TABLE_LONGEST, TYPE_INFO_WORDS};
+use crate::refused::{of_blob, of_type_info, of_written, Counts, Refused};
 
 /// Type code, name mark, name start, name length, first property row, property count.
 pub type ControlRow = [u32; CONTROL_WORDS];
@@ -54,10 +54,16 @@ pub fn control_name<'a>(stream: &'a [u8], label: &'a [u8], mark: u32, start: u32
 
 /// Writes a GUID's 16 bytes as text of [`GUID_TEXT`] bytes, and says how many.
 pub fn guid_text(guid: &[u8], out: &mut [u8]) -> Result<usize, Refused> {
-    of_text(archive::guid_text(guid, out))
+    of_written(archive::guid_text(guid, out))
 }
 
 /// Writes `Control_` and a number, [`LABEL_LONGEST`] bytes at most, and says how many.
 pub fn label_text(n: u32, out: &mut [u8]) -> Result<usize, Refused> {
-    of_text(archive::label_text(n, out))
+    of_written(archive::label_text(n, out))
+}
+
+/// Writes the code table that holds every scope and row of either, and says how many bytes it has: [`TABLE_LONGEST`] at most, and no more than both.
+/// Bytes behind it keep their values. [`CodeTable::join`](crate::CodeTable::join) does the same with room of its own.
+pub fn join(one: &[u8], other: &[u8], out: &mut [u8]) -> Result<usize, Refused> {
+    of_written(archive::join(one, other, out))
 }

@@ -5,6 +5,7 @@
 #[allow(unsafe_code)]
 mod archive;
 mod blob;
+mod code_table;
 mod format;
 pub mod lent;
 mod refused;
@@ -14,6 +15,7 @@ mod type_info;
 mod value;
 
 pub use blob::{Blob, Control, ControlName, Layout, Property};
+pub use code_table::{CodeRow, CodeScope, CodeTable, Scope};
 pub use refused::{Counts, Refused};
 pub use room::Room;
 pub use text::{is_utf16, Guid, Loose, Name, Text};
@@ -26,7 +28,7 @@ pub const VERSION: &str = env!("CARGO_PKG_VERSION");
 /// The default code table: the codes of Access 2000 that jetdb knows (see NOTICE).
 pub static ACCESS_2000_CODES: &[u8] = include_bytes!("access2000.codes");
 
-/// Whether a code table is well formed.
+/// Whether a code table is well formed. One that is can be had as a [`CodeTable`].
 ///
 /// ```
 /// assert!(oskuramos::well_formed(oskuramos::ACCESS_2000_CODES));

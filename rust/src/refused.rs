@@ -1,7 +1,7 @@
 //! What a call refuses with, and the counts that it reads.
 
 use crate::archive;
-use crate::format::{answer, GUID_BYTES, GUID_TEXT, LABEL_LONGEST, LONGEST, TYPE_INFO_SHORTEST};
+use crate::format::{answer, table, GUID_BYTES, GUID_TEXT, LABEL_LONGEST, LONGEST, TABLE_LONGEST, TYPE_INFO_SHORTEST};
 use std::error::Error;
 use std::fmt::{self, Display, Formatter};
 
@@ -47,10 +47,16 @@ pub enum Refused {
     MoreProperties(Counts),
     /// 8: the code table isn't well formed.
     BadTable,
-    /// 9: the text buffer is too short.
+    /// 9: the buffer for text, or for a joined code table, is too short.
     NoRoomForText,
     /// 10: the GUID value isn't 16 bytes.
     NotAGuid,
+    /// 16: two code tables differ in layout byte or header codes.
+    OtherHead,
+    /// 17: two code tables have different rows for one scope and id; [`CodeTable::differing`](crate::CodeTable::differing) shows which.
+    TwoRows,
+    /// 18: two code tables have more than 64 scopes together.
+    TooManyScopes,
     /// The archive answered what that of this version never does: it is of another version than this crate. The number that it gave.
     OtherArchive(u32),
 }
@@ -69,6 +75,9 @@ impl Refused {
             Refused::BadTable => answer::BAD_TABLE,
             Refused::NoRoomForText => answer::NO_ROOM_FOR_TEXT,
             Refused::NotAGuid => answer::NOT_A_GUID,
+            Refused::OtherHead => answer::OTHER_HEAD,
+            Refused::TwoRows => answer::TWO_ROWS,
+            Refused::TooManyScopes => answer::TOO_MANY_SCOPES,
             Refused::OtherArchive(number) => number,
         }
     }
@@ -99,9 +108,22 @@ impl Display for Refused {
             Refused::MoreProperties(c) => write!(f, "{} property rows are needed and fewer were lent: lend so many", c.properties),
             Refused::BadTable => write!(f, "the code table isn't well formed: give another file, or mend it"),
             Refused::NoRoomForText => {
-                write!(f, "the text doesn't fit the buffer: lend {GUID_TEXT} bytes for a GUID, {LABEL_LONGEST} for a label")
+                write!(
+                    f,
+                    "what is written doesn't fit the buffer: lend {GUID_TEXT} bytes for a GUID, {LABEL_LONGEST} for a label, and for code tables \
+                     joined the bytes of both, or {TABLE_LONGEST}"
+                )
             }
             Refused::NotAGuid => write!(f, "the value hasn't {GUID_BYTES} bytes: it isn't a GUID"),
+            Refused::OtherHead => {
+                write!(f, "the code tables differ in layout byte or header codes: they are for different streams; join those of one kind")
+            }
+            Refused::TwoRows => {
+                write!(f, "the code tables have different rows for one scope and id: find out which is right, and mend the other")
+            }
+            Refused::TooManyScopes => {
+                write!(f, "the code tables have more than {} scopes together: no table holds so many", table::MOST_SCOPES)
+            }
             Refused::OtherArchive(_) => write!(f, "the archive isn't of this crate's version, {}: build both from one", crate::VERSION),
         }
     }
@@ -127,8 +149,8 @@ pub(crate) fn of_type_info(a: archive::Answer) -> Result<usize, Refused> {
     }
 }
 
-/// The bytes of text that were written, or its refusal.
-pub(crate) fn of_text(a: archive::Answer) -> Result<usize, Refused> {
+/// The bytes that were written, of text or of a code table, or the refusal.
+pub(crate) fn of_written(a: archive::Answer) -> Result<usize, Refused> {
     of_others(a.number, a.first as usize)
 }
 
@@ -143,6 +165,9 @@ fn of_others<T>(number: u32, read: T) -> Result<T, Refused> {
         answer::BAD_TABLE => Refused::BadTable,
         answer::NO_ROOM_FOR_TEXT => Refused::NoRoomForText,
         answer::NOT_A_GUID => Refused::NotAGuid,
+        answer::OTHER_HEAD => Refused::OtherHead,
+        answer::TWO_ROWS => Refused::TwoRows,
+        answer::TOO_MANY_SCOPES => Refused::TooManyScopes,
         other => Refused::OtherArchive(other),
     })
 }

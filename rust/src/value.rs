@@ -137,6 +137,24 @@ pub enum Kind {
     Bytes = kind::BYTES,
 }
 
+impl Kind {
+    pub(crate) fn of(number: u8) -> Option<Kind> {
+        [Kind::Number, Kind::Text, Kind::Guid, Kind::Double, Kind::Bytes].into_iter().find(|kind| *kind as u8 == number)
+    }
+}
+
+impl Display for Kind {
+    fn fmt(&self, f: &mut Formatter) -> fmt::Result {
+        f.pad(match self {
+            Kind::Number => "number",
+            Kind::Text => "text",
+            Kind::Guid => "guid",
+            Kind::Double => "double",
+            Kind::Bytes => "bytes",
+        })
+    }
+}
+
 /// The value of a property's bytes in the later layout, by its type.
 pub fn entry_value(type_code: u32, bytes: &[u8]) -> Value<'_> {
     known(archive::entry_value(type_code, bytes), bytes)

@@ -40,8 +40,11 @@ fn each_refusal_has_its_words_and_its_number() {
         Refused::BadTable,
         Refused::NoRoomForText,
         Refused::NotAGuid,
+        Refused::OtherHead,
+        Refused::TwoRows,
+        Refused::TooManyScopes,
     ];
-    assert_eq!(all.map(Refused::number), [1, 2, 3, 4, 5, 6, 7, 8, 9, 10]);
+    assert_eq!(all.map(Refused::number), [1, 2, 3, 4, 5, 6, 7, 8, 9, 10, 16, 17, 18]);
     assert_eq!(Refused::MoreRows(2).number(), 6);
     let words = HashSet::from(all.map(|refused| refused.to_string()));
     assert_eq!(words.len(), all.len());

@@ -26,6 +26,7 @@ fn numbers_are_the_headers() {
         ("LONGEST", lent::LONGEST),
         ("GUID_LENGTH", lent::GUID_TEXT),
         ("LABEL_LONGEST", lent::LABEL_LONGEST),
+        ("TABLE_LONGEST", lent::TABLE_LONGEST),
         ("NAME_ROOM", number_name(0x13E).unwrap().len()),
         ("KIND_NUMBER", Kind::Number as usize),
         ("KIND_TEXT", Kind::Text as usize),
@@ -48,6 +49,9 @@ fn numbers_are_the_headers() {
         ("BAD_TABLE", Refused::BadTable),
         ("NO_ROOM_FOR_TEXT", Refused::NoRoomForText),
         ("NOT_A_GUID", Refused::NotAGuid),
+        ("OTHER_HEAD", Refused::OtherHead),
+        ("TWO_ROWS", Refused::TwoRows),
+        ("TOO_MANY_SCOPES", Refused::TooManyScopes),
     ];
     for (name, refused) in refusals {
         assert_eq!(numbers[name], u64::from(refused.number()), "{name}");
