@@ -34,4 +34,7 @@ void compare_drop(compare_reading_t *reading);
 bool compare_large(oskuramos_answer (*read_blob)(const uint8_t *, size_t, const uint8_t *, size_t, uint32_t *, size_t, uint32_t *, size_t),
                    oskuramos_answer (*read_type_info)(const uint8_t *, size_t, uint32_t *, size_t));
 
+/* Joins every telling pair of code tables and so many random ones of a seed by the library; false where one differs. */
+bool compare_join(oskuramos_answer (*join)(const uint8_t *, size_t, const uint8_t *, size_t, uint8_t *, size_t), size_t count, uint64_t seed);
+
 #endif

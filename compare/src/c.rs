@@ -2,7 +2,7 @@
 
 use crate::cases::Kind;
 use crate::form::{BlobProperty, ControlInfo, ControlProperties};
-use crate::{file::FileError, form, form2000, large, oracle, speed};
+use crate::{file::FileError, form, form2000, large, oracle, pairs, speed};
 
 /// A stream, as C sees it.
 #[repr(C)]
@@ -89,4 +89,10 @@ pub unsafe extern "C" fn compare_drop(reading: *mut Reading) {
 #[no_mangle]
 pub extern "C" fn compare_large(read_blob: large::ReadBlob, read_type_info: large::ReadTypeInfo) -> bool {
     large::compare(&large::Library { read_blob, read_type_info })
+}
+
+/// Joins random pairs of code tables by the library's function; false where one differs.
+#[no_mangle]
+pub extern "C" fn compare_join(join: pairs::Join, count: usize, seed: u64) -> bool {
+    pairs::compare(join, count, seed)
 }

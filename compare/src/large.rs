@@ -15,6 +15,17 @@ pub struct CAnswer {
     counts: [u32; 3],
 }
 
+impl CAnswer {
+    pub fn answer(&self) -> Answer {
+        Answer { number: self.number, counts: self.counts }
+    }
+
+    #[cfg(test)]
+    pub fn of(answer: Answer) -> CAnswer {
+        CAnswer { number: answer.number, counts: answer.counts }
+    }
+}
+
 pub type ReadBlob = unsafe extern "C" fn(*const u8, usize, *const u8, usize, *mut u32, usize, *mut u32, usize) -> CAnswer;
 pub type ReadTypeInfo = unsafe extern "C" fn(*const u8, usize, *mut u32, usize) -> CAnswer;
 
@@ -28,14 +39,12 @@ impl Library {
     fn blob(&self, table: &[u8], stream: &[u8], controls: &mut [u32], properties: &mut [u32]) -> Answer {
         let (c, p) = ((controls.as_mut_ptr(), controls.len()), (properties.as_mut_ptr(), properties.len()));
         // SAFETY: each slice is lent as its pointer and its length, and none overlaps another.
-        let found = unsafe { (self.read_blob)(table.as_ptr(), table.len(), stream.as_ptr(), stream.len(), c.0, c.1, p.0, p.1) };
-        Answer { number: found.number, counts: found.counts }
+        unsafe { (self.read_blob)(table.as_ptr(), table.len(), stream.as_ptr(), stream.len(), c.0, c.1, p.0, p.1) }.answer()
     }
 
     fn type_info(&self, stream: &[u8], rows: &mut [u32]) -> Answer {
         // SAFETY: as above.
-        let found = unsafe { (self.read_type_info)(stream.as_ptr(), stream.len(), rows.as_mut_ptr(), rows.len()) };
-        Answer { number: found.number, counts: found.counts }
+        unsafe { (self.read_type_info)(stream.as_ptr(), stream.len(), rows.as_mut_ptr(), rows.len()) }.answer()
     }
 }
 
