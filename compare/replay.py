@@ -16,7 +16,7 @@ import sys
 import tempfile
 
 ROOT = os.path.join(os.path.dirname(os.path.abspath(__file__)), "..")
-SEED, COUNT, LONGEST = "1", "5000", "8192"
+SEED, COUNT, LONGEST = "1", "5400", "8192"
 TYPE_INFO, NAMES = 2, 6
 MAGIC = 0xACCDEAF7
 
@@ -36,8 +36,8 @@ def frame(kind, first, second, data):
 
 def line_count(kind, line):
     """How many lines a case has, by its kind and its first line."""
-    if kind in (0, 4, 5, 6, 7):
-        return {0: 0, 4: 2, 5: 2, 6: 4, 7: 1}[kind]
+    if kind in (0, 4, 5, 6, 7, 8):
+        return {0: 0, 4: 2, 5: 2, 6: 4, 7: 1, 8: 3}[kind]
     number, first, second = [int(word) for word in line.split()[1:4]]
     return 1 if number else 1 + first + second
 

@@ -28,6 +28,7 @@ fn always(rng: &mut Rng, out: &mut dyn FnMut(Case)) {
     leaves::labels(out);
     leaves::names(rng, out);
     leaves::name_parts(out);
+    join::telling(out);
 }
 
 /// About `wanted` of the exhaustive cases, each with the same chance.
@@ -96,6 +97,7 @@ pub fn chance(rng: &mut Rng) -> Case {
         0 => random::input(rng),
         1..=3 => random::other_table(rng),
         4..=7 => typeinfo::random(rng),
+        8 => join::random(rng),
         _ => random::blob(rng),
     }
 }

@@ -85,3 +85,28 @@ pub fn print_bytes(bytes: &[u8], out: &mut [u8]) {
 fn wide(b: u8) -> u32 {
     b as u32
 }
+
+// As many bytes are lent at most.
+const MOST_LENT: u32 = 32768;
+
+// How many bytes hold `old`, up to the first that doesn't.
+fn kept(bytes: &[u8], old: u8) -> u32 {
+    let mut i = 0;
+    while i < MOST_LENT {
+        if bytes.len() <= i as usize {
+            return i;
+        }
+        if bytes[i as usize] != old {
+            return i;
+        }
+        i += 1;
+    }
+    i
+}
+
+// The K line.
+pub fn print_kept(bytes: &[u8], old: u8, out: &mut [u8]) {
+    let p = put_byte(out, 0, b'K');
+    let p = put_word(out, p, kept(bytes, old));
+    end_line(out, p);
+}

@@ -7,6 +7,7 @@ use lines::behind;
 use lines::front;
 use lines::print_answer;
 use lines::print_bytes;
+use lines::print_kept;
 use lines::print_rows;
 ghost use Prim.Native.Nat.{_<_};
 ghost use lib.ListN.{length};
@@ -15,6 +16,9 @@ ghost use Rattle.names.specs.Lookup.{Lent, AllLent};
 
 // What rows hold before a case, so that a word which wasn't written shows.
 const UNWRITTEN: u32 = 0xDEAD_BEEF;
+
+// The same of the bytes of a joined table.
+const UNTOUCHED: u8 = 0xA5;
 
 // What stands in front of a frame's bytes.
 pub struct Head {
@@ -104,6 +108,18 @@ fn replay_name_part(bytes: &[u8], mark: u32, size: u32, out: &mut [u8]) {
     let label = front(rest, size as usize);
     let stream = behind(rest, size as usize);
     print_bytes(blob::control_name(stream, label, mark, start, length), out);
+}
+
+// The bytes are the first table and the other.
+fn replay_join(bytes: &[u8], lent: u32, size: u32, out: &mut [u8]) {
+    let mut space = [UNTOUCHED; 32768];
+    let room = front_mut(&mut space, lent as usize);
+    let one = front(bytes, size as usize);
+    let other = behind(bytes, size as usize);
+    let answer = join::join(one, other, room);
+    print_answer(answer, out);
+    print_bytes(front(room, answer.first as usize), out);
+    print_kept(behind(room, answer.first as usize), UNTOUCHED, out);
 }
 
 // No table has an id of more than 16 bits.
@@ -217,6 +233,7 @@ fn replay_case<'a>(
             out,
         ),
         7 => replay_name_part(bytes, head.first, head.second, out),
+        8 => replay_join(bytes, head.first, head.second, out),
         _ => {}
     }
 }
