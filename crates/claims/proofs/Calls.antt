@@ -80,6 +80,7 @@ use Rattle.claims.proofs.Demand1.{demand1}
 use Rattle.claims.proofs.Demand2.{demand2}
 use Rattle.claims.proofs.Demand3.{demand3}
 use Rattle.claims.proofs.Joining.{wish9, wish12}
+use Rattle.claims.proofs.JoiningCalls.{join-of, plans-carried}
 use Rattle.claims.proofs.LaterTree.{later-tree}
 use Rattle.claims.proofs.Counts.{counts-hold}
 use Rattle.claims.proofs.RowChecks.{row-checks}
@@ -207,11 +208,9 @@ label-texts f p one = record {
 }
 
 -- ---- join
-abbrev join-of : f.Join → TextExit
-join-of a = joinExit (a .one) (a .other) (a .out)
-
 module _ (g : Fn f.Join TextExit) (p : Proved g join-of) (one : OneResult (g .function))
-    (one-tells : Tells (g .function) (λ κs a. Bytes (g .handed κs a .one))) (other-tells : Tells (g .function) (λ κs a. Bytes (g .handed κs a .other))) where
+    (one-tells : Tells (g .function) (λ κs a. Bytes (g .handed κs a .one))) (other-tells : Tells (g .function) (λ κs a. Bytes (g .handed κs a .other)))
+    (allows : (a : f.Join) → (c : Call g) × (handed c ≡ a)) where
   abbrev one-too : Saying (g .function .ended)
   one-too κs a r e = g .function .says κs a r e × Bytes (g .handed κs a .one)
 
@@ -259,8 +258,20 @@ module _ (g : Fn f.Join TextExit) (p : Proved g join-of) (one : OneResult (g .fu
         ∙ wish12 .same-exit (handed c .one) (handed c .other) (handed c .out)
         ∙ (λ i. joinExit (h .second i) (h .first i) (e i))
         ∙ sym (call-told g join-of p d);
+    plans = plans-carried g (call-told g join-of p) allows;
+    room-enough = every-tables _ (λ a A B room. wish12 .room-enough (a .one) (a .other) (a .out) A B room);
     one-result = one;
+    allows = allows;
   }
+
+abbrev join-args : f.Join → RefT (List ℕ) × (RefT (List ℕ) × (RefT (List ℕ) × Unit {0}))
+join-args a = (somewhere (a .one), (somewhere (a .other), (somewhere (a .out), tt)))
+
+crates-join-allows : (a : f.Join) → (c : Call (f.crates .join)) × (handed c ≡ a)
+crates-join-allows a = (record { κs = ([], ([], ([], tt))); args = join-args a; result = join-of a .answer; left = (tt, (tt, (join-of a .out, tt))); allowed = (refl, refl) }, refl)
+
+exported-join-allows : (a : f.Join) → (c : Call (f.exported .join)) × (handed c ≡ a)
+exported-join-allows a = (record { κs = ([], ([], ([], tt))); args = join-args a; result = handedAnswer (join-of a .answer); left = (tt, (tt, (join-of a .out, tt))); allowed = (refl, refl) }, refl)
 
 -- ---- as the crates have them
 of-crates : calls.Promised f.crates
@@ -281,7 +292,7 @@ of-crates = record {
   join = joins (f.crates .join) (record {
     met = told (f.crates .join .function) (λ w κs a r e. join-clauses.ensures κs a tt r e w) _ (λ w κs a r e. both-facts (w .𝓤) _ _) (λ w. join-code.met (w .𝓤) (w .H) (w .𝓜) (w .𝓖) (w .𝓡));
     told = λ κs a r e q i. record { answer = q .0 i; out = q .1 i };
-  }) (λ κs a r r′ x y p q. (p .0 ∙ sym (q .0), λ i. (tt, (tt, ((p .1 ∙ sym (q .1)) i, tt))))) (one-told (f.crates .join .function .ended .signature .result)) (other-told (f.crates .join .function .ended .signature .result));
+  }) (λ κs a r r′ x y p q. (p .0 ∙ sym (q .0), λ i. (tt, (tt, ((p .1 ∙ sym (q .1)) i, tt))))) (one-told (f.crates .join .function .ended .signature .result)) (other-told (f.crates .join .function .ended .signature .result)) crates-join-allows;
   well-formed = gives (f.crates .well-formed) _ (record { met = λ w. well-formed-code.met (w .𝓤) (w .H) (w .𝓜) (w .𝓖) (w .𝓡); told = λ κs a r e q. q }) (λ κs a r r′ x y p q. (p ∙ sym q, refl));
   room = gives (f.crates .room) _ (record { met = λ w. room-code.met (w .𝓤) (w .H) (w .𝓜) (w .𝓖) (w .𝓡); told = λ κs a r e q. q }) (λ κs a r r′ x y p q. (p ∙ sym q, refl));
   room-2000 = gives (f.crates .room-2000) _ (record { met = λ w. room-2000-code.met (w .𝓤) (w .H) (w .𝓜) (w .𝓖) (w .𝓡); told = λ κs a r e q. q }) (λ κs a r r′ x y p q. (p ∙ sym q, refl));
@@ -317,7 +328,7 @@ of-exported = record {
   join = joins (f.exported .join) (record {
     met = told (f.exported .join .function) (λ w κs a r e. exported-join-clauses.ensures κs a tt r e w) _ (λ w κs a r e. both-facts (w .𝓤) _ _) (λ w. exported-join-code.met (w .𝓤) (w .H) (w .𝓜) (w .𝓖) (w .𝓡));
     told = λ κs a r e q i. record { answer = f.takenAnswer (q .0 i); out = q .1 i };
-  }) (λ κs a r r′ x y p q. (p .0 ∙ sym (q .0), λ i. (tt, (tt, ((p .1 ∙ sym (q .1)) i, tt))))) (one-told (f.exported .join .function .ended .signature .result)) (other-told (f.exported .join .function .ended .signature .result));
+  }) (λ κs a r r′ x y p q. (p .0 ∙ sym (q .0), λ i. (tt, (tt, ((p .1 ∙ sym (q .1)) i, tt))))) (one-told (f.exported .join .function .ended .signature .result)) (other-told (f.exported .join .function .ended .signature .result)) exported-join-allows;
   well-formed = gives (f.exported .well-formed) _ (record { met = λ w. exported-well-formed-code.met (w .𝓤) (w .H) (w .𝓜) (w .𝓖) (w .𝓡); told = λ κs a r e q. q }) (λ κs a r r′ x y p q. (p ∙ sym q, refl));
   room = gives (f.exported .room) _ (record { met = λ w. exported-room-code.met (w .𝓤) (w .H) (w .𝓜) (w .𝓖) (w .𝓡); told = λ κs a r e q. ap f.takenRoom q }) (λ κs a r r′ x y p q. (p ∙ sym q, refl));
   room-2000 = gives (f.exported .room-2000) _ (record { met = λ w. exported-room-2000-code.met (w .𝓤) (w .H) (w .𝓜) (w .𝓖) (w .𝓡); told = λ κs a r e q. ap f.takenRoom q }) (λ κs a r r′ x y p q. (p ∙ sym q, refl));

@@ -43,6 +43,7 @@ use Rattle.claims.specs.Counts.{Counts, InfoCounts}
 use Rattle.claims.specs.Rooms as rooms
 use Rattle.claims.specs.RowChecks.{Checks, SeenItems}
 use Rattle.claims.specs.Always.{Always, OneResult, Fn, Every, Gives, Call, handed, seen}
+use Rattle.claims.specs.JoiningCalls.{PlansCarried}
 use Rattle.claims.specs.Functions.{
   Blob,
   TypeInfo,
@@ -177,7 +178,13 @@ pub record JoinTables (f : Fn Join TextExit) : Type 2 where
       → (result (seen ab) >>= λ t. result (seen (ab-c t))) ≡ (result (seen bc) >>= λ t. result (seen (a-bc t)))
   -- more than asked: into buffers that hold the same, of any length, all that is seen is the same
   pub same-exit : (c d : Call f) → Turned (handed c) (handed d) → handed c .out ≡ handed d .out → seen c ≡ seen d
+  -- "With four offices we can't tell them in which order to join": any number of tables
+  pub plans : PlansCarried f
+  -- "room for 65,100 bytes" is enough
+  pub room-enough : Every f (λ a seen. Roomy (a .out) → ¬ (seen .answer .number ≡ 9))
   pub one-result : OneResult (f .function)
+  -- the contract allows a call of any words, so that what is said of two calls isn't idle
+  pub allows : (a : Join) → (c : Call f) × (handed c ≡ a)
 
 -- ---- the functions that both the crates and the archive have. `Gives f d` says that every call of f gives what d says, and that the contract allows nothing else
 pub record Promised (i : Interface) : Type 2 where
