@@ -50,6 +50,25 @@ size_of() { # FILE
     wc -c <"$1" | tr -d ' '
 }
 
+# Writes the last SIZE bytes of SOURCE: to standard output where TO is -, else beside the place of the file TO, which is then moved there whole.
+write_whole() { # SOURCE SIZE TO
+    if [ "$3" = - ]; then
+        tail -c "$2" "$1"
+        return
+    fi
+    place=$3
+    [ ! -d "$place" ] || die "$place is a folder; name a file in it"
+    case $place in -*) place=./$place ;; esac
+    [ ! -L "$place" ] || place=$(readlink -f -- "$place")
+    beside=$(mktemp "$place.XXXXXX" 2>/dev/null) || die "$place can't be written: see who may write in its folder (ls -ld)"
+    if tail -c "$2" "$1" >"$beside" && [ "$(size_of "$beside")" -eq "$2" ] &&
+        chmod "$(printf '%03o' $((0666 & ~$(umask))))" "$beside" && mv -f -- "$beside" "$place"; then
+        return 0
+    fi
+    rm -f -- "$beside"
+    die "$place can't be written"
+}
+
 # ---- the proved programs
 # The crates of the repository that CRATE is built of, itself among them.
 crates_of() { # CRATE

@@ -68,7 +68,6 @@ verb_file() {
     esac
 }
 
-# The table is written beside its place and moved there whole.
 make_table() {
     take_file "$from" "$longest_text" || exit 2
     run_program tablemake <"$taken" >"$scratch/made" || die "the program tablemake failed on $from"
@@ -80,18 +79,5 @@ make_table() {
         exit 1
         ;;
     esac
-    if [ "$to" = - ]; then
-        tail -c "$size" "$scratch/made"
-        exit
-    fi
-    [ ! -d "$to" ] || die "$to is a folder; name a file in it"
-    case $to in -*) to=./$to ;; esac
-    [ ! -L "$to" ] || to=$(readlink -f -- "$to")
-    beside=$(mktemp "$to.XXXXXX" 2>/dev/null) || die "$to can't be written: see who may write in its folder (ls -ld)"
-    if tail -c "$size" "$scratch/made" >"$beside" && [ "$(size_of "$beside")" -eq "$size" ] &&
-        chmod "$(printf '%03o' $((0666 & ~$(umask))))" "$beside" && mv -f -- "$beside" "$to"; then
-        exit 0
-    fi
-    rm -f -- "$beside"
-    die "$to can't be written"
+    write_whole "$scratch/made" "$size" "$to"
 }
