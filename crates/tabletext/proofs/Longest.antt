@@ -53,13 +53,13 @@ scope-name-short zero c = omega arith
 scope-name-short (suc zero) c = omega arith
 scope-name-short (suc (suc k)) c = omega (arith, hex-length 4 c)
 
-type-short : (k c : ℕ) (b : Bool) → ltb k 2 ≡ b → length (typeRemark k c) ≤ 30
+pub type-short : (k c : ℕ) (b : Bool) → ltb k 2 ≡ b → length (typeRemark k c) ≤ 30
 type-short k c true e = rw (plain-scope k c (ltb-true k 2 e)) (omega arith)
 type-short k c false e =
     rw (entry-scope k c (ltb-false k 2 e)) (remark-short (nameIn controlTypeNames c) (omega (arith, longest-type, listed.type-short c)))
 
 -- ---- lines
-row-short : (r : Tie) → length (rowLine r) ≤ 45
+pub row-short : (r : Tie) → length (rowLine r) ≤ 45
 unfolding rowLine
 row-short r =
     let mark = markOf (r .id) (r .kind) in
@@ -118,7 +118,7 @@ unfolding rowCount all
 rows-few [] o = omega arith
 rows-few (s ∷ ss) o = omega (arith, scope-rows s (and-l (scopeOk s) (all scopeOk ss) o), rows-few ss (and-r (scopeOk s) (all scopeOk ss) o))
 
-length-codes : (t : List ℕ) (at n : ℕ) → length (codesAt t at n) ≡ n
+pub length-codes : (t : List ℕ) (at n : ℕ) → length (codesAt t at n) ≡ n
 unfolding codesAt
 length-codes t at zero = refl
 length-codes t at (suc n) = ap suc (length-codes t (at + 2) n)

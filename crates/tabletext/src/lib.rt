@@ -71,7 +71,7 @@ fn mark_of(id: usize, kind: usize) -> u32
     }
 }
 
-fn put_row(out: &mut [u8], at: usize, id: usize, target: usize, kind: usize) -> usize
+pub fn put_row(out: &mut [u8], at: usize, id: usize, target: usize, kind: usize) -> usize
     requires { ⌜ (id < 256) × (target < 65536) ⌝ }
     ensures { λ r. ⌜ Wrote (now (out .entry)) at (t.rowLine (record { id = id; target = target; kind = kind })) (now (out .exit)) r ⌝ }
 {
@@ -115,7 +115,7 @@ pub fn put_scope_name(out: &mut [u8], at: usize, kind: u32, code: u32) -> usize
     }
 }
 
-fn put_type_remark(out: &mut [u8], at: usize, kind: u32, code: u16) -> usize
+pub fn put_type_remark(out: &mut [u8], at: usize, kind: u32, code: u16) -> usize
     ensures { λ r. ⌜ Wrote (now (out .entry)) at (t.typeRemark kind code) (now (out .exit)) r ⌝ }
 {
     if kind < 2 {
