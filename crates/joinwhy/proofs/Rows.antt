@@ -1,0 +1,98 @@
+-- Rows held against those of the other table, one after another.
+use Prim.Native.Nat.{ℕ, zero, suc, _+_, _-_, _≤_, _<_}
+use native.Mathlib.Nat.{not-suc-le-zero}
+use native.Mathlib.Numerals.{sub-one}
+use native.Mathlib.Omega.{arith}
+use mathlib.Core.Path.{_≡_, refl, sym, ap, _∙_}
+use mathlib.Core.Bool.{Bool, true, false, cond, _&&_}
+use mathlib.Core.List.{List, [], _∷_}
+use mathlib.Core.Option.{Option, none, some}
+use lib.Dec.{eqb}
+use borrow.Author.Tests.{eq-eqb, ne-eqb, eqb-true}
+use Rattle.rules.specs.Lists.{_>>=_, find}
+use Rattle.rules.specs.CodeTable.{Tie, tieAt, tiesAt, isTied}
+use Rattle.rules.specs.Join.{sameRow}
+use Rattle.rules.proofs.ListLaws.{found-there}
+use Rattle.coderows.specs.Look as look
+use Rattle.coderows.specs.declared.Row.the-variants.{Tied, Untied}
+use Rattle.joinwhy.specs.declared.Row.{Row}
+use Rattle.joinwhy.specs.declared.Another.{Another}
+use Rattle.joinwhy.specs.declared.Pair.{Pair}
+use Rattle.joinwhy.specs.Why.{Clash, against, orElse, rowsClash}
+use Rattle.joinwhy.specs.Found.{tieOf, rowFrom, asRow, asAnother, asPair}
+
+pub no-way : {P : Type 0} → true ≡ false → P
+no-way e = absurd (let z : _≡_ {A = ℕ} 0 1 = cc in omega arith)
+
+-- ---- one row
+abbrev tie : ℕ → ℕ → ℕ → Tie
+tie i x k = record { id = i; target = x; kind = k }
+
+pub untied : (rs : List Tie) (r : Tie) → look.asRow (find (isTied (r .id)) rs) ≡ Untied → against rs r ≡ none
+unfolding against look.asRow
+untied rs r e = go (find (isTied (r .id)) rs) e
+  where
+    go : (o : Option Tie) → look.asRow o ≡ Untied → (o >>= λ r′. cond (sameRow r r′) none (some r′)) ≡ none
+    go none q = refl
+    go (some r′) q = absurd (let z : _≡_ {A = ℕ} 0 1 = cc in omega arith)
+
+tied : (rs : List Tie) (i x k : ℕ) → look.asRow (find (isTied i) rs) ≡ Tied x k → find (isTied i) rs ≡ some (tie i x k)
+unfolding look.asRow
+tied rs i x k e = go (find (isTied i) rs) refl e
+  where
+    go : (o : Option Tie) → find (isTied i) rs ≡ o → look.asRow o ≡ Tied x k → find (isTied i) rs ≡ some (tie i x k)
+    go none q h = absurd (let z : _≡_ {A = ℕ} 0 1 = cc in omega arith)
+    go (some r) q h =
+        let a : r .id ≡ i = eqb-true _ _ (found-there (isTied i) rs r q .1) in
+        let b : r .target ≡ x = cc in
+        let c : r .kind ≡ k = cc in
+        q ∙ ap some (λ n. tie (a n) (b n) (c n))
+
+module _ (rs : List Tie) (r : Tie) (x k : ℕ) (e : look.asRow (find (isTied (r .id)) rs) ≡ Tied x k) where
+  pub tied-same : x ≡ r .target → k ≡ r .kind → against rs r ≡ none
+  unfolding against
+  tied-same a b = rw (tied rs (r .id) x k e, eq-eqb (r .target) x (sym a), eq-eqb (r .kind) k (sym b))
+
+  pub tied-target : (x ≡ r .target → ⊥) → against rs r ≡ some (tie (r .id) x k)
+  unfolding against
+  tied-target a = rw (tied rs (r .id) x k e, ne-eqb (r .target) x (λ q. a (sym q)))
+
+  pub tied-kind : x ≡ r .target → (k ≡ r .kind → ⊥) → against rs r ≡ some (tie (r .id) x k)
+  unfolding against
+  tied-kind a b = rw (tied rs (r .id) x k e, eq-eqb (r .target) x (sym a), ne-eqb (r .kind) k (λ q. b (sym q)))
+
+-- ---- one after another
+pub rows-done : (kind code : ℕ) (rs : List Tie) (t : List ℕ) (at left : ℕ) → left ≤ 0 → rowsClash kind code rs (tiesAt t at left) ≡ none
+unfolding rowsClash tiesAt
+rows-done kind code rs t at zero h = refl
+rows-done kind code rs t at (suc n) h = absurd (not-suc-le-zero h)
+
+module _ (kind code : ℕ) (rs : List Tie) (t : List ℕ) (row : Row) (a : Another) (e : a ≡ asAnother (against rs (tieOf row))) where
+  -- what is found in front, and the search behind it
+  abbrev front : Option Tie → Option Clash → Option Clash
+  front o rest = orElse (o >>= λ r′. some (record { kind = kind; code = code; row = tieOf row; other = r′ })) rest
+
+  next : (at left : ℕ) → 0 < left → tieOf row ≡ tieAt t at
+      → rowsClash kind code rs (tiesAt t at left) ≡ front (against rs (tieOf row)) (rowsClash kind code rs (tiesAt t (at + 4) (left - 1)))
+  unfolding rowsClash tiesAt
+  next at zero h q = absurd (not-suc-le-zero h)
+  next at (suc n) h q = rw (q, sub-one)
+
+  pub rows-hit : (at left : ℕ) → 0 < left → tieOf row ≡ tieAt t at → a .found ≡ true
+      → record { found = true; kind = kind; code = code; row = row; other = a .row } ≡ asPair (rowsClash kind code rs (tiesAt t at left))
+  unfolding asAnother asPair orElse
+  rows-hit at left h q f = rw (next at left h q) (go (against rs (tieOf row)) e)
+    where
+      go : (o : Option Tie) → a ≡ asAnother o
+          → record { found = true; kind = kind; code = code; row = row; other = a .row } ≡ asPair (front o (rowsClash kind code rs (tiesAt t (at + 4) (left - 1))))
+      go none g = no-way (sym f ∙ ap (λ (z : Another). z .found) g)
+      go (some r′) g = ap (λ (z : Another). let p : Pair = record { found = true; kind = kind; code = code; row = row; other = z .row } in p) g
+
+  pub rows-miss : (at left : ℕ) → 0 < left → tieOf row ≡ tieAt t at → a .found ≡ false
+      → rowsClash kind code rs (tiesAt t at left) ≡ rowsClash kind code rs (tiesAt t (at + 4) (left - 1))
+  unfolding asAnother orElse
+  rows-miss at left h q f = next at left h q ∙ go (against rs (tieOf row)) e
+    where
+      go : (o : Option Tie) → a ≡ asAnother o → front o (rowsClash kind code rs (tiesAt t (at + 4) (left - 1))) ≡ rowsClash kind code rs (tiesAt t (at + 4) (left - 1))
+      go none g = refl
+      go (some r′) g = no-way (sym (ap (λ (z : Another). z .found) g) ∙ f)

@@ -1,0 +1,32 @@
+-- What the code finds, in the terms of the definition.
+use Prim.Native.Nat.{ℕ}
+use mathlib.Core.Bool.{true, false}
+use mathlib.Core.Option.{Option, none, some}
+use mathlib.Core.List.{List, _++_}
+use Rattle.rules.specs.Lists.{text}
+use Rattle.rules.specs.CodeTable.{Tie}
+use Rattle.tabletext.specs.Text.{rowLine, scopeName, typeRemark}
+use Rattle.joinwhy.specs.declared.Row.{Row}
+use Rattle.joinwhy.specs.declared.Another.{Another}
+use Rattle.joinwhy.specs.declared.Pair.{Pair}
+use Rattle.joinwhy.specs.Why.{Clash}
+
+abbrev pub tieOf : Row → Tie
+tieOf r = record { id = r .id; target = r .target; kind = r .kind }
+
+abbrev pub rowFrom : ℕ → ℕ → ℕ → Row
+rowFrom id target kind = record { id = id; target = target; kind = kind }
+
+abbrev pub asRow : Tie → Row
+asRow r = rowFrom (r .id) (r .target) (r .kind)
+
+unfoldable pub asAnother : Option Tie → Another
+asAnother none = record { found = false; row = rowFrom 0 0 0 }
+asAnother (some r) = record { found = true; row = asRow r }
+
+unfoldable pub asPair : Option Clash → Pair
+asPair none = record { found = false; kind = 0; code = 0; row = rowFrom 0 0 0; other = rowFrom 0 0 0 }
+asPair (some c) = record { found = true; kind = c .kind; code = c .code; row = asRow (c .row); other = asRow (c .other) }
+
+abbrev pub pairLines : Pair → List ℕ
+pairLines p = scopeName (p .kind) (p .code) ++ (typeRemark (p .kind) (p .code) ++ (text "\n" ++ (rowLine (tieOf (p .row)) ++ rowLine (tieOf (p .other)))))

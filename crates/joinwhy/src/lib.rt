@@ -1,0 +1,260 @@
+// Why two code tables can't be joined; specs/Why.antt says it line by line. The lines are written into a lent buffer at a place; the place behind them is returned.
+use coderows::find_scope;
+use coderows::list_scopes;
+use coderows::seek_row;
+use codetable::byte;
+use codetable::read_row;
+use codetable::well_formed;
+use codetable::word;
+use tabletext::put_row;
+use tabletext::put_scope_name;
+use tabletext::put_type_remark;
+use text::put_byte;
+use text::put_hex;
+use text::put_text;
+ghost use mathlib.Core.Path.{_≡_};
+ghost use Prim.Native.Nat.{_+_, _*_, _<_, _^_};
+ghost use mathlib.Core.Option.{none};
+ghost use Rattle.rules.specs.CodeTable as t;
+ghost use Rattle.coderows.specs.Look.{Listed, Formed, Sorted, bodyRows};
+ghost use Rattle.text.specs.Writer.{Wrote};
+ghost use Rattle.joinwhy.specs.Why as w;
+ghost use Rattle.tabletext.specs.Text.{rowLine};
+ghost use Rattle.joinwhy.specs.Found.{tieOf, rowFrom, asAnother, asPair, pairLines};
+
+struct Row {
+    id: u8,
+    target: u16,
+    kind: u8,
+}
+
+// A row that isn't the same as the one it was held against, or none.
+struct Another {
+    found: bool,
+    row: Row,
+}
+
+// A scope, and the two rows that its id has, or none.
+struct Pair {
+    found: bool,
+    kind: u8,
+    code: u16,
+    row: Row,
+    other: Row,
+}
+
+// ---- two different rows
+fn row_at(table: &[u8], at: usize) -> Row
+    requires { ⌜ at + 3 < 2 ^ 60 ⌝ }
+    ensures { λ r. ⌜ tieOf r ≡ t.tieAt (now (table .entry)) at ⌝ }
+{
+    let row = read_row(table, at);
+    Row {
+        id: row.id as u8,
+        target: row.target as u16,
+        kind: row.kind as u8,
+    }
+}
+
+fn no_row() -> Row
+    ensures { λ r. ⌜ r ≡ rowFrom 0 0 0 ⌝ }
+{
+    Row {
+        id: 0,
+        target: 0,
+        kind: 0,
+    }
+}
+
+// What n rows have for the id of a row, where that is another.
+fn against(table: &[u8], start: usize, n: usize, row: Row) -> Another
+    requires { ⌜ (start + 4 * n < 2 ^ 60) × Sorted (t.tiesAt (now table) start n) ⌝ }
+    ensures { λ r. ⌜ r ≡ asAnother (w.against (t.tiesAt (now (table .entry)) start n) (tieOf row)) ⌝ }
+{
+    let sought = seek_row(table, start, n, row.id as usize);
+    let found = sought.row;
+    let coderows::Row::Tied { target, kind } = found else {
+        let row = no_row();
+        return Another { found: false, row };
+    };
+    if target == row.target {
+        if kind == row.kind {
+            let row = no_row();
+            return Another { found: false, row };
+        }
+    }
+    let row = Row {
+        id: row.id,
+        target,
+        kind,
+    };
+    Another { found: true, row }
+}
+
+fn no_pair() -> Pair
+    ensures { λ r. ⌜ r ≡ asPair none ⌝ }
+{
+    let row = no_row();
+    let other = no_row();
+    Pair {
+        found: false,
+        kind: 0,
+        code: 0,
+        row,
+        other,
+    }
+}
+
+// The first of n rows of a scope that clashes with one of the other table in the same scope.
+fn rows_clash(
+    one: &[u8],
+    start: usize,
+    n: usize,
+    other: &[u8],
+    from: usize,
+    rows: usize,
+    kind: u8,
+    code: u16,
+) -> Pair
+    requires { ⌜ (start + 4 * n < 2 ^ 59) × (from + 4 * rows < 2 ^ 60) × Sorted (t.tiesAt (now other) from rows) ⌝ }
+    ensures { λ r. ⌜ r ≡ asPair (w.rowsClash kind code (t.tiesAt (now (other .entry)) from rows) (t.tiesAt (now (one .entry)) start n)) ⌝ }
+{
+    let mut place = start;
+    let mut left = n;
+    while 0 < left {
+        let row = row_at(one, place);
+        let there = against(other, from, rows, row);
+        if there.found {
+            let other = there.row;
+            return Pair {
+                found: true,
+                kind,
+                code,
+                row,
+                other,
+            };
+        }
+        place += 4;
+        left -= 1;
+    }
+    no_pair()
+}
+
+// The first row of a table that clashes with one of the other, whose scopes are listed.
+fn scopes_clash(one: &[u8], other: &[u8], listed: &[u32; 192]) -> Pair
+    requires { ⌜ Listed (now other) (now listed) × Formed (now other) ⌝ }
+    ensures { λ r. ⌜ r ≡ asPair (w.scopesClash (now (other .entry)) (t.scopes (now (one .entry)))) ⌝ }
+{
+    let scopes = word(one, 2);
+    let contents = 4 + 2 * byte(one, 1);
+    let mut place = contents;
+    let mut body = contents + 5 * scopes;
+    let mut left = scopes;
+    while 0 < left {
+        let kind = byte(one, place) as u8;
+        let code = word(one, place + 1) as u16;
+        let n = word(one, place + 3);
+        let scope = find_scope(other, listed, kind, code, 0);
+        let theirs = scope.body;
+        let from = theirs.start as usize;
+        let rows = theirs.count as usize;
+        let pair = rows_clash(one, body, n, other, from, rows, kind, code);
+        if pair.found {
+            return pair;
+        }
+        place += 5;
+        body += 4 * n;
+        left -= 1;
+    }
+    no_pair()
+}
+
+fn first_clash(one: &[u8], other: &[u8]) -> Pair
+    ensures { λ r. ⌜ r ≡ asPair (w.firstClash (now (one .entry)) (now (other .entry))) ⌝ }
+{
+    if !well_formed(one) {
+        return no_pair();
+    }
+    if !well_formed(other) {
+        return no_pair();
+    }
+    let mut listed = [0; 192];
+    list_scopes(other, &mut listed);
+    scopes_clash(one, other, &listed)
+}
+
+// ---- lines
+fn put_tie(out: &mut [u8], at: usize, row: Row) -> usize
+    ensures { λ r. ⌜ Wrote (now (out .entry)) at (rowLine (tieOf row)) (now (out .exit)) r ⌝ }
+{
+    put_row(
+        out,
+        at,
+        row.id as usize,
+        row.target as usize,
+        row.kind as usize,
+    )
+}
+
+fn put_pair(out: &mut [u8], at: usize, pair: Pair) -> usize
+    ensures { λ r. ⌜ Wrote (now (out .entry)) at (pairLines pair) (now (out .exit)) r ⌝ }
+{
+    let p = put_scope_name(out, at, pair.kind as u32, pair.code as u32);
+    let p = put_type_remark(out, p, pair.kind as u32, pair.code);
+    let p = put_byte(out, p, b'\n');
+    let row = pair.row;
+    let other = pair.other;
+    let p = put_tie(out, p, row);
+    put_tie(out, p, other)
+}
+
+fn put_clash(out: &mut [u8], at: usize, one: &[u8], other: &[u8]) -> usize
+    ensures { λ r. ⌜ Wrote (now (out .entry)) at (w.clashLines (w.firstClash (now (one .entry)) (now (other .entry)))) (now (out .exit)) r ⌝ }
+{
+    let pair = first_clash(one, other);
+    if pair.found {
+        return put_pair(out, at, pair);
+    }
+    at
+}
+
+// The n codes from start on.
+fn put_codes(out: &mut [u8], at: usize, table: &[u8], start: usize, n: usize) -> usize
+    requires { ⌜ start + 2 * n < 2 ^ 32 ⌝ }
+    ensures { λ r. ⌜ Wrote (now (out .entry)) at (w.codeWords (t.codesAt (now (table .entry)) start n)) (now (out .exit)) r ⌝ }
+{
+    let mut p = at;
+    let mut place = start;
+    let mut left = n;
+    while 0 < left {
+        let q = put_byte(out, p, b' ');
+        p = put_hex(out, q, 4, word(table, place) as u32);
+        place += 2;
+        left -= 1;
+    }
+    p
+}
+
+fn put_head(out: &mut [u8], at: usize, table: &[u8]) -> usize
+    ensures { λ r. ⌜ Wrote (now (out .entry)) at (w.headLine (now (table .entry))) (now (out .exit)) r ⌝ }
+{
+    let p = put_text(out, at, b"layout ");
+    let p = put_hex(out, p, 2, byte(table, 0) as u32);
+    let p = put_text(out, p, b" header");
+    let p = put_codes(out, p, table, 4, byte(table, 1));
+    put_byte(out, p, b'\n')
+}
+
+// What is said of two tables where joining them gives the answer `number`.
+pub fn put_why(out: &mut [u8], at: usize, number: u32, one: &[u8], other: &[u8]) -> usize
+    ensures { λ r. ⌜ Wrote (now (out .entry)) at (w.why number (now (one .entry)) (now (other .entry))) (now (out .exit)) r ⌝ }
+{
+    if number == 16 {
+        let p = put_head(out, at, one);
+        return put_head(out, p, other);
+    }
+    if number == 17 {
+        return put_clash(out, at, one, other);
+    }
+    at
+}
