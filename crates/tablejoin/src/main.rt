@@ -1,0 +1,74 @@
+// Joins the two code tables that standard input holds behind the length of the first; specs/Said.antt says what is printed.
+use libc::STDIN_FILENO;
+use libc::STDOUT_FILENO;
+use listing::answer_line;
+use text::put_text;
+use text::refused;
+ghost use mathlib.Core.Path.{_≡_};
+ghost use mathlib.Core.List.{List};
+ghost use Prim.Native.Nat.{ℕ, _≤_, _<_};
+ghost use lib.ListN.{length};
+ghost use Rattle.rules.specs.Answer.{refusal};
+ghost use Rattle.rules.specs.Listing.{answerLine};
+ghost use Rattle.text.specs.Writer.{Wrote};
+ghost use Rattle.tabletext.specs.Input.{Began};
+ghost use Rattle.tablejoin.specs.Said.{said, joinSaid};
+
+// The answer to two tables, and behind it the joined table or why there is none.
+fn write_said(one: &[u8], other: &[u8], out: &mut [u8]) -> usize
+    ensures { λ r. ⌜ Wrote (now (out .entry)) 0 (said (now (one .entry)) (now (other .entry))) (now (out .exit)) r ⌝ }
+{
+    let mut table = [0; 65100];
+    let a = join::join(one, other, &mut table);
+    let p = answer_line(out, 0, a);
+    if a.number != 0 {
+        return joinwhy::put_why(out, p, a.number, one, other);
+    }
+    let size = a.first as usize;
+    put_text(out, p, &table[..size])
+}
+
+fn write_refusal(out: &mut [u8]) -> usize
+    ensures { λ r. ⌜ Wrote (now (out .entry)) 0 (answerLine (refusal 8)) (now (out .exit)) r ⌝ }
+{
+    let a = refused(8);
+    answer_line(out, 0, a)
+}
+
+fn write_input(input: &[u8], out: &mut [u8]) -> usize
+    ensures { λ r. ⌜ Wrote (now (out .entry)) 0 (joinSaid (now (input .entry))) (now (out .exit)) r ⌝ }
+{
+    if input.len() < 4 {
+        return write_refusal(out);
+    }
+    let size = leaf::u32_at(input, 0) as usize;
+    if input.len() - 4 < size {
+        return write_refusal(out);
+    }
+    let start = 4 + size;
+    write_said(&input[4..start], &input[start..], out)
+}
+
+// Prints what is said of all that standard input has, of which `input` was read into room for `room` bytes.
+fn print(input: &[u8], room: usize, text: &[u8])
+    requires { ⌜ ((all : List ℕ) → Began room (now input) all → now text ≡ joinSaid all) ⌝ }
+{
+    io::write_all(STDOUT_FILENO, text);
+}
+
+fn run(space: &mut [u8], out: &mut [u8])
+    requires { ⌜ (130204 < length (now space)) × (65151 ≤ length (now out)) ⌝ }
+{
+    let room = space.len();
+    let size = io::read_full(STDIN_FILENO, space);
+    let input = &space[..size];
+    let end = write_input(input, out);
+    print(input, room, &out[..end]);
+}
+
+// Two tables that are well formed have at most 65,100 bytes each, and their length four: one byte more is read, so that longer input is told.
+fn main() {
+    let mut space = [0; 130205];
+    let mut out = [0; 65151];
+    run(&mut space, &mut out);
+}
