@@ -182,6 +182,31 @@ def type_info():
     return bytes.fromhex("f7eacdac") + u32(1) + u32(0) + u32(len(items)) + bytes(16) + b"".join(items)
 
 
+# ---- code tables of three offices: north and south have rows in common, and what east has for a label's 61 south has otherwise
+
+NUMBER, TEXT = 0, 1
+FORM_SCOPE, ENTRY_SCOPE = 0, 2
+
+
+def codes(scopes, layout=0x13, header=(0x0099, 0x009A)):
+    head = bytes([layout, len(header)]) + u16(len(scopes)) + b"".join(map(u16, header))
+    contents = b"".join(bytes([kind]) + u16(code) + u16(len(rows)) for kind, code, rows in scopes)
+    return head + contents + b"".join(bytes([id]) + u16(target) + bytes([kind]) for _, _, rows in scopes for id, target, kind in rows)
+
+
+OFFICES = {
+    "north": codes([
+        (FORM_SCOPE, 0, [(0xDC, 0x009C, TEXT), (0xDD, 0x0011, TEXT)]),
+        (ENTRY_SCOPE, LABEL, [(0x60, 0x0036, NUMBER), (0xDC, 0x0014, TEXT), (0xDD, 0x0011, TEXT)]),
+    ]),
+    "south": codes([
+        (ENTRY_SCOPE, LABEL, [(0x60, 0x0036, NUMBER), (0x61, 0x008D, NUMBER), (0xDC, 0x0014, TEXT)]),
+        (ENTRY_SCOPE, TEXT_BOX, [(0xDC, 0x0014, TEXT), (0xDD, 0x001B, TEXT)]),
+    ]),
+    "east": codes([(ENTRY_SCOPE, LABEL, [(0x60, 0x0036, NUMBER), (0x61, 0x002C, NUMBER)])]),
+}
+
+
 def main():
     folder = pathlib.Path(sys.argv[1]) if len(sys.argv) > 1 else HERE
     table = (HERE.parent / "data" / "access2000.codes").read_bytes()
@@ -190,6 +215,8 @@ def main():
         (folder / f"{title}.blob").write_bytes(blob)
         (folder / f"{title}.input").write_bytes(u32(len(table)) + table + blob)
     (folder / "form.typeinfo").write_bytes(type_info())
+    for office, table in OFFICES.items():
+        (folder / f"{office}.codes").write_bytes(table)
 
 
 if __name__ == "__main__":
