@@ -46,6 +46,11 @@ take_file() { # FILE LIMIT
     fi || { say "$1 can't be read"; return 2; }
 }
 
+# What a file is called in a message.
+called() { # FILE
+    if [ "$1" = - ]; then echo "standard input"; else printf '%s\n' "$1"; fi
+}
+
 size_of() { # FILE
     wc -c <"$1" | tr -d ' '
 }

@@ -5,7 +5,7 @@ to=
 
 verb_usage() {
     cat <<'END'
-./oskuramos join -o OUT TABLE TABLE..     joins code tables: OUT holds every scope and row of each
+./oskuramos join TABLE TABLE.. -o OUT     joins code tables: OUT holds every scope and row of each
 
   -o OUT    the file to write; - is standard output
 
@@ -20,8 +20,8 @@ The order doesn't matter, nor does it matter which are joined first: it gives th
 A row is shown as ./oskuramos table shows it: id, target, kind of value, and the property's name behind #.
 Exit status: 0 joined; 1 refused; 2 a file couldn't be read or written.
 
-    ./oskuramos join -o all.codes examples/north.codes examples/south.codes
-    ./oskuramos join -o - examples/north.codes examples/south.codes | ./oskuramos table -
+    ./oskuramos join examples/north.codes examples/south.codes -o all.codes
+    ./oskuramos join examples/north.codes examples/south.codes -o - | ./oskuramos table -
 END
 }
 

@@ -62,7 +62,8 @@ verb_file() {
     case $first in
     "layout "*) cat "$scratch/shown" ;;
     *)
-        say "$1 is not well formed: $first"
+        say "$(called "$1") is not well formed: $first"
+        ! head -c 7 "$taken" | grep -q '^layout ' || say "it looks like the text of a table; --from makes a table of it"
         return 1
         ;;
     esac
@@ -75,7 +76,7 @@ make_table() {
     case $first in
     "table "*) size=${first#table } ;;
     *)
-        say "$from was refused: $first"
+        say "$(called "$from") was refused: $first"
         exit 1
         ;;
     esac

@@ -1,5 +1,5 @@
 -- What is found is a clash, and where two well-formed tables clash one is found: exactly where joining them answers 17.
-use Prim.Native.Nat.{ℕ, _+_, _*_}
+use Prim.Native.Nat.{ℕ}
 use native.Mathlib.Omega.{arith}
 use mathlib.Core.Path.{_≡_, refl, sym, ap, subst, _∙_}
 use mathlib.Core.Bool.{Bool, true, false, cond, not, _&&_}
@@ -9,7 +9,7 @@ use lib.Dec.{ltb}
 use lib.ListN.{length}
 use Rattle.rules.specs.Lists.{_>>=_, find}
 use Rattle.rules.specs.Texts.{TextExit, textExit}
-use Rattle.rules.specs.CodeTable.{Tie, Scope, key, idOf, scopes, wellFormed, isTied, scopeRows, rowOf, Holds}
+use Rattle.rules.specs.CodeTable.{Tie, Scope, key, idOf, scopes, wellFormed, isTied, scopeRows, rowOf}
 use Rattle.rules.specs.Join.{sameRow, rowsAgree, scopesAgree, joinScopes, sameHead, joined, refuse, joinExit}
 use Rattle.rules.proofs.ListLaws.{and-l, and-r, none-some}
 use Rattle.rules.proofs.CodeTableLaws.{found-held, held-found}

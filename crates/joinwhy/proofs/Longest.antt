@@ -1,5 +1,5 @@
 -- What is said has at most 131 bytes: a scope's line 41, a row's 45. The two heads of well-formed tables have 37 each.
-use Prim.Native.Nat.{ℕ, zero, suc, _+_, _*_, _≤_}
+use Prim.Native.Nat.{ℕ, _+_, _*_, _≤_}
 use native.Mathlib.Omega.{arith}
 use mathlib.Core.Path.{_≡_, refl}
 use mathlib.Core.Bool.{Bool, true, false, cond}
@@ -8,7 +8,7 @@ use mathlib.Core.Option.{Option, none, some}
 use borrow.Author.Tests.{eqb-true}
 use lib.Dec.{ltb, eqb}
 use lib.ListN.{length, length-append}
-use Rattle.rules.specs.CodeTable.{layout, header, headerCount, codesAt, wellFormed}
+use Rattle.rules.specs.CodeTable.{layout, header, headerCount, wellFormed}
 use Rattle.rules.proofs.CodeTableLaws.{formed}
 use Rattle.listing.proofs.Longest.{hex-length}
 use Rattle.tabletext.proofs.Longest.{length-codes, scope-name-short, type-short, row-short}

@@ -4,10 +4,9 @@ use native.Mathlib.Nat.{not-suc-le-zero}
 use native.Mathlib.Numerals.{sub-one}
 use native.Mathlib.Omega.{arith}
 use mathlib.Core.Path.{_≡_, refl, sym, ap, _∙_}
-use mathlib.Core.Bool.{Bool, true, false, cond, _&&_}
-use mathlib.Core.List.{List, [], _∷_}
+use mathlib.Core.Bool.{true, false, cond}
+use mathlib.Core.List.{List}
 use mathlib.Core.Option.{Option, none, some}
-use lib.Dec.{eqb}
 use borrow.Author.Tests.{eq-eqb, ne-eqb, eqb-true}
 use Rattle.rules.specs.Lists.{_>>=_, find}
 use Rattle.rules.specs.CodeTable.{Tie, tieAt, tiesAt, isTied}
@@ -19,7 +18,7 @@ use Rattle.joinwhy.specs.declared.Row.{Row}
 use Rattle.joinwhy.specs.declared.Another.{Another}
 use Rattle.joinwhy.specs.declared.Pair.{Pair}
 use Rattle.joinwhy.specs.Why.{Clash, against, orElse, rowsClash}
-use Rattle.joinwhy.specs.Found.{tieOf, rowFrom, asRow, asAnother, asPair}
+use Rattle.joinwhy.specs.Found.{tieOf, asRow, asAnother, asPair}
 
 pub no-way : {P : Type 0} → true ≡ false → P
 no-way e = absurd (let z : _≡_ {A = ℕ} 0 1 = cc in omega arith)

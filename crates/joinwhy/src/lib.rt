@@ -16,7 +16,7 @@ ghost use mathlib.Core.Path.{_≡_};
 ghost use Prim.Native.Nat.{_+_, _*_, _<_, _^_};
 ghost use mathlib.Core.Option.{none};
 ghost use Rattle.rules.specs.CodeTable as t;
-ghost use Rattle.coderows.specs.Look.{Listed, Formed, Sorted, bodyRows};
+ghost use Rattle.coderows.specs.Look.{Listed, Formed, Sorted};
 ghost use Rattle.text.specs.Writer.{Wrote};
 ghost use Rattle.joinwhy.specs.Why as w;
 ghost use Rattle.tabletext.specs.Text.{rowLine};

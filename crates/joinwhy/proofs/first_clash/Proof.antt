@@ -1,8 +1,6 @@
-use mathlib.Core.Path.{_≡_, sym, ap, _∙_}
-use Prim.Native.Nat.{ℕ}
+use mathlib.Core.Path.{sym, ap, _∙_}
 use borrow.Author.Needs.{needs}
 use denote.Ref.{now}
-use lib.ListN.{length-replicate}
 use Rattle.joinwhy.specs.Found.{asPair}
 use Rattle.joinwhy.proofs.Scopes.{not-true, not-false, first-formed, one-bad, other-bad}
 use Rattle.joinwhy.proofs.first_clash.Statement.{statement}
