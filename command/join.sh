@@ -10,7 +10,7 @@ verb_usage() {
   -o OUT    the file to write; - is standard output
 
 The order doesn't matter, nor does it matter which are joined first: it gives the same bytes, or is refused. That is proved
-(crates/claims/specs/Joining.antt). Joining a table with itself gives it back. Nothing is written where joining is refused:
+(crates/claims/specs/JoiningMany.antt). Joining a table with itself gives it back. Nothing is written where joining is refused:
 
   a table isn't well formed                 ./oskuramos table TABLE says where it breaks which rule
   layout byte or header codes differ        each table's are shown; they aren't for the same streams
