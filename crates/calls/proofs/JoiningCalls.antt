@@ -5,11 +5,11 @@ use mathlib.Core.List.{List, List·Permᴰ}
 use mathlib.Core.Option.{none, some}
 use Rattle.rules.specs.Texts.{TextExit}
 use Rattle.rules.specs.Join.{joinExit, result}
 use Rattle.claims.specs.JoiningMany.{Plan, tables, outcome, Ready}
-use Rattle.claims.specs.JoiningCalls.{Carried, PlansCarried}
-use Rattle.claims.specs.Always.{Fn, Call, handed, seen}
-use Rattle.claims.specs.Functions.{Join}
+use Rattle.calls.specs.JoiningCalls.{Carried, PlansCarried}
+use Rattle.calls.specs.Always.{Fn, Call, handed, seen}
+use Rattle.calls.specs.Functions.{Join}
 use Rattle.claims.proofs.JoiningMany.{Bytes?, both, missing, any-order}
 
 abbrev pub join-of : Join → TextExit
 join-of a = joinExit (a .one) (a .other) (a .out)

@@ -31,20 +31,20 @@ use Rattle.leaf.specs.Wide.{wordsOf, bitsOf}
 use Rattle.names.specs.Lookup.{named}
 use Rattle.blob.specs.Exit.{partPlace}
 use Rattle.oskuramos.specs.Handed.{handedPart}
 use Rattle.claims.specs.Answers.{GuidAnswer, LabelAnswer}
 use Rattle.claims.specs.Demand1.{Blobs, TypeInfos, Texts}
 use Rattle.claims.specs.Demand2.{Given, Enough, Spelled, Judges}
 use Rattle.claims.specs.Demand3.{Successor, Lent, SameRoom, SameBut, Same}
 use Rattle.claims.specs.Joining.{Table, Roomy, JoinAnswer, Together, Gains}
 use Rattle.claims.specs.Grammar.{Stream, _spells_}
 use Rattle.claims.specs.Stored.{storedOf, spotSays}
 use Rattle.claims.specs.LaterTree as later
 use Rattle.claims.specs.Counts.{Counts, InfoCounts}
 use Rattle.claims.specs.Rooms as rooms
 use Rattle.claims.specs.RowChecks.{Checks, SeenItems}
-use Rattle.claims.specs.Always.{Always, OneResult, Fn, Every, Gives, Call, handed, seen}
-use Rattle.claims.specs.JoiningCalls.{PlansCarried}
-use Rattle.claims.specs.Functions.{
+use Rattle.calls.specs.Always.{Always, OneResult, Fn, Every, Gives, Call, handed, seen}
+use Rattle.calls.specs.JoiningCalls.{PlansCarried}
+use Rattle.calls.specs.Functions.{
   Blob,
   TypeInfo,
   Guid,

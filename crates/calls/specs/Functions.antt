@@ -63,7 +63,7 @@ use Rattle.oskuramos.proofs.oskuramos_value_name as oskuramos_value_name
 use Rattle.oskuramos.proofs.oskuramos_entry_value as oskuramos_entry_value
 use Rattle.oskuramos.proofs.oskuramos_stored_value as oskuramos_stored_value
 use Rattle.oskuramos.proofs.«oskuramos_value_as» as «oskuramos_value_as»
-use Rattle.claims.specs.Always.{Fn}
+use Rattle.calls.specs.Always.{Fn}
 
 -- ---- what the functions are handed
 abbrev Slice : Type 0

@@ -14,7 +14,7 @@ use denote.Triple.Entry.{Args, Vals, Res, onEntry}
 use denote.Triple.Spec.{Meets}
 use denote.Triple.Weaken.{weaken, weaken-under}
 use ghost.Atoms.{sem}
-use Rattle.claims.specs.Always.{Saying, Function, Always}
+use Rattle.calls.specs.Always.{Saying, Function, Always}
 
 pub both-facts : {M : Type 1} (𝓤 : URA M) (φ ψ : Type 0) → ent 𝓤 (sep 𝓤 (fact 𝓤 φ) (fact 𝓤 ψ)) (fact 𝓤 (φ × ψ))
 both-facts 𝓤 φ ψ =

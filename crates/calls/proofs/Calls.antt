@@ -16,8 +16,8 @@ use Rattle.rules.specs.Join.{joinExit, result}
 use Rattle.rules.specs.NamePart.{partBytes}
 use Rattle.blob.specs.Exit.{partPlace}
 use Rattle.oskuramos.specs.Handed.{handedAnswer}
 use Rattle.claims.specs.Demand3.{SameBut, Same}
-use Rattle.claims.specs.Always.{Saying, Always, OneResult, Fn, Every, Gives, Call, handed, seen}
+use Rattle.calls.specs.Always.{Saying, Always, OneResult, Fn, Every, Gives, Call, handed, seen}
 use Rattle.codetable.proofs.well_formed.Met as well-formed-code
 use Rattle.join.proofs.join.Met as join-code
 use Rattle.room.proofs.room_for.Met as room-code
@@ -71,20 +71,20 @@ use Rattle.oskuramos.proofs.oskuramos_read_type_info.Reads as exported-read-typ
 use Rattle.oskuramos.proofs.oskuramos_guid_text.Reads as exported-guid-text-clauses
 use Rattle.oskuramos.proofs.oskuramos_label_text.Reads as exported-label-text-clauses
 use Rattle.oskuramos.proofs.oskuramos_join.Reads as exported-join-clauses
-use Rattle.claims.specs.Functions as f
-use Rattle.claims.specs.Functions.{Blob}
-use Rattle.claims.specs.Calls as calls
-use Rattle.claims.proofs.Always.{both-facts, three-facts, so, told, Tells, knowing}
-use Rattle.claims.proofs.LentBytes.{stream-told, one-told, other-told}
+use Rattle.calls.specs.Functions as f
+use Rattle.calls.specs.Functions.{Blob}
+use Rattle.calls.specs.Calls as calls
+use Rattle.calls.proofs.Always.{both-facts, three-facts, so, told, Tells, knowing}
+use Rattle.calls.proofs.LentBytes.{stream-told, one-told, other-told}
 use Rattle.claims.proofs.Demand1.{demand1}
 use Rattle.claims.proofs.Demand2.{demand2}
 use Rattle.claims.proofs.Demand3.{demand3}
 use Rattle.claims.proofs.Joining.{wish9, wish12}
-use Rattle.claims.proofs.JoiningCalls.{join-of, plans-carried}
+use Rattle.calls.proofs.JoiningCalls.{join-of, plans-carried}
 use Rattle.claims.proofs.LaterTree.{later-tree}
 use Rattle.claims.proofs.Counts.{counts-hold}
 use Rattle.claims.proofs.RowChecks.{row-checks}
 use Rattle.claims.proofs.Rooms.{rooms}
 
 -- ---- a function whose contract is an equation with a definition
 record Proved {A B : Type 0} (f : Fn A B) (definition : A → B) : Type 2 where

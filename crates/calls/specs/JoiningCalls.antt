@@ -5,9 +5,9 @@ use mathlib.Core.List.{List, List·Permᴰ}
 use mathlib.Core.Option.{Option, none, some}
 use Rattle.rules.specs.Texts.{TextExit}
 use Rattle.rules.specs.Join.{result}
 use Rattle.claims.specs.JoiningMany.{Plan, tables, outcome, Ready}
-use Rattle.claims.specs.Always.{Fn, Call, handed, seen}
-use Rattle.claims.specs.Functions.{Join}
+use Rattle.calls.specs.Always.{Fn, Call, handed, seen}
+use Rattle.calls.specs.Functions.{Join}
 
 -- a plan carried out by calls of f, with what came of it
 pub data Carried (f : Fn Join TextExit) : Plan → Option (List ℕ) → Type 0 where
