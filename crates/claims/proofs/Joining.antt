@@ -18,12 +18,12 @@ use Rattle.rules.specs.Texts.{TextExit, textExit}
 use Rattle.rules.specs.Join.{joinScopes, sameRow, rowsAgree, scopesAgree, tableBytes, sameHead, joined, refuse, joinExit, result}
 use Rattle.rules.specs.declared.Answer.{Answer}
 use Rattle.rules.proofs.ListLaws.{and-l, and-r, none-some}
-use Rattle.rules.proofs.AgreeLaws.{apart, agree-there}
-use Rattle.rules.proofs.TableBytesLaws.{layout-back, header-back, scopes-read, table-formed, written-again}
-use Rattle.rules.proofs.JoinLaws.{one-row, row-itself, one-key, good-there, good-fits}
-use Rattle.rules.proofs.JoinedLaws.{head-same, same-head, good, at-most, Joins, exit-joins, result-joins, layout-joined, header-joined, scopes-joined, formed-joined, bytes-joined, joins-result, joins-itself, joined-itself, exit-turned, grouped, regrouped}
-use Rattle.rules.proofs.LongestTable.{longest, longest-formed, longest-length, longest-bytes}
-use Rattle.rules.proofs.JoinedHolds.{joined-scope, joined-row, extends-first, extends-second}
+use Rattle.joinlaws.proofs.AgreeLaws.{apart, agree-there}
+use Rattle.joinlaws.proofs.TableBytesLaws.{layout-back, header-back, scopes-read, table-formed, written-again}
+use Rattle.joinlaws.proofs.JoinLaws.{one-row, row-itself, one-key, good-there, good-fits}
+use Rattle.joinlaws.proofs.JoinedLaws.{head-same, same-head, good, at-most, Joins, exit-joins, result-joins, layout-joined, header-joined, scopes-joined, formed-joined, bytes-joined, joins-result, joins-itself, joined-itself, exit-turned, grouped, regrouped}
+use Rattle.joinlaws.proofs.LongestTable.{longest, longest-formed, longest-length, longest-bytes}
+use Rattle.joinlaws.proofs.JoinedHolds.{joined-scope, joined-row, extends-first, extends-second}
 use Rattle.claims.specs.Demand1.{Refused}
 use Rattle.claims.specs.Demand3.{Successor, Learned, RowSays, Lent, SameRoom}
 use Rattle.claims.specs.Joining.{Table, Roomy, Sayable, Says, Alike, Clash, JoinAnswer, Together, Gains, Longest, Wish9, Wish12}

@@ -127,7 +127,7 @@ pub record Wish12 : Type 0 where
   pub two-orders : (a b out out′ : List ℕ) → Table a → Table b → Roomy out → Roomy out′ → result (joinExit a b out) ≡ result (joinExit b a out′)
   -- more than asked: into one buffer, whatever stands there and however short it is, all that a caller sees is the same, the number too
   pub same-exit : (a b out : List ℕ) → joinExit a b out ≡ joinExit b a out
-  -- "the two groupings of three are both joined with the same bytes, or both refused, the number possibly another". (Rules' WorkedOrder.antt has three tables
+  -- "the two groupings of three are both joined with the same bytes, or both refused, the number possibly another". (WorkedOrder.antt of `joinlaws` has three tables
   -- that are refused with 17 in one grouping and with 16 in the other, and three with 18 and 17. JoiningMany has more than three)
   -- (each call has a buffer of its own; that of a second call may be another for each table that the first gives)
   pub two-groupings : (a b c out₁ out₃ : List ℕ) (out₂ out₄ : List ℕ → List ℕ) → Table a → Table b → Table c

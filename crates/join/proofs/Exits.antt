@@ -9,8 +9,8 @@ use borrow.Author.Tests.{lt-ltb}
 use Rattle.rules.specs.CodeTable.{headerCount, scopes, rowCount, wellFormed}
 use Rattle.rules.specs.Texts.{textExit}
 use Rattle.rules.specs.Join.{joinScopes, scopesAgree, sameHead, tableBytes, joined, refuse, joinExit}
-use Rattle.rules.proofs.TableBytesLaws.{length-codesAt}
-use Rattle.rules.proofs.JoinedLaws.{same-head, exit-joins, joined-length}
+use Rattle.joinlaws.proofs.TableBytesLaws.{length-codesAt}
+use Rattle.joinlaws.proofs.JoinedLaws.{same-head, exit-joins, joined-length}
 use Rattle.join.specs.declared.Sized.{Sized}
 use Rattle.join.specs.Walk.{sized, headBytes, contentsBytes, bodiesBytes}
 

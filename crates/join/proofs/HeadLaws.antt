@@ -10,8 +10,8 @@ use Rattle.rules.specs.Lists.{concat, same}
 use Rattle.rules.specs.Bytes.{u16}
 use Rattle.rules.specs.CodeTable.{codesAt, layout, headerCount, header}
 use Rattle.rules.specs.Join.{twoBytes, sameHead}
-use Rattle.rules.proofs.TableBytesLaws.{length-codesAt}
-use Rattle.rules.proofs.JoinedLaws.{same-true}
+use Rattle.joinlaws.proofs.TableBytesLaws.{length-codesAt}
+use Rattle.joinlaws.proofs.JoinedLaws.{same-true}
 use Rattle.codetable.proofs.Steps.{codes-next}
 use Rattle.join.specs.Walk.{codesBytes, headBytes}
 

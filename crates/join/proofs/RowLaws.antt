@@ -11,8 +11,8 @@ use Rattle.rules.specs.Lists.{merge, agree, all}
 use Rattle.rules.specs.Bytes.{byte}
 use Rattle.rules.specs.CodeTable.{Tie, idOf, tieAt, tiesAt}
 use Rattle.rules.specs.Join.{joinRows, sameRow}
-use Rattle.rules.proofs.MergeLaws.{Ascends, length-most}
-use Rattle.rules.proofs.TableBytesLaws.{length-tiesAt}
+use Rattle.joinlaws.proofs.MergeLaws.{Ascends, length-most}
+use Rattle.joinlaws.proofs.TableBytesLaws.{length-tiesAt}
 use Rattle.codetable.proofs.Steps.{ties-next}
 use Rattle.join.specs.declared.Rows.{Rows}
 use Rattle.join.specs.declared.Row.{Row}

@@ -11,10 +11,10 @@ use Rattle.rules.specs.CodeTable.{Tie, Scope, idOf, key, keyOf, tiesAt, scopesA
 use Rattle.rules.specs.Join.{joinRows, joinScope, joinScopes, sameRow, rowsAgree, scopesAgree, twoBytes, scopeBytes}
 use Rattle.rules.proofs.ListLaws.{and-l, and-r}
 use Rattle.rules.proofs.CodeTableLaws.{formed}
-use Rattle.rules.proofs.MergeLaws.{Ascends}
-use Rattle.rules.proofs.TableBytesLaws.{length-tiesAt}
-use Rattle.rules.proofs.JoinLaws.{ScopeOk, scope-ok}
-use Rattle.rules.proofs.JoinedLaws.{at-most, scopes-most, rows-most}
+use Rattle.joinlaws.proofs.MergeLaws.{Ascends}
+use Rattle.joinlaws.proofs.TableBytesLaws.{length-tiesAt}
+use Rattle.joinlaws.proofs.JoinLaws.{ScopeOk, scope-ok}
+use Rattle.joinlaws.proofs.JoinedLaws.{at-most, scopes-most, rows-most}
 use Rattle.codetable.proofs.Steps.{scopes-next}
 use Rattle.join.specs.declared.Scopes.{Scopes}
 use Rattle.join.specs.declared.Taken.{Taken}

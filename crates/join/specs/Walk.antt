@@ -9,7 +9,7 @@ use Rattle.rules.specs.Lists.{concat, all, ascends, agree}
 use Rattle.rules.specs.Bytes.{byte, u16}
 use Rattle.rules.specs.CodeTable.{Tie, Scope, idOf, keyOf, key, tiesAt, scopesAt, layout, header, scopeCount, contentsAt, bodiesAt, scopeOk, rowCount, wellFormed}
 use Rattle.rules.specs.Join.{joinRows, joinScope, joinScopes, sameRow, rowsAgree, scopesAgree, twoBytes, tiesBytes, scopeBytes}
-use Rattle.rules.proofs.JoinTurns.{Turn}
+use Rattle.joinlaws.proofs.JoinTurns.{Turn}
 use Rattle.join.specs.declared.Rows.{Rows}
 use Rattle.join.specs.declared.Scopes.{Scopes}
 use Rattle.join.specs.declared.Row.{Row}

@@ -13,9 +13,9 @@ use Rattle.rules.specs.CodeTable.{Tie, Scope, key, idOf, scopes, wellFormed, is
 use Rattle.rules.specs.Join.{sameRow, rowsAgree, scopesAgree, joinScopes, sameHead, joined, refuse, joinExit}
 use Rattle.rules.proofs.ListLaws.{and-l, and-r, none-some}
 use Rattle.rules.proofs.CodeTableLaws.{found-held, held-found}
-use Rattle.rules.proofs.AgreeLaws.{apart, agree-there}
-use Rattle.rules.proofs.JoinLaws.{one-key, one-row, row-itself, good-there}
-use Rattle.rules.proofs.JoinedLaws.{good}
+use Rattle.joinlaws.proofs.AgreeLaws.{apart, agree-there}
+use Rattle.joinlaws.proofs.JoinLaws.{one-key, one-row, row-itself, good-there}
+use Rattle.joinlaws.proofs.JoinedLaws.{good}
 use Rattle.joinwhy.specs.Why.{Clash, against, orElse, rowsClash, scopesClash, firstClash, Clashes}
 use Rattle.joinwhy.proofs.Rows.{no-way}
 use Rattle.joinwhy.proofs.Scopes.{not-false, first-formed}

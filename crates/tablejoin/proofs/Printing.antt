@@ -11,7 +11,7 @@ use lib.Seq.{take-all, length-take-le}
 use Rattle.rules.specs.Answer.{refusal}
 use Rattle.rules.specs.CodeTable.{wellFormed}
 use Rattle.rules.specs.Listing.{answerLine, tableLength, tableIn, blobIn}
-use Rattle.rules.proofs.JoinedLaws.{at-most}
+use Rattle.joinlaws.proofs.JoinedLaws.{at-most}
 use Rattle.listing.proofs.Longest.{answer-short}
 use Rattle.listing.proofs.Placed.{held}
 use Rattle.text.specs.Writer.{Wrote}

@@ -7,7 +7,7 @@ use borrow.Author.Needs.{needs}
 use Rattle.rules.specs.Answer.{answer}
 use Rattle.rules.specs.CodeTable.{wellFormed}
 use Rattle.rules.specs.Join.{sameHead, joined}
-use Rattle.rules.proofs.JoinedLaws.{rows-most}
+use Rattle.joinlaws.proofs.JoinedLaws.{rows-most}
 use Rattle.text.proofs.Chain.{_⨟_}
 use Rattle.text.proofs.Written.{shown, room-exit, no-room-exit}
 use Rattle.join.proofs.Exits.{exit-first, exit-second, exit-heads, exit-clash, agrees, rows-is, exit-many, exit-text, size-is, parts-are}

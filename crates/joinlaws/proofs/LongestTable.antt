@@ -7,13 +7,13 @@ use mathlib.Core.List.{List, [], _∷_, map}
 use lib.Dec.{ltb, lit<}
 use lib.ListN.{length}
 use borrow.Author.Tests.{ltb-true}
 use Rattle.rules.specs.Lists.{concat, all, ascends}
 use Rattle.rules.specs.Bytes.{Bytes}
 use Rattle.rules.specs.CodeTable.{Tie, Scope, key, tiesOk, scopeOk, rowCount, wellFormed}
 use Rattle.rules.specs.Join.{tableBytes}
 use Rattle.rules.proofs.ListLaws.{and-l, and-r, all-there}
-use Rattle.rules.proofs.TableBytesLaws.{Fits, length-table, table-formed}
-use Rattle.rules.proofs.JoinLaws.{codeFits, good-fits}
+use Rattle.joinlaws.proofs.TableBytesLaws.{Fits, length-table, table-formed}
+use Rattle.joinlaws.proofs.JoinLaws.{codeFits, good-fits}
 
 -- n rows, with the ids from k on
 unfoldable pub rowsFrom : ℕ → ℕ → List Tie

@@ -1,0 +1,10 @@
+-- Laws about the definition of joining, for `claims` and for the crates whose code joins.
+pub mod MergeLaws
+pub mod AgreeLaws
+pub mod TableBytesLaws
+pub mod JoinLaws
+pub mod JoinTurns
+pub mod JoinedLaws
+pub mod JoinedHolds
+pub mod LongestTable
+pub mod WorkedOrder

@@ -1,0 +1,1 @@
+// Nothing to run: laws about joined code tables (`rules`, specs/Join.antt) stand in proofs/.
