@@ -9,10 +9,6 @@ use lines::print_answer;
 use lines::print_bytes;
 use lines::print_kept;
 use lines::print_rows;
-ghost use Prim.Native.Nat.{_<_};
-ghost use lib.ListN.{length};
-ghost use Rattle.rules.specs.NameTables.{controlTypeNames};
-ghost use Rattle.names.specs.Lookup.{Lent, AllLent};
 
 // What rows hold before a case, so that a word which wasn't written shows.
 const UNWRITTEN: u32 = 0xDEAD_BEEF;
@@ -122,116 +118,58 @@ fn replay_join(bytes: &[u8], lent: u32, size: u32, out: &mut [u8]) {
     print_kept(behind(room, answer.first as usize), UNTOUCHED, out);
 }
 
+fn print_name(name: names::Name, out: &mut [u8]) {
+    let bytes = name.bytes;
+    print_bytes(front(&bytes, name.len), out);
+}
+
 // No table has an id of more than 16 bits.
-fn print_name(ids: &[u16], rows: &[[u8; 26]], id: u32, out: &mut [u8])
-    requires { ⌜ 0 < length (now rows) ⌝ }
-{
+fn replay_names(id: u32, out: &mut [u8]) {
     if 0xffff < id {
         return;
     }
-    print_bytes(names::name_in(ids, rows, id as u16), out);
+    let id = id as u16;
+    print_name(names::text_name(id), out);
+    print_name(names::number_name(id), out);
+    print_name(names::bytes_name(id), out);
+    print_name(names::control_type_name(id), out);
 }
 
-fn replay_names<'a>(
-    text_ids: &[u16],
-    text_rows: &'a [[u8; 26]],
-    number_ids: &[u16],
-    number_rows: &'a [[u8; 26]],
-    bytes_ids: &[u16],
-    bytes_rows: &'a [[u8; 26]],
-    type_ids: &[u16],
-    type_rows: &'a [[u8; 26]],
-    id: u32,
-    out: &mut [u8],
-)
-    requires { ⌜ AllLent (now «text_ids») (now «text_rows») (now «number_ids») (now «number_rows») (now «bytes_ids») (now «bytes_rows») ⌝ }
-    requires { ⌜ Lent controlTypeNames (now «type_ids») (now «type_rows») ⌝ }
-{
-    print_name(text_ids, text_rows, id, out);
-    print_name(number_ids, number_rows, id, out);
-    print_name(bytes_ids, bytes_rows, id, out);
-    print_name(type_ids, type_rows, id, out);
-}
-
-fn replay_listing<'a>(
-    text_ids: &[u16],
-    text_rows: &'a [[u8; 26]],
-    number_ids: &[u16],
-    number_rows: &'a [[u8; 26]],
-    bytes_ids: &[u16],
-    bytes_rows: &'a [[u8; 26]],
-    type_ids: &[u16],
-    type_rows: &'a [[u8; 26]],
-    input: &[u8],
-    out: &mut [u8],
-)
-    requires { ⌜ AllLent (now «text_ids») (now «text_rows») (now «number_ids») (now «number_rows») (now «bytes_ids») (now «bytes_rows») ⌝ }
-    requires { ⌜ Lent controlTypeNames (now «type_ids») (now «type_rows») ⌝ }
-{
+fn replay_listing(input: &[u8], out: &mut [u8]) {
+    let text_ids = nametables::text_ids();
+    let text_rows = nametables::text_rows();
+    let number_ids = nametables::number_ids();
+    let number_rows = nametables::number_rows();
+    let bytes_ids = nametables::bytes_ids();
+    let bytes_rows = nametables::bytes_rows();
+    let type_ids = nametables::control_type_ids();
+    let type_rows = nametables::control_type_rows();
     let end = lister::write_listing(
         input,
         false,
-        text_ids,
-        text_rows,
-        number_ids,
-        number_rows,
-        bytes_ids,
-        bytes_rows,
-        type_ids,
-        type_rows,
+        &text_ids,
+        &text_rows,
+        &number_ids,
+        &number_rows,
+        &bytes_ids,
+        &bytes_rows,
+        &type_ids,
+        &type_rows,
         out,
     );
     io::write_all(STDOUT_FILENO, front(out, end));
 }
 
 // Prints what a case gives; nothing for a kind that isn't known.
-fn replay_case<'a>(
-    text_ids: &[u16],
-    text_rows: &'a [[u8; 26]],
-    number_ids: &[u16],
-    number_rows: &'a [[u8; 26]],
-    bytes_ids: &[u16],
-    bytes_rows: &'a [[u8; 26]],
-    type_ids: &[u16],
-    type_rows: &'a [[u8; 26]],
-    head: Head,
-    codes: &[u8],
-    bytes: &[u8],
-    out: &mut [u8],
-)
-    requires { ⌜ AllLent (now «text_ids») (now «text_rows») (now «number_ids») (now «number_rows») (now «bytes_ids») (now «bytes_rows») ⌝ }
-    requires { ⌜ Lent controlTypeNames (now «type_ids») (now «type_rows») ⌝ }
-{
+fn replay_case(head: Head, codes: &[u8], bytes: &[u8], out: &mut [u8]) {
     let kind = head.kind;
     match kind {
         1 => replay_blob(codes, bytes, head.first, head.second, out),
         2 => replay_type_info(bytes, head.first, out),
-        3 => replay_listing(
-            text_ids,
-            text_rows,
-            number_ids,
-            number_rows,
-            bytes_ids,
-            bytes_rows,
-            type_ids,
-            type_rows,
-            bytes,
-            out,
-        ),
+        3 => replay_listing(bytes, out),
         4 => replay_guid(bytes, head.first, out),
         5 => replay_label(head.second, head.first, out),
-        6 => replay_names(
-            text_ids,
-            text_rows,
-            number_ids,
-            number_rows,
-            bytes_ids,
-            bytes_rows,
-            type_ids,
-            type_rows,
-            head.first,
-            out,
-        ),
+        6 => replay_names(head.first, out),
         7 => replay_name_part(bytes, head.first, head.second, out),
         8 => replay_join(bytes, head.first, head.second, out),
         _ => {}
@@ -239,22 +177,7 @@ fn replay_case<'a>(
 }
 
 // Replays frame after frame, as far as whole frames that fit go. A code table stays for the Blobs behind it.
-fn replay<'a>(
-    text_ids: &[u16],
-    text_rows: &'a [[u8; 26]],
-    number_ids: &[u16],
-    number_rows: &'a [[u8; 26]],
-    bytes_ids: &[u16],
-    bytes_rows: &'a [[u8; 26]],
-    type_ids: &[u16],
-    type_rows: &'a [[u8; 26]],
-    codes: &mut [u8],
-    input: &mut [u8],
-    out: &mut [u8],
-)
-    requires { ⌜ AllLent (now «text_ids») (now «text_rows») (now «number_ids») (now «number_rows») (now «bytes_ids») (now «bytes_rows») ⌝ }
-    requires { ⌜ Lent controlTypeNames (now «type_ids») (now «type_rows») ⌝ }
-{
+fn replay(codes: &mut [u8], input: &mut [u8], out: &mut [u8]) {
     let mut turns = u64::MAX;
     let mut codes_size = 0;
     while 0 < turns {
@@ -273,47 +196,14 @@ fn replay<'a>(
         if !read_bytes(input, size) {
             return;
         }
-        replay_case(
-            text_ids,
-            text_rows,
-            number_ids,
-            number_rows,
-            bytes_ids,
-            bytes_rows,
-            type_ids,
-            type_rows,
-            head,
-            front(codes, codes_size),
-            front(input, size),
-            out,
-        );
+        replay_case(head, front(codes, codes_size), front(input, size), out);
     }
 }
 
 // The buffer holds the longest listing. A B line is shorter: three bytes for each byte of a case, its letter and the line's end.
 fn main() {
-    let text_ids = nametables::text_ids();
-    let text_rows = nametables::text_rows();
-    let number_ids = nametables::number_ids();
-    let number_rows = nametables::number_rows();
-    let bytes_ids = nametables::bytes_ids();
-    let bytes_rows = nametables::bytes_rows();
-    let type_ids = nametables::control_type_ids();
-    let type_rows = nametables::control_type_rows();
     let mut codes = [0u8; 32768];
     let mut input = [0u8; 32768];
     let mut out = [0u8; 114739];
-    replay(
-        &text_ids,
-        &text_rows,
-        &number_ids,
-        &number_rows,
-        &bytes_ids,
-        &bytes_rows,
-        &type_ids,
-        &type_rows,
-        &mut codes,
-        &mut input,
-        &mut out,
-    );
+    replay(&mut codes, &mut input, &mut out);
 }

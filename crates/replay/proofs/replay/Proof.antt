@@ -6,11 +6,11 @@ use Rattle.replay.proofs.replay.Statement.{statement}
 use Rattle.replay.proofs.replay.Tie as tie
 
 abbrev Inv-loop : tie.InvT-loop
-Inv-loop text-ids text-rows number-ids number-rows bytes-ids bytes-rows type-ids type-rows codes₀ input₀ out₀ turns₀ codes-size₀ codes input out turns codes-size =
+Inv-loop codes₀ input₀ out₀ turns₀ codes-size₀ codes input out turns codes-size =
     (length codes ≡ length codes₀) × (length input ≡ length input₀) × (length out ≡ length out₀)
 
 abbrev μ-loop : tie.MeasureT-loop
-μ-loop text-ids text-rows number-ids number-rows bytes-ids bytes-rows type-ids type-rows codes₀ input₀ out₀ turns₀ codes-size₀ codes input out turns codes-size = turns
+μ-loop codes₀ input₀ out₀ turns₀ codes-size₀ codes input out turns codes-size = turns
 
 loop-holds : tie.Need-loop-holds Inv-loop μ-loop
 loop-holds c = (omega arith, omega arith, omega arith)

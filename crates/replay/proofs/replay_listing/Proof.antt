@@ -1,11 +1,11 @@
 use borrow.Author.Needs.{needs}
 use Rattle.names.proofs.InOrder.{texts, numbers, bytes, control-types}
-use Rattle.replay.proofs.main.Statement.{statement}
-use Rattle.replay.proofs.main.Tie as tie
+use Rattle.replay.proofs.replay_listing.Statement.{statement}
+use Rattle.replay.proofs.replay_listing.Tie as tie
 
-replay-requires : tie.Need-replay-requires
-replay-requires c κs =
-    let t = c .before .before .before .before .before .before .before .before .before .before .before in
+write-listing-requires : tie.Need-write-listing-requires
+write-listing-requires c κs =
+    let t = c .before .before .before .before .before .before .before .before .before in
     let b = t .before .before in
     let n = b .before .before in
     let x = n .before .before in (
@@ -17,13 +17,12 @@ replay-requires c κs =
       record { in-order = control-types; ids-are = t .before .control-type-ids .ensures; rows-are = t .control-type-rows .ensures },
     )
 
-pub main-spec : {M : Type 1} → statement M
-main-spec =
+pub replay-listing-spec : {M : Type 1} → statement M
+replay-listing-spec =
     tie.close
     (tie.spec
     (λ c κs. search needs) (λ c κs. search needs) (λ c κs. search needs) (λ c κs. search needs) (λ c κs. search needs)
     (λ c κs. search needs) (λ c κs. search needs) (λ c κs. search needs) (λ c. search needs) (λ c. search needs)
     (λ c. search needs) (λ c. search needs) (λ c. search needs) (λ c. search needs) (λ c. search needs) (λ c. search needs)
-    (λ c. search needs) (λ c. search needs) (λ c. search needs)
-    replay-requires
-    (λ c. search needs))
+    write-listing-requires
+    (λ c κs. search needs) (λ c κs. search needs) (λ c. search needs) (λ c. search needs))
