@@ -1,6 +1,3 @@
--- Laws of the search for a broken rule, and of the line that says it.
+-- Laws of the search for a broken rule.
 pub mod Turns
 pub mod Found
-pub mod Sentences
-pub mod Longest
-pub mod Printed

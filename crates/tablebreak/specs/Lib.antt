@@ -1,4 +1,2 @@
--- Where a code table breaks a rule, and how that is said.
+-- Where a code table breaks a rule.
 pub mod Rules
-pub mod Words
-pub mod Shown

@@ -7,7 +7,7 @@ ghost use Prim.Native.Nat.{ℕ, _≤_, _<_};
 ghost use lib.ListN.{length};
 ghost use Rattle.tabletext.specs.Input.{Began};
 ghost use Rattle.tablebreak.specs.Rules.{longest};
-ghost use Rattle.tablebreak.specs.Shown.{shownText, longestShown};
+ghost use Rattle.tablewords.specs.Shown.{shownText, longestShown};
 
 // Prints what is shown of all that standard input has, of which `table` was read into room for `room` bytes.
 fn print(table: &[u8], room: usize, shown: &[u8])
@@ -22,7 +22,7 @@ fn show(input: &mut [u8], out: &mut [u8])
     let room = input.len();
     let size = io::read_full(STDIN_FILENO, input);
     let table = &input[..size];
-    let end = tablebreak::show_table(table, out);
+    let end = tablewords::show_table(table, out);
     print(table, room, &out[..end]);
 }
 

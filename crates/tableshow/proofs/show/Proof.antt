@@ -3,7 +3,7 @@ use native.Mathlib.Omega.{arith}
 use borrow.Author.Needs.{needs}
 use lib.Seq.{length-take-le}
 use Rattle.listing.proofs.Placed.{within}
-use Rattle.tablebreak.proofs.Printed.{printed}
+use Rattle.tablewords.proofs.Printed.{printed}
 use Rattle.tableshow.proofs.show.Statement.{statement}
 use Rattle.tableshow.proofs.show.Tie as tie
 

@@ -1,0 +1,4 @@
+-- Laws of the line that says which rule is broken.
+pub mod Sentences
+pub mod Longest
+pub mod Printed

@@ -1,0 +1,70 @@
+-- The longest line has 131 bytes.
+use mathlib.Core.Path.{_≡_, refl}
+use mathlib.Core.Bool.{Bool, true, false}
+use mathlib.Core.List.{List, []}
+use Prim.Native.Nat.{ℕ, zero, suc, _-_, _≤_, _<_}
+use native.Mathlib.Omega.{arith}
+use borrow.Author.Tests.{ltb-true, ltb-false, eqb-true, eqb-false}
+use lib.Dec.{ltb, eqb}
+use lib.ListN.{length, length-append}
+use Rattle.rules.specs.Digits.{decimal, hex}
+use Rattle.listing.proofs.Longest.{Word32, decimal-short, hex-length}
+use Rattle.tabletext.specs.Text.{scopeName}
+use Rattle.tabletext.proofs.Longest.{scope-name-short}
+use Rattle.tablebreak.specs.declared.Break.{Break}
+use Rattle.tablewords.specs.Words.{scopePlace, rowPlace, within, scopesOrder, contentsWords, contentsRule, bodyWords, bodyRule, ruleText, breakText}
+use Rattle.tablewords.proofs.Sentences.{no-scope, a-scope, of-scope, of-row, contents-rule, order-rule, body-rule, other-rule, early, late}
+
+scope-short : (s : ℕ) → Word32 s → (b : Bool) → eqb s 0 ≡ b → length (scopePlace s) ≤ 18
+scope-short s h true e = rw (no-scope s (eqb-true s 0 e)) (omega arith)
+scope-short s h false e = rw (a-scope s (eqb-false s 0 e)) (omega (arith, decimal-short s h))
+
+row-short : (r k c : ℕ) → Word32 r → length (rowPlace r k c) ≤ 30
+unfolding rowPlace
+row-short r k c h = simp length-append (omega (arith, decimal-short r h, scope-name-short k c))
+
+-- the numbers of a break have 32 bits
+pub record Words32 (b : Break) : Type 0 where
+  pub at : Word32 (b .at)
+  pub scope : Word32 (b .scope)
+  pub row : Word32 (b .row)
+  pub found : Word32 (b .found)
+
+module _ (b : Break) (h : Words32 b) where
+  within-short : (t : Bool) → eqb (b .row) 0 ≡ t → length (within b) ≤ 30
+  within-short true e = rw (of-scope b (eqb-true (b .row) 0 e)) (omega (arith, scope-short (b .scope) (h .scope) (eqb (b .scope) 0) refl))
+  within-short false e = rw (of-row b (eqb-false (b .row) 0 e)) (row-short (b .row) (b .kind) (b .code) (h .row))
+
+  order-short : length (scopesOrder b) ≤ 83
+  unfolding scopesOrder
+  order-short = simp length-append (omega (arith, scope-name-short (b .kind) (b .code), scope-name-short (b .found) (b .before)))
+
+  contents-short : (k : ℕ) → b .rule ≡ k → length (contentsRule b) ≤ 83
+  unfolding contentsWords
+  contents-short zero e = rw (contents-rule b 0 e) (omega arith)
+  contents-short (suc zero) e = rw (contents-rule b 1 e) (simp length-append (omega (arith, decimal-short (b .found) (h .found))))
+  contents-short (suc (suc zero)) e = rw (contents-rule b 2 e) (simp length-append (omega (arith, decimal-short (b .found) (h .found))))
+  contents-short (suc (suc (suc zero))) e = rw (contents-rule b 3 e) (simp length-append (omega (arith, hex-length 4 (b .found), hex-length 4 (b .before))))
+  contents-short (suc (suc (suc (suc zero)))) e = rw (contents-rule b 4 e) (simp length-append (omega (arith, decimal-short (b .found) (h .found))))
+  contents-short (suc (suc (suc (suc (suc zero))))) e = rw (contents-rule b 5 e) (simp length-append (omega (arith, hex-length 4 (b .found))))
+  contents-short (suc (suc (suc (suc (suc (suc k)))))) e = rw (order-rule b (omega arith)) order-short
+
+  body-short : (k : ℕ) → b .rule - 7 ≡ k → 7 ≤ b .rule → length (bodyRule b) ≤ 83
+  unfolding bodyWords
+  body-short zero e g = rw (body-rule b 7 (omega arith)) (simp length-append (omega (arith, hex-length 2 (b .found), hex-length 2 (b .before))))
+  body-short (suc zero) e g = rw (body-rule b 8 (omega arith)) (simp length-append (omega (arith, hex-length 2 (b .found))))
+  body-short (suc (suc zero)) e g = rw (body-rule b 9 (omega arith)) (simp length-append (omega (arith, hex-length 4 (b .found))))
+  body-short (suc (suc (suc zero))) e g = rw (body-rule b 10 (omega arith)) (simp length-append (omega (arith, decimal-short (b .found) (h .found))))
+  body-short (suc (suc (suc (suc zero)))) e g = rw (body-rule b 11 (omega arith)) (simp length-append (omega (arith, decimal-short (b .found) (h .found))))
+  body-short (suc (suc (suc (suc (suc zero))))) e g = rw (body-rule b 12 (omega arith)) (simp length-append (omega (arith, decimal-short (b .found) (h .found))))
+  body-short (suc (suc (suc (suc (suc (suc k)))))) e g = rw (other-rule b (omega arith)) (omega arith)
+
+  rule-short : (t : Bool) → ltb (b .rule) 7 ≡ t → length (ruleText b) ≤ 83
+  rule-short true e = rw (early b (ltb-true (b .rule) 7 e)) (contents-short (b .rule) refl)
+  rule-short false e = let g : 7 ≤ b .rule = ltb-false (b .rule) 7 e in rw (late b g) (body-short (b .rule - 7) refl g)
+
+  pub longest-break : length (breakText b) ≤ 131
+  unfolding breakText
+  longest-break =
+      simp length-append
+      (omega (arith, decimal-short (b .at) (h .at), within-short (eqb (b .row) 0) refl, rule-short (ltb (b .rule) 7) refl))

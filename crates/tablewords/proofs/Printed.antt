@@ -1,0 +1,75 @@
+-- What is printed of a table, by what the code has found.
+use mathlib.Core.Path.{_≡_, refl, sym, ap, _∙_}
+use mathlib.Core.Bool.{Bool, true, false}
+use mathlib.Core.List.{List, _++_}
+use Prim.Native.Nat.{ℕ, _+_, _≤_, _<_}
+use native.Mathlib.Omega.{arith}
+use lib.ListN.{length, take, length-append}
+use Rattle.rules.specs.CodeTable.{wellFormed}
+use Rattle.text.specs.Writer.{Wrote}
+use Rattle.listing.proofs.Placed.{held}
+use Rattle.tabletext.specs.Text.{tableText}
+use Rattle.tabletext.specs.Input.{Began, whole, filled}
+use Rattle.tabletext.proofs.Longest.{table-short, longest-table}
+use Rattle.tablebreak.specs.declared.Break.{Break}
+use Rattle.tablebreak.specs.Rules.{longest, breakOf}
+use Rattle.tablewords.specs.Words.{breakText}
+use Rattle.tablewords.specs.Shown.{shownText, longestShown}
+use Rattle.tablebreak.proofs.Turns.{over}
+use Rattle.tablebreak.proofs.Found.{named, unnamed}
+use Rattle.tablewords.proofs.Longest.{Words32, longest-break}
+
+formed-shown : (t : List ℕ) → wellFormed t ≡ true → shownText t ≡ tableText t
+unfolding shownText
+formed-shown t e = rw e
+
+broken-shown : (t : List ℕ) → wellFormed t ≡ false → shownText t ≡ breakText (breakOf t)
+unfolding shownText
+broken-shown t e = rw e
+
+-- ---- a table longer than any that is well formed
+long-broken : (t : List ℕ) → longest < length t → (w : Bool) → wellFormed t ≡ w → wellFormed t ≡ false
+long-broken t h true e = absurd (omega (arith, table-short t e))
+long-broken t h false e = e
+
+long-shown : (t u : List ℕ) → longest < length t → longest < length u → shownText t ≡ shownText u
+long-shown t u h g =
+    let a = long-broken t h (wellFormed t) refl in
+    let b = long-broken u g (wellFormed u) refl in
+    broken-shown t a ∙ ap breakText (over t a h ∙ sym (over u b g)) ∙ sym (broken-shown u b)
+
+-- what was read tells what is shown of all
+all-shown : {room : ℕ} {read all : List ℕ} → longest < room → Began room read all → shownText read ≡ shownText all
+all-shown r whole = refl
+all-shown r (filled {read} h rest) = long-shown read (read ++ rest) (omega arith) (omega (arith, length-append read rest))
+
+-- what is written into a buffer that has room is what is shown of all
+pub printed : {t o new : List ℕ} {e room : ℕ} → longest < room → Wrote o 0 (shownText t) new e → length (shownText t) ≤ longestShown → longestShown ≤ length o
+    → (all : List ℕ) → Began room t all → take e new ≡ shownText all
+printed r w h g all b = held w (omega arith) ∙ all-shown r b
+
+-- ---- what the code has found
+module _ (t : List ℕ) {b : Break} (is : b ≡ breakOf t) where
+  rule-is : b .rule ≡ breakOf t .rule
+  rule-is = ap (λ (x : Break). x .rule) is
+
+  broken-by : (b .rule ≡ 0 → ⊥) → (w : Bool) → wellFormed t ≡ w → wellFormed t ≡ false
+  broken-by n true e = absurd (n (rule-is ∙ unnamed t e))
+  broken-by n false e = e
+
+  module _ (none : b .rule ≡ 0) where
+    well : wellFormed t ≡ true
+    well = named t (sym rule-is ∙ none)
+
+    pub shows-table : shownText t ≡ tableText t
+    shows-table = formed-shown t well
+
+    pub table-fits : length (shownText t) ≤ longestShown
+    table-fits = rw shows-table (longest-table t well)
+
+  module _ (some : b .rule ≡ 0 → ⊥) where
+    pub shows-break : shownText t ≡ breakText b
+    shows-break = broken-shown t (broken-by some (wellFormed t) refl) ∙ ap breakText (sym is)
+
+    pub break-fits : Words32 b → length (shownText t) ≤ longestShown
+    break-fits h = rw shows-break (omega (arith, longest-break b h))

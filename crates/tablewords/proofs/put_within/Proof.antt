@@ -1,0 +1,21 @@
+use borrow.Author.Needs.{needs}
+use Rattle.tablewords.proofs.Sentences.{of-scope, of-row}
+use Rattle.tablewords.proofs.put_within.Statement.{statement}
+use Rattle.tablewords.proofs.put_within.Tie as tie
+
+returns : tie.Need-returns
+returns c = rw (of-scope (c .before .before .before .before .before .before .before .args .b) (c .before .before .before .before .if1 .taken)) (c .before .before .put-scope-place .ensures)
+
+returns-2 : tie.Need-returns-2
+returns-2 c = rw (of-row (c .before .before .before .before .before .before .before .args .b) (c .before .before .before .before .if1 .left)) (c .before .before .put-row-place .ensures)
+
+pub put-within-spec : {M : Type 1} → statement M
+put-within-spec =
+    tie.close
+    (tie.spec
+    (λ c κs. search needs)
+    (λ c. search needs)
+    returns
+    (λ c κs. search needs)
+    (λ c. search needs)
+    returns-2)
