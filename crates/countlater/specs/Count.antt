@@ -1,16 +1,15 @@
 -- The counting pass: what each function answers.
-use Prim.Native.Nat.{ℕ, zero, suc, _≤_, _<_, _+_}
+use Prim.Native.Nat.{ℕ, _≤_, _+_}
 use mathlib.Core.Path.{_≡_}
-use mathlib.Core.Bool.{Bool, true, false, cond, not, _&&_}
+use mathlib.Core.Bool.{Bool, true, false, cond}
 use mathlib.Core.List.{List}
 use mathlib.Core.Option.{Option, none, some}
 use lib.Dec.{eqb}
 use lib.ListN.{length}
 use Rattle.rules.specs.Lists.{_>>=_}
-use Rattle.rules.specs.Bytes.{byte}
 use Rattle.rules.specs.Tree.{Entry, Entries, isReported, levels}
 use Rattle.rules.specs.Later as later
-use Rattle.rules.specs.Later.{Prop, isInside, lengthAt, endAt, trailerAt, groupAt, childrenAt, nodeAt, nodesAt, matchAt, matchesFrom, scanFrom, objectGroup, treeOf, nodesBy}
+use Rattle.rules.specs.Later.{Prop, isInside, lengthAt, endAt, trailerAt, groupAt, childrenAt, nodeAt, nodesAt, scanFrom, objectGroup, treeOf, nodesBy}
 use Rattle.rows.specs.Counting.{propsIn}
 use Rattle.countlater.specs.declared.Item.{Item}
 use Rattle.countlater.specs.declared.Group.{Group}
@@ -71,35 +70,6 @@ wholeTree s trailer p = do
   (n, q) ← childrenAt s trailer p
   (es, e) ← nodesAt levels s n q
   cond (eqb e (length s)) (some (es, e)) none
-
--- not both the first and the third byte of a match
-abbrev pub ruledOut : ℕ → ℕ → Bool
-ruledOut first third = not (eqb first 0x14 && eqb third 0x0A)
-
--- so at each of n places from p on
-unfoldable pub noneOf : ℕ → List ℕ → ℕ → Bool
-noneOf zero s p = true
-noneOf (suc n) s p = noneOf n s p && ruledOut (byte s (p + n)) (byte s (p + n + 2))
-
--- no match is found from p on before r
-pub record Leapt (s : List ℕ) (p r : ℕ) : Type 0 where
-  pub same : matchesFrom s p ≡ matchesFrom s r
-  pub behind : p ≤ r
-  pub within : r ≤ length s
-
--- r is the first match from p on before stop, or stop
-pub record MatchBefore (s : List ℕ) (p stop r : ℕ) : Type 0 where
-  pub same : matchesFrom s p ≡ matchesFrom s r
-  pub behind : p ≤ r
-  pub within : r ≤ stop
-  pub here : r < stop → matchAt s r ≡ true
-
--- r is the first match from p on, or the end
-pub record NextMatch (s : List ℕ) (p r : ℕ) : Type 0 where
-  pub same : matchesFrom s p ≡ matchesFrom s r
-  pub behind : p ≤ r
-  pub within : r ≤ length s
-  pub here : r < length s → matchAt s r ≡ true
 
 -- what the scan from p on finds, within its bytes
 pub record ScanCounted (s : List ℕ) (p : ℕ) (r : Scanned) : Type 0 where

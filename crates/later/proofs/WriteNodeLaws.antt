@@ -22,11 +22,12 @@ use Rattle.rows.specs.declared.ControlRow.{ControlRow}
 use Rattle.rows.proofs.WritingLaws.{theirs-one, write-one}
 use Rattle.rows.proofs.ActLaws.{at-place, held-none}
 use Rattle.rows.proofs.RemainLaws.{Remain, remain-start, remain-as, ready-first, remain-step, remain-done}
-use Rattle.countlater.specs.Count.{item, children, groupIn, childrenOf, oneNode, NextMatch}
+use Rattle.matchlater.specs.Match.{NextMatch}
+use Rattle.countlater.specs.Count.{item, children, groupIn, childrenOf, oneNode}
 use Rattle.countlater.specs.declared.Item.{Item}
 use Rattle.countlater.specs.declared.Children.{Children}
 use Rattle.countlater.proofs.PassedLaws.{item-inside, item-outside, props-some, props-none}
-use Rattle.countlater.proofs.MatchLaws.{scan-same, scan-step, scan-end}
+use Rattle.matchlater.proofs.MatchLaws.{scan-same, scan-step, scan-end}
 use Rattle.countlater.proofs.ScanLaws.{shown-some, shown-none}
 use Rattle.countlater.proofs.NodeLaws.{children-of, children-bad, head-past, node-none, headNode, node-nodes}
 use Rattle.later.specs.Write.{nameIn, trailerOr0, propsAt, GroupReady, GroupDone, NodesReady, act, groupControl, ControlReady, ControlDone, scanned, ScanReady}

@@ -1,7 +1,7 @@
 use native.Mathlib.Omega.{arith}
 use Prim.Native.Nat.{_-_}
 use lib.ListN.{length}
-use Rattle.countlater.proofs.MatchLaws.{match-room}
+use Rattle.matchlater.proofs.MatchLaws.{match-room}
 use Rattle.countlater.proofs.ScanLaws.{Scanning, scanning-start, group-few, scanning-more, scanning-same, scanning-done}
 use Rattle.countlater.proofs.scan_control_sections.Statement.{statement}
 use Rattle.countlater.proofs.scan_control_sections.Tie as tie

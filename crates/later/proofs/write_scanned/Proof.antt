@@ -4,7 +4,7 @@ use mathlib.Core.Path.{_≡_, refl, _∙_}
 use Prim.Native.Nat.{_-_}
 use lib.ListN.{length}
 use Rattle.rows.specs.Writing.{state}
-use Rattle.countlater.proofs.MatchLaws.{match-room}
+use Rattle.matchlater.proofs.MatchLaws.{match-room}
 use Rattle.later.proofs.WriteNodeLaws.{Sweeping, sweeping-start, sweeping-same, sweeping-ready, sweeping-adds, sweeping-more, sweeping-done}
 use Rattle.later.proofs.write_scanned.Statement.{statement}
 use Rattle.later.proofs.write_scanned.Tie as tie

@@ -13,7 +13,7 @@ use Rattle.rules.specs.Bytes.{byte, u16, u32}
 use Rattle.rules.specs.Tree.{Node, node}
 use Rattle.rules.specs.Later.{Prop, groupAt, matchAt, matchesOf, matchesFrom, groupsOf, isEmpty, scanFrom}
 use Rattle.rules.proofs.ListLaws.{and-l, and-r}
-use Rattle.countlater.specs.Count.{ruledOut, noneOf, NextMatch}
+use Rattle.matchlater.specs.Match.{ruledOut, noneOf, NextMatch}
 
 pub match-past : (s : List ℕ) (p : ℕ) → length s < p + 6 → matchAt s p ≡ false
 unfolding matchAt

@@ -5,9 +5,9 @@ use mathlib.Core.Path.{sym, _∙_}
 use Prim.Native.Nat.{_+_}
 use lib.ListN.{length}
 use Rattle.rules.specs.Later.{matchAt}
-use Rattle.countlater.proofs.MatchLaws.{match-past}
-use Rattle.countlater.proofs.match_at.Statement.{statement}
-use Rattle.countlater.proofs.match_at.Tie as tie
+use Rattle.matchlater.proofs.MatchLaws.{match-past}
+use Rattle.matchlater.proofs.match_at.Statement.{statement}
+use Rattle.matchlater.proofs.match_at.Tie as tie
 
 pub match-at-spec : {M : Type 1} → statement M
 unfolding matchAt

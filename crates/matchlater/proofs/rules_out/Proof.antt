@@ -1,6 +1,6 @@
 use borrow.Author.Tests.{eq-eqb, ne-eqb}
-use Rattle.countlater.proofs.rules_out.Statement.{statement}
-use Rattle.countlater.proofs.rules_out.Tie as tie
+use Rattle.matchlater.proofs.rules_out.Statement.{statement}
+use Rattle.matchlater.proofs.rules_out.Tie as tie
 
 returns : tie.Need-returns
 returns c = rw (eq-eqb _ _ (c .if1 .taken))

@@ -2,9 +2,9 @@ use native.Mathlib.Omega.{arith}
 use mathlib.Core.Path.{_≡_, refl, sym, ap, _∙_}
 use Prim.Native.Nat.{_-_, _≤_}
 use Rattle.rules.specs.Later.{matchesFrom}
-use Rattle.countlater.proofs.MatchLaws.{match-on, leap-one}
-use Rattle.countlater.proofs.match_before.Statement.{statement}
-use Rattle.countlater.proofs.match_before.Tie as tie
+use Rattle.matchlater.proofs.MatchLaws.{match-on, leap-one}
+use Rattle.matchlater.proofs.match_before.Statement.{statement}
+use Rattle.matchlater.proofs.match_before.Tie as tie
 
 abbrev Inv-loop : tie.InvT-loop
 Inv-loop s from stop p₀ p = (from ≤ p) × (p ≤ stop) × (matchesFrom s from ≡ matchesFrom s p)

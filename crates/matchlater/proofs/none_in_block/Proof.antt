@@ -2,10 +2,10 @@ use native.Mathlib.Omega.{arith}
 use mathlib.Core.Path.{_≡_, refl, ap, ap₂, _∙_}
 use mathlib.Core.Bool.{_&&_}
 use Prim.Native.Nat.{_-_, _≤_}
-use Rattle.countlater.specs.Count.{noneOf}
-use Rattle.countlater.proofs.MatchLaws.{none-more}
-use Rattle.countlater.proofs.none_in_block.Statement.{statement}
-use Rattle.countlater.proofs.none_in_block.Tie as tie
+use Rattle.matchlater.specs.Match.{noneOf}
+use Rattle.matchlater.proofs.MatchLaws.{none-more}
+use Rattle.matchlater.proofs.none_in_block.Statement.{statement}
+use Rattle.matchlater.proofs.none_in_block.Tie as tie
 
 abbrev Inv-loop : tie.InvT-loop
 Inv-loop s at none₀ i₀ none i = (i ≤ 32) × (none ≡ noneOf i s at)

@@ -3,9 +3,9 @@ use mathlib.Core.Path.{_≡_, _∙_}
 use Prim.Native.Nat.{_-_, _≤_}
 use lib.ListN.{length}
 use Rattle.rules.specs.Later.{matchesFrom}
-use Rattle.countlater.proofs.MatchLaws.{match-none}
-use Rattle.countlater.proofs.find_match.Statement.{statement}
-use Rattle.countlater.proofs.find_match.Tie as tie
+use Rattle.matchlater.proofs.MatchLaws.{match-none}
+use Rattle.matchlater.proofs.find_match.Statement.{statement}
+use Rattle.matchlater.proofs.find_match.Tie as tie
 
 abbrev Inv-loop : tie.InvT-loop
 Inv-loop s from p₀ p = (from ≤ p) × (p ≤ length s) × (matchesFrom s from ≡ matchesFrom s p)

@@ -2,10 +2,10 @@ use native.Mathlib.Omega.{arith}
 use mathlib.Core.Path.{refl, sym, _∙_}
 use Prim.Native.Nat.{_-_}
 use lib.ListN.{length}
-use Rattle.countlater.specs.Count.{Leapt}
-use Rattle.countlater.proofs.MatchLaws.{leap}
-use Rattle.countlater.proofs.past_blocks.Statement.{statement}
-use Rattle.countlater.proofs.past_blocks.Tie as tie
+use Rattle.matchlater.specs.Match.{Leapt}
+use Rattle.matchlater.proofs.MatchLaws.{leap}
+use Rattle.matchlater.proofs.past_blocks.Statement.{statement}
+use Rattle.matchlater.proofs.past_blocks.Tie as tie
 
 abbrev Inv-loop : tie.InvT-loop
 Inv-loop s from p₀ p = Leapt s from p

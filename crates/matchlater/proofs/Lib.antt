@@ -1,0 +1,2 @@
+-- Laws of matches and of the scan that starts from them.
+pub mod MatchLaws
