@@ -19,7 +19,7 @@ use Rattle.text.specs.Writer.{Wrote}
 use Rattle.listing.specs.Bound.{longestIn, longestType, longestName, longestAnswer, longestControl, longestProperty}
 use Rattle.listing.proofs.Placed.{held}
 use Rattle.listing.proofs.Longest.{answer-short}
-use Rattle.lister.specs.Listed.{Begun}
+use Rattle.inputs.specs.Begun.{Begun}
 use Rattle.inputs.proofs.Came.{all-read, more-came}
 use Rattle.bloblines.specs.Blobs.{longestBlob, controlRoom, propertyRoom, blobListed, longestInput, blobListing, listedIn, mostIn, Written}
 use Rattle.bloblines.proofs.BlobLaws.{same-outcome}

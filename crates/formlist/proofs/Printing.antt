@@ -1,17 +1,18 @@
 -- What is printed is the listing of all that standard input had.
-use mathlib.Core.Path.{_≡_, refl, ap, _∙_}
+use mathlib.Core.Path.{_≡_, refl, sym, ap, _∙_}
 use mathlib.Core.Bool.{Bool, true}
-use mathlib.Core.List.{List}
+use mathlib.Core.List.{List, _∷_, _++_}
 use Prim.Native.Nat.{ℕ, _≤_}
 use native.Mathlib.Omega.{arith}
-use lib.ListN.{length, take}
+use lib.ListN.{length, take, length-append}
 use Rattle.rules.specs.NameTables.{textNames, numberNames, bytesNames, controlTypeNames}
 use Rattle.rules.specs.Listing.{listing}
 use Rattle.text.specs.Writer.{Wrote}
 use Rattle.listing.specs.Bound.{longestIn, longestType, longestName, longestListing}
 use Rattle.listing.proofs.Placed.{held}
-use Rattle.lister.specs.Listed.{listed, Begun}
-use Rattle.lister.proofs.Input.{listed-is}
+use Rattle.listing.proofs.Printed.{listing-long}
+use Rattle.lister.specs.Listed.{listed}
+use Rattle.inputs.specs.Begun.{Begun, whole, longer}
 use Rattle.listbound.proofs.Bounded.{listing-bounded}
 
 -- the bound, computed from the name tables
@@ -19,8 +20,14 @@ pub bound : longestListing ≡ 114739
 unfolding longestListing longestType longestName longestIn textNames numberNames bytesNames controlTypeNames
 bound = refl
 
+-- what was read is enough to tell the listing: where more came, 32,768 bytes were read
+listed-is : {read input : List ℕ} {more : Bool} → (more ≡ true → 32768 ≤ length read) → Begun read more input → listed read more ≡ listing input
+unfolding listed
+listed-is h whole = refl
+listed-is h (longer {read} b rest) = sym (listing-long (read ++ (b ∷ rest)) (simp length-append (omega (arith, h refl))))
+
 pub all-printed : {read old new : List ℕ} {more : Bool} {end : ℕ} → Wrote old 0 (listed read more) new end → longestListing ≤ length old → (more ≡ true → 32768 ≤ length read)
-    → (whole : List ℕ) → Begun read more whole → take end new ≡ listing whole
-all-printed w room h whole b =
+    → (input : List ℕ) → Begun read more input → take end new ≡ listing input
+all-printed w room h input b =
     let e = listed-is h b in
-    held w (omega (arith, ap length e, listing-bounded whole)) ∙ e
+    held w (omega (arith, ap length e, listing-bounded input)) ∙ e

@@ -9,7 +9,7 @@ ghost use Rattle.rules.specs.NameTables.{controlTypeNames};
 ghost use Rattle.rules.specs.Listing.{listing};
 ghost use Rattle.names.specs.Lookup.{Lent, AllLent};
 ghost use Rattle.listing.specs.Bound.{longestListing};
-ghost use Rattle.lister.specs.Listed.{Begun};
+ghost use Rattle.inputs.specs.Begun.{Begun};
 
 // Prints the listing of standard input, of which `input` was read and `more` tells whether bytes came behind it.
 fn print(input: &[u8], more: bool, listed: &[u8])

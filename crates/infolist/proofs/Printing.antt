@@ -13,7 +13,7 @@ use Rattle.rules.specs.Listing.{answerLine}
 use Rattle.text.specs.Writer.{Wrote}
 use Rattle.listing.proofs.Placed.{held}
 use Rattle.listing.proofs.Longest.{answer-short}
-use Rattle.lister.specs.Listed.{Begun}
+use Rattle.inputs.specs.Begun.{Begun}
 use Rattle.inputs.proofs.Came.{all-read, more-came}
 use Rattle.infolines.specs.Infos.{infoPrinted, longestInfo, infoListing, infoMost}
 use Rattle.infolines.proofs.Printed.{listed, too-long}

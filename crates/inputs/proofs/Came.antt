@@ -9,7 +9,7 @@ use lib.ListN.{length, take, length-append}
 use Rattle.text.specs.Writer.{Wrote}
 use Rattle.text.proofs.Written.{next}
 use Rattle.listing.proofs.Placed.{within, held}
-use Rattle.lister.specs.Listed.{Begun, whole, longer}
+use Rattle.inputs.specs.Begun.{Begun, whole, longer}
 use Rattle.inputs.specs.Filled.{Filled}
 
 pub all-read : {read input : List ℕ} {more : Bool} → Begun read more input → more ≡ false → read ≡ input

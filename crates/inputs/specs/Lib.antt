@@ -1,2 +1,3 @@
 -- What is told of an input that is read into a lent buffer.
 pub mod Filled
+pub mod Begun

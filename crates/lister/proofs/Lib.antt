@@ -1,3 +1,2 @@
 -- Laws of the listing's writer.
 mod Whole
-pub mod Input
