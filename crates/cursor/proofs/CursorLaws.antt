@@ -1,0 +1,105 @@
+-- A cursor before an entry, behind it, and past an entry of the top list, whatever the layout.
+use Prim.Native.Nat.{ℕ, zero, suc, _+_, _-_, _≤_, _<_}
+use native.Mathlib.Omega.{arith}
+use native.Mathlib.Numerals.{sub-one}
+use mathlib.Core.Path.{_≡_, refl, sym, ap, _∙_}
+use mathlib.Core.Bool.{Bool, true, false}
+use mathlib.Core.List.{List, [], _∷_}
+use mathlib.Core.Option.{Option, none, some}
+use lib.ListN.{length}
+use Rattle.rules.specs.Lists.{_>>=_}
+use Rattle.rules.specs.Tree.{Entry, levels, levelsAt}
+use Rattle.rules.proofs.ListLaws.{Every}
+use Rattle.rows.specs.Acts.{Held}
+use Rattle.rows.proofs.LevelLaws.{levels-deep}
+use Rattle.cursor.specs.Visits.{visited}
+use Rattle.cursor.specs.Walk.{Step, Steps, frame, entryBy, Visits, _before_, restAt, behind}
+use Rattle.cursor.specs.Stack.{outer, moved, countOf, Moved}
+use Rattle.cursor.specs.Cursors.{cursor, restBy, topAt, Picked, Passed}
+use Rattle.cursor.specs.declared.Cursor.{Cursor}
+use Rattle.cursor.proofs.WalkLaws.{rest-end, rest-step, rest-over}
+use Rattle.cursor.proofs.StackLaws.{outer-length, outer-empty, rest-moved}
+
+module _ {P : Type 0} (step : Steps P) (pick : Entry P → Bool) where
+  -- what is left behind the entry x at c, of row n
+  abbrev pub leftBehind : ℕ → List ℕ → Cursor → Step P → Visits P
+  leftBehind n a c x = behind step pick (255 - c .level) n (frame (c .left - 1) (c .parent)) (outer a (c .level)) (x .children) (x .next)
+
+  pub rest-behind : (n : ℕ) (a : List ℕ) (c : Cursor) (x : Step P) (a′ : List ℕ) (r : Cursor) → c .level < 256 → Moved a c n (countOf (x .children)) (x .next) a′ r
+      → restBy step pick (suc n) a′ r ≡ leftBehind n a c x
+  unfolding restBy
+  rest-behind n a c x a′ r low m =
+      let z : suc (255 - c .level) + length (outer a (c .level)) ≡ levels - r .level + length (moved (frame (c .left - 1) (c .parent)) (outer a (c .level)) n (countOf (x .children)) .1)
+      = omega (arith, outer-length a (c .level), m .low, outer-length a′ (r .level), ap (λ o. length (o .1)) (m .is)) in
+      (λ i. restAt step pick (levels - r .level) (suc n) (m .is i .0) (m .is i .1) (m .at-is i))
+      ∙ sym (rest-moved step pick (255 - c .level) (levels - r .level) n (frame (c .left - 1) (c .parent)) (outer a (c .level)) (x .children) (x .next) z)
+
+  -- a cursor before an entry
+  pub record Stands (n : ℕ) (a : List ℕ) (c : Cursor) : Type 0 where
+    pub entry : Step P
+    pub read : step (c .at) ≡ some entry
+    pub low : c .level < 256
+    pub is : restBy step pick n a c ≡ (visited (c .level) (c .parent) (entry .node) ∷ [] before leftBehind n a c entry)
+
+  module _ (n : ℕ) (a : List ℕ) (c : Cursor) (l : 0 < c .left) where
+    rest-low : c .level ≤ 256 → Held (λ _. Unit) (restBy step pick n a c) → c .level < 256
+    unfolding restBy restAt
+    rest-low b h =
+        let f : c .level ≡ 256 → ⊥ = λ e.
+        let z : levels - c .level ≡ 0 = omega arith in
+        rw (ap (λ (d : ℕ). levelsAt (entryBy step) d (c .left) (c .at)) z ∙ levels-deep (entryBy step) (c .left) (c .at) l) at h in
+        omega arith
+
+    abbrev enter : ℕ → Step P → Visits P
+    enter m x = visited m (c .parent) (x .node) ∷ [] before leftBehind n a c x
+
+    pub stands : c .level ≤ 256 → Picked step pick c → Held (λ _. Unit) (restBy step pick n a c) → Stands n a c
+    unfolding restBy
+    stands b h there =
+        let low = rest-low b there in
+        let z : levels - c .level ≡ suc (255 - c .level) = omega arith in
+        let k : c .left ≡ suc (c .left - 1) = omega arith in
+        let e = (λ i. restAt step pick (z i) n (frame (k i) (c .parent)) (outer a (c .level)) (c .at))
+        ∙ rest-step step pick (255 - c .level) n (c .left - 1) (c .parent) (outer a (c .level)) (c .at) (λ e. picks (outer-empty a (c .level) e) h)
+        ∙ ap (λ (m : ℕ). step (c .at) >>= enter m) (outer-length a (c .level)) in
+        go (step (c .at)) refl low e (rw e at there)
+      where
+        picks : c .level ≡ 0 → Picked step pick c → Every (λ e. pick (e .0) ≡ true) (entryBy step (levelsAt (entryBy step) (255 - c .level)) (c .at))
+        picks z h =
+            let k : 255 - c .level ≡ 255 = omega arith in
+            rw k (h z l)
+
+        go : (o : Option (Step P)) → step (c .at) ≡ o → c .level < 256 → restBy step pick n a c ≡ (o >>= enter (c .level)) → Held (λ _. Unit) (o >>= enter (c .level)) → Stands n a c
+        go none r low e there = absurd there
+        go (some x) r low e there = record { entry = x; read = r; low = low; is = e }
+
+  pub rest-done : (n : ℕ) (a : List ℕ) (c : Cursor) → c .left ≡ 0 → c .level ≡ 0 → restBy step pick n a c ≡ some ([], c .at)
+  unfolding restBy outer
+  rest-done n a c e f = rw (e, f) (rest-end step pick 256 n (c .parent) (c .at))
+
+-- ---- the top list
+module _ {P : Type 0} (step : Steps P) (pick : Entry P → Bool) where
+  -- the cursor c came to `at` with `left` entries left, all of the others passed over
+  pub record Passing (c : Cursor) (at left : ℕ) : Type 0 where
+    pub is : (n : ℕ) (a : List ℕ) → restBy step pick n a (cursor at (c .level) left (c .parent)) ≡ restBy step pick n a c
+
+  pub passing-none : (c : Cursor) → Passing c (c .at) (c .left)
+  passing-none c = record { is = λ n a. refl }
+
+  pub passed-none : (c : Cursor) → 0 < c .level → Passed step pick c c
+  passed-none c l = record { level-is = refl; picked = λ e _. absurd (omega arith); done = λ d. d; is = λ n a. refl }
+
+  module _ (c : Cursor) (at left : ℕ) (h : Passing c at left) (top : c .level ≡ 0) where
+    pub passed-all : left ≤ 0 → Passed step pick c (cursor at (c .level) left (c .parent))
+    passed-all e = record { level-is = refl; picked = λ _ l. absurd (omega arith); done = λ _ _. top; is = h .is }
+
+    pub passed-some : Every (λ e. pick (e .0) ≡ true) (topAt step at) → Passed step pick c (cursor at (c .level) left (c .parent))
+    passed-some e = record { level-is = refl; picked = λ _ _. e; done = λ _ _. top; is = h .is }
+
+    pub passing-next : 0 < left → (e : Entry P) (next : ℕ) → topAt step at ≡ some (e, next) → pick e ≡ false → Passing c next (left - 1)
+    unfolding restBy outer
+    passing-next l e next r k = record { is = λ n a. rw top (go n left l) ∙ h .is n a }
+      where
+        go : (n m : ℕ) → 0 < m → restAt step pick 256 n (frame (m - 1) (c .parent)) [] next ≡ restAt step pick 256 n (frame m (c .parent)) [] at
+        go n zero l = absurd (omega arith)
+        go n (suc m) l = rw (sub-one (suc m)) (sym (rest-over step pick 255 n m (c .parent) at e next r k))

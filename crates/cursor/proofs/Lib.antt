@@ -1,0 +1,5 @@
+pub mod VisitLaws
+pub mod WalkLaws
+pub mod StackLaws
+pub mod CursorLaws
+pub mod RowLaws

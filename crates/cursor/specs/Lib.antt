@@ -1,0 +1,4 @@
+pub mod Visits
+pub mod Walk
+pub mod Stack
+pub mod Cursors

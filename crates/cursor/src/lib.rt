@@ -1,0 +1,71 @@
+// A walk over the entries of a tree in output order, by a loop. What it means stands in specs/.
+ghost use Prim.Native.Nat.{_≤_};
+ghost use Rattle.cursor.specs.Stack.{Before, Unwound, Moved};
+
+// Where a walk stands: before an entry, or at the end where `left` is 0. `level` is that of the innermost list that is open, `left` how many of
+// its entries are left, and `parent` the row of the entry that holds it. The lists around it stand on a lent stack, two words for each level.
+pub struct Cursor {
+    pub at: usize,
+    pub level: usize,
+    pub left: u32,
+    pub parent: u32,
+}
+
+// Closes the lists that have no entry left.
+fn unwound(stack: &[u32; 512], c: Cursor) -> Cursor
+    requires { ⌜ c .level ≤ 256 ⌝ }
+    ensures { λ r. ⌜ Unwound (now (stack .entry)) c r ⌝ }
+{
+    let at = c.at;
+    let mut level = c.level;
+    let mut left = c.left;
+    let mut parent = c.parent;
+    while left == 0 {
+        if level == 0 {
+            return Cursor {
+                at,
+                level,
+                left,
+                parent,
+            };
+        }
+        level = level - 1;
+        left = stack[level * 2];
+        parent = stack[level * 2 + 1];
+    }
+    Cursor {
+        at,
+        level,
+        left,
+        parent,
+    }
+}
+
+// Goes behind the entry at `c`, which has row `row`, and whose list has `count` entries and starts at `next`.
+pub fn behind(stack: &mut [u32; 512], c: Cursor, row: u32, count: u32, next: usize) -> Cursor
+    requires { ⌜ Before (now stack) c ⌝ }
+    ensures { λ r. ⌜ Moved (now (stack .entry)) c row count next (now (stack .exit)) r ⌝ }
+{
+    let level = c.level;
+    let left = c.left - 1;
+    let parent = c.parent;
+    if count == 0 {
+        return unwound(
+            stack,
+            Cursor {
+                at: next,
+                level,
+                left,
+                parent,
+            },
+        );
+    }
+    stack[level * 2] = left;
+    stack[level * 2 + 1] = parent;
+    Cursor {
+        at: next,
+        level: level + 1,
+        left: count,
+        parent: row,
+    }
+}
