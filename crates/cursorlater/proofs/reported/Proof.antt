@@ -1,0 +1,48 @@
+use native.Mathlib.Omega.{arith}
+use borrow.Author.Needs.{needs}
+use Prim.Native.Nat.{_≤_}
+use Rattle.rules.specs.Tree.{isReported}
+use Rattle.cursor.specs.Cursors.{cursor}
+use Rattle.cursor.proofs.CursorLaws.{Passing, passing-none, passed-all, passed-some, passing-next, passed-none}
+use Rattle.cursorlater.specs.Steps.{stepAt}
+use Rattle.cursorlater.proofs.TopLaws.{kept-top, left-top}
+use Rattle.cursorlater.proofs.reported.Statement.{statement}
+use Rattle.cursorlater.proofs.reported.Tie as tie
+
+abbrev Inv-loop : tie.InvT-loop
+Inv-loop s level parent at₀ left₀ at left = Passing (stepAt s) isReported (cursor at₀ level left₀ parent) at left × (level ≤ 0)
+
+abbrev μ-loop : tie.MeasureT-loop
+μ-loop s level parent at₀ left₀ at left = left
+
+returns : tie.Need-returns Inv-loop μ-loop
+returns c = passed-none _ _ _ (omega arith)
+
+loop-again : tie.Need-loop-again Inv-loop μ-loop
+loop-again c =
+    let b5 = c .before .before .before .before .before in
+    let x = left-top _ _ _ (c .before .before .before .section-at .ensures) _ (c .before .next .given .1) in
+    (passing-next _ _ _ _ _ (b5 .loop .inv .0) (omega arith) (omega arith) (x .0) _ (x .1) (x .2), omega arith)
+
+returns-2 : tie.Need-returns-2 Inv-loop μ-loop
+returns-2 c = passed-some _ _ _ _ _ (c .before .before .before .before .loop .inv .0) (omega arith) (kept-top _ _ _ (c .before .before .section-at .ensures) (c .enum-told .given .1))
+
+returns-3 : tie.Need-returns-3 Inv-loop μ-loop
+returns-3 c = passed-all _ _ _ _ _ (c .before .loop .inv .0) (omega arith) (omega arith)
+
+pub reported-spec : {M : Type 1} → statement M
+reported-spec =
+    tie.close
+    (tie.spec
+    Inv-loop
+    μ-loop
+    returns
+    (λ c. (passing-none _ _ _, omega arith))
+    (λ c κs. search needs)
+    (λ c. search needs)
+    (λ c. omega arith)
+    (λ c. omega arith)
+    loop-again
+    (λ c. search needs)
+    returns-2
+    returns-3)
