@@ -2,6 +2,8 @@ use native.Mathlib.Omega.{arith}
 use borrow.Author.Needs.{needs}
 use denote.Ref.{now}
 use Rattle.coderows.specs.Look.{Finds}
+use Rattle.walk2000.proofs.Inverse.{opens-listed}
+use Rattle.cursor2000.proofs.StepLaws.{count-small}
 use Rattle.form2000.proofs.Whole.{own-ready, top-ready, top-done, write-plain, write-bad}
 use Rattle.form2000.proofs.write.Statement.{statement}
 use Rattle.form2000.proofs.write.Tie as tie
@@ -12,6 +14,9 @@ found c = c .find-scope .ensures (c .before .before .before .before .before .lis
 
 properties-requires : tie.Need-properties-requires
 properties-requires c κs = (own-ready _ _ _ _ (c .before .before .before .before .before .before .before .before .before .before .before .before .before .pre) _ (c .before .before .before .object-kind .ensures) _ (found (c .before .before)), omega arith)
+
+cast-put-top : tie.Need-cast-put-top
+cast-put-top c = omega (arith, count-small _ (λ i. c .before .before .before .before .before .before .before .before .before .before .before .before .before .before .before .before .before .before .before .before .shared-slice-known2 .given i .fits) _ _ _ (opens-listed _ _ _ _ (c .before .before .before .before .before .head .ensures) (c .before .before .before .count .given .1)))
 
 put-top-requires : tie.Need-put-top-requires
 put-top-requires c κs =
@@ -40,6 +45,7 @@ write-spec =
     (λ c. search needs) (λ c κs. search needs) (λ c κs. search needs) (λ c κs. search needs)
     properties-requires
     (λ c κs. search needs) (λ c. search needs)
+    cast-put-top
     put-top-requires
     (λ c. search needs) (λ c. search needs) (λ c. search needs) (λ c. search needs)
     returns
