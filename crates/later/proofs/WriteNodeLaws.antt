@@ -2,35 +2,30 @@
 use Prim.Native.Nat.{ℕ, _+_, _*_, _≤_, _<_}
 use native.Mathlib.Omega.{arith}
 use mathlib.Core.Path.{_≡_, refl, sym, ap, ap₂, _∙_}
-use mathlib.Core.Bool.{Bool, true, false}
+use mathlib.Core.Bool.{true}
 use mathlib.Core.List.{List, [], _∷_, _++_, map}
 use mathlib.Core.Option.{Option, none, some}
-use lib.Dec.{ltb}
 use lib.ListN.{length, length-map}
-use borrow.Author.Tests.{ltb-true, ltb-false}
-use Rattle.rules.specs.Bytes.{u16}
 use Rattle.rules.specs.Answer.{longest}
 use Rattle.rules.specs.Rows.{controlWidth}
 use Rattle.rules.specs.Reading.{nameWords, controlRow}
 use Rattle.rules.specs.Tree.{Node, node}
-use Rattle.rules.specs.Later.{Prop, groupAt, childrenAt, nodesAt, matchAt, scanFrom}
+use Rattle.rules.specs.Later.{Prop, groupAt, childrenAt, matchAt, scanFrom}
 use Rattle.rules.specs.ReadLater.{propertyOf, nameOf, controlOf}
 use Rattle.rows.specs.Put.{put, controlWords}
-use Rattle.rows.specs.Writing.{State, state, theirs, writeControls}
-use Rattle.rows.specs.Acts.{entryNodes, listNodes, _then_}
+use Rattle.rows.specs.Writing.{State, state, theirs}
+use Rattle.rows.specs.Acts.{_then_}
 use Rattle.rows.specs.declared.ControlRow.{ControlRow}
 use Rattle.rows.proofs.WritingLaws.{theirs-one, write-one}
-use Rattle.rows.proofs.ActLaws.{at-place, held-none}
+use Rattle.rows.proofs.ActLaws.{at-place}
 use Rattle.rows.proofs.RemainLaws.{Remain, remain-start, remain-as, ready-first, remain-step, remain-done}
 use Rattle.matchlater.specs.Match.{NextMatch}
-use Rattle.countlater.specs.Count.{item, children, groupIn, childrenOf, oneNode}
+use Rattle.countlater.specs.Count.{item, groupIn, childrenOf}
 use Rattle.countlater.specs.declared.Item.{Item}
-use Rattle.countlater.specs.declared.Children.{Children}
 use Rattle.countlater.proofs.PassedLaws.{item-inside, item-outside, props-some, props-none}
 use Rattle.matchlater.proofs.MatchLaws.{scan-same, scan-step, scan-end}
 use Rattle.countlater.proofs.ScanLaws.{shown-some, shown-none}
-use Rattle.countlater.proofs.NodeLaws.{children-of, children-bad, head-past, node-none, headNode, node-nodes}
-use Rattle.later.specs.Write.{nameIn, trailerOr0, propsAt, GroupReady, GroupDone, NodesReady, act, groupControl, ControlReady, ControlDone, scanned, ScanReady}
+use Rattle.later.specs.Write.{nameIn, trailerOr0, propsAt, GroupReady, GroupDone, act, groupControl, ControlReady, ControlDone, scanned, ScanReady}
 use Rattle.later.specs.declared.Wrote.{Wrote}
 
 -- ---- one control with its group
@@ -39,7 +34,7 @@ unfolding controlOf
 own-many s n = simp length-map
 
 module _ (s : List ℕ) (kind limit at : ℕ) (cs : List ℕ) (ci : ℕ) (ps : List ℕ) (pi : ℕ) (h : ControlReady s kind limit at (state cs ci ps pi)) where
-  their-own : length (theirs (groupControl s kind limit at ∷ [])) ≡ length (propsAt s limit at)
+  pub their-own : length (theirs (groupControl s kind limit at ∷ [])) ≡ length (propsAt s limit at)
   their-own = ap length (theirs-one (groupControl s kind limit at)) ∙ own-many s (node kind (propsAt s limit at))
 
   pub group-ready : GroupReady s limit at (length ps) pi
@@ -71,57 +66,13 @@ module _ (s : List ℕ) (kind limit at : ℕ) (cs : List ℕ) (ci : ℕ) (ps : L
 
 -- ---- a node
 -- what the code asks for its children, once the group is written
-children-told : (s : List ℕ) (p : ℕ) (y : ℕ × ℕ) → childrenOf s p ≡ some y → childrenAt s (trailerOr0 (groupIn s p .trailer)) (groupIn s p .stop) ≡ some y
+pub children-told : (s : List ℕ) (p : ℕ) (y : ℕ × ℕ) → childrenOf s p ≡ some y → childrenAt s (trailerOr0 (groupIn s p .trailer)) (groupIn s p .stop) ≡ some y
 unfolding childrenOf
 children-told s p y e = go (groupIn s p .trailer) refl
   where
     go : (o : Option ℕ) → groupIn s p .trailer ≡ o → childrenAt s (trailerOr0 (groupIn s p .trailer)) (groupIn s p .stop) ≡ some y
     go none f = let k = rw f at e in cc
     go (some t) f = rw f (rw f at e)
-
-module _ (d : ℕ) (s : List ℕ) (p : ℕ) (cs : List ℕ) (ci : ℕ) (ps : List ℕ) (pi : ℕ) (h : NodesReady s (entryNodes (oneNode d s p)) (state cs ci ps pi)) where
-  found : (y : ℕ × ℕ) × (childrenOf s p ≡ some y)
-  found = go (childrenOf s p) refl
-    where
-      go : (o : Option (ℕ × ℕ)) → childrenOf s p ≡ o → (y : ℕ × ℕ) × (childrenOf s p ≡ some y)
-      go none e = absurd (held-none _ (entryNodes (oneNode d s p)) (h .fits) (ap entryNodes (node-none s (nodesAt d s) p e)))
-      go (some y) e = (y, e)
-
-  pub node-inside : p ≤ length s
-  node-inside = go (ltb (length s) p) refl
-    where
-      go : (b : Bool) → ltb (length s) p ≡ b → p ≤ length s
-      go true e = absurd (let k : none ≡ some (found .0) = sym (head-past s p (ltb-true (length s) p e)) ∙ found .1 in let z : _≡_ {A = ℕ} 0 1 = cc in omega arith)
-      go false e = ltb-false (length s) p e
-
-  pub node-ready : (kind : ℕ) → kind ≡ u16 s p → ControlReady s kind (length s) (p + 6) (state cs ci ps pi)
-  node-ready kind e =
-      let y = found in
-      let r = ready-first (length s ≤ longest) (controlOf s) (headNode s p (y .0 .1)) (λ q. listNodes (nodesAt d s (y .0 .0) q)) (state cs ci ps pi) (rw (node-nodes s (nodesAt d s) p (y .0 .0) (y .0 .1) (y .1)) at h) in
-      rw e (record { inside = omega arith; small = h .known; fits = r .fits })
-
-  module _ (kind : ℕ) (ek : kind ≡ u16 s p) (w : Wrote) (cs′ ps′ : List ℕ) (done : ControlDone s kind (length s) (p + 6) (state cs ci ps pi) cs′ ps′ w) where
-    pub node-adds : ci + pi + (1 + w .count) ≤ longest
-    node-adds =
-        let r = node-ready kind ek in
-        omega (arith, r .fits .few, their-own s kind (length s) (p + 6) cs ci ps pi r, done .count)
-
-    module _ (u : Children) (ue : u ≡ children (childrenAt s (w .trailer) (w .stop))) where
-      below-is : childrenAt s (w .trailer) (w .stop) ≡ some (found .0)
-      below-is = ap₂ (childrenAt s) (done .trailer) (done .stop) ∙ children-told s p (found .0) (found .1)
-
-      pub node-never : u ≡ Children.Bad → ⊥
-      node-never uk = let b = below-is in let k = children-bad (childrenAt s (w .trailer) (w .stop)) u ue uk in let z : _≡_ {A = ℕ} 0 1 = cc in omega arith
-
-      pub node-remain : (n q : ℕ) → u ≡ Children.Of n q
-          → Remain (length s ≤ longest) (controlOf s) (listNodes (nodesAt d s n q)) (entryNodes (oneNode d s p)) (state cs ci ps pi) (state cs′ (ci + 1) ps′ (pi + w .count))
-      node-remain n q uk =
-          let st = state cs ci ps pi in
-          let next = state cs′ (ci + 1) ps′ (pi + w .count) in
-          let e : childrenOf s p ≡ some (n, q) = found .1 ∙ sym below-is ∙ children-of (childrenAt s (w .trailer) (w .stop)) u n q ue uk in
-          let k : some (at-place next q) ≡ act s (headNode s p q) st = ap (λ z. some (at-place z q)) (done .is ∙ ap (λ k. writeControls (groupControl s k (length s) (p + 6) ∷ []) st) ek) in
-          remain-step _ (controlOf s) (headNode s p q) (λ e. listNodes (nodesAt d s n e)) (entryNodes (oneNode d s p)) st st next q
-          (remain-start _ (controlOf s) (headNode s p q then λ e. listNodes (nodesAt d s n e)) (entryNodes (oneNode d s p)) st (node-nodes s (nodesAt d s) p n q e) h) k
 
 -- ---- the scan
 pub record Sweeping (s : List ℕ) (from : ℕ) (old : State) (a : ℕ) (now : State) : Type 0 where

@@ -2,12 +2,13 @@
 use countlater::Children;
 use countlater::Counts;
 use countlater::Item;
-use countlater::Section;
 use countlater::children_at;
 use countlater::count;
 use countlater::ends_group;
 use countlater::parse_entry;
-use countlater::section_at;
+use cursor::Cursor;
+use cursorlater::past;
+use cursorlater::reported;
 use leaf::u16_at;
 use leaf::u32_at;
 use matchlater::find_match;
@@ -28,8 +29,8 @@ ghost use Rattle.rules.specs.Later.{propertyAt, nodesAt};
 ghost use Rattle.rules.specs.ReadLater.{propertyOf, nameBy};
 ghost use Rattle.rules.specs.declared.Name.the-variants.{Numbered};
 ghost use Rattle.rows.specs.Writing.{state};
-ghost use Rattle.rows.specs.Acts.{entryNodes, listNodes, topNodes, stood};
-ghost use Rattle.countlater.specs.Count.{oneNode, wholeTree};
+ghost use Rattle.rows.specs.Acts.{topNodes, stood};
+ghost use Rattle.countlater.specs.Count.{wholeTree};
 ghost use Rattle.later.specs.Write.{orName, firstName, PropertyInside, GroupReady, GroupDone, ControlReady, ControlDone, NodesReady, act, scanned, ScanReady, BlobReady, BlobDone, Ended};
 
 // A control's name, where a property has told it.
@@ -172,84 +173,10 @@ fn write_control(
     w
 }
 
-// Writes the node at `at` and all below it, where `left` levels are left below it.
-fn write_node(
-    s: &[u8],
-    at: usize,
-    left: usize,
-    controls: &mut [u32],
-    control: usize,
-    properties: &mut [u32],
-    property: usize,
-) -> Next
-    requires { ⌜ NodesReady (now s) (entryNodes (oneNode left (now s) at)) (state (now controls) control (now properties) property) ⌝ }
-    ensures { λ r. ⌜ some (stood (now (controls .exit)) (r .control) (now (properties .exit)) (r .property) (r .at)) ≡ act (now (s .entry)) (entryNodes (oneNode left (now (s .entry)) at)) (state (now (controls .entry)) control (now (properties .entry)) property) ⌝ }
-{
-    let w = write_control(
-        s,
-        u16_at(s, at),
-        s.len(),
-        at + 6,
-        controls,
-        control,
-        properties,
-        property,
-    );
-    match children_at(s, w.trailer, w.stop) {
-        Children::Bad => Next {
-            at,
-            control,
-            property,
-        },
-        Children::Of { count, next } => write_nodes(
-            s,
-            count,
-            next,
-            left,
-            controls,
-            control + 1,
-            properties,
-            property + w.count,
-        ),
-    }
-}
-
-// Writes `n` nodes from `at` on, with `left` levels left.
-fn write_nodes(
-    s: &[u8],
-    n: usize,
-    at: usize,
-    left: usize,
-    controls: &mut [u32],
-    control: usize,
-    properties: &mut [u32],
-    property: usize,
-) -> Next
-    requires { ⌜ NodesReady (now s) (listNodes (nodesAt left (now s) n at)) (state (now controls) control (now properties) property) ⌝ }
-    ensures { λ r. ⌜ some (stood (now (controls .exit)) (r .control) (now (properties .exit)) (r .property) (r .at)) ≡ act (now (s .entry)) (listNodes (nodesAt left (now (s .entry)) n at)) (state (now (controls .entry)) control (now (properties .entry)) property) ⌝ }
-{
-    let mut p = at;
-    let mut k = n;
-    let mut i = control;
-    let mut j = property;
-    while 0 < k {
-        let next = write_node(s, p, left - 1, controls, i, properties, j);
-        p = next.at;
-        i = next.control;
-        j = next.property;
-        k = k - 1;
-    }
-    Next {
-        at: p,
-        control: i,
-        property: j,
-    }
-}
-
 // Writes the reported of the `n` top nodes from `at` on, with all below them.
 fn write_sections(
     s: &[u8],
-    n: usize,
+    n: u32,
     at: usize,
     controls: &mut [u32],
     properties: &mut [u32],
@@ -258,27 +185,36 @@ fn write_sections(
     requires { ⌜ NodesReady (now s) (topNodes (nodesAt 256 (now s) n at)) (state (now controls) 0 (now properties) property) ⌝ }
     ensures { λ r. ⌜ some (stood (now (controls .exit)) (r .control) (now (properties .exit)) (r .property) (r .at)) ≡ act (now (s .entry)) (topNodes (nodesAt 256 (now (s .entry)) n at)) (state (now (controls .entry)) 0 (now (properties .entry)) property) ⌝ }
 {
-    let mut p = at;
-    let mut k = n;
+    let mut stack = [0; 512];
+    let mut c = reported(
+        s,
+        Cursor {
+            at,
+            level: 0,
+            left: n,
+            parent: 0xFFFFFFFF,
+        },
+    );
     let mut i: usize = 0;
     let mut j = property;
-    while 0 < k {
-        match section_at(s, p) {
-            Section::Left { next } => {
-                p = next;
-                k = k - 1;
-            }
-            Section::Kept => {
-                let next = write_node(s, p, 255, controls, i, properties, j);
-                p = next.at;
-                i = next.control;
-                j = next.property;
-                k = k - 1;
-            }
-        }
+    while 0 < c.left {
+        let place = c.at;
+        let w = write_control(
+            s,
+            u16_at(s, place),
+            s.len(),
+            place + 6,
+            controls,
+            i,
+            properties,
+            j,
+        );
+        c = reported(s, past(s, &mut stack, c, i as u32, w.trailer, w.stop));
+        i = i + 1;
+        j = j + w.count;
     }
     Next {
-        at: p,
+        at: c.at,
         control: i,
         property: j,
     }
@@ -338,7 +274,7 @@ fn write_tree(
             property,
         },
         Children::Of { count, next } => {
-            write_sections(s, count, next, controls, properties, property)
+            write_sections(s, count as u32, next, controls, properties, property)
         }
     }
 }

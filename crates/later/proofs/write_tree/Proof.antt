@@ -1,3 +1,5 @@
+use native.Mathlib.Omega.{arith}
+use Rattle.cursorlater.proofs.StepLaws.{count-small}
 use borrow.Author.Needs.{needs}
 use Rattle.later.proofs.ReadLaws.{tree-never, tree-ready, tree-done}
 use Rattle.later.proofs.write_tree.Statement.{statement}
@@ -8,6 +10,7 @@ write-tree-spec =
     tie.close
     (tie.spec
     (λ c κs. search needs) (λ c. search needs) (λ c. search needs)
+    (λ c. omega (arith, count-small _ _ _ _ (c .before .before .before .children-at .ensures) (λ i. c .before .before .before .before .before .before .shared-slice-known .given i .fits) _ _ (c .before .count .given .1)))
     (λ c κs. tree-ready _ _ _ _ (c .before .before .before .before .before .before .before .before .before .pre) _ (c .before .before .before .before .before .children-at .ensures) _ _ (c .before .before .before .count .given .1))
     (λ c. absurd (tree-never _ _ _ _ (c .before .before .before .before .before .before .pre) _ (c .before .before .children-at .ensures) (c .enum-told .given .1)))
     (λ c. search needs) (λ c. search needs)
