@@ -13,7 +13,7 @@ nodeOf v = v .node
 mutual
   unfolding visits1 visits preorder1 preorder
 
-  pub forget1 : {P : Type 0} (l up n : ℕ) (e : Entry P) → map nodeOf (visits1 l up n e) ≡ preorder1 e
+  forget1 : {P : Type 0} (l up n : ℕ) (e : Entry P) → map nodeOf (visits1 l up n e) ≡ preorder1 e
   forget1 l up n (plain t ps) = refl
   forget1 l up n (parent t ps es) = ap (λ ns. node t ps ∷ ns) (forget (suc l) n (suc n) es)
 

@@ -23,9 +23,6 @@ picked-reported end = refl
 picked-reported (more e es) = rw (picked-reported es)
 
 module _ {P : Type 0} (step : Steps P) (pick : Entry P → Bool) where
-  abbrev one : ℕ → ℕ → Option (Entry P × ℕ)
-  one d p = entryBy step (levelsAt (entryBy step) d) p
-
   -- the innermost list has no entry left
   pub rest-end : (d n up p : ℕ) → restAt step pick d n (frame 0 up) [] p ≡ some ([], p)
   unfolding restAt tailAt picked visits
@@ -76,16 +73,12 @@ module _ {P : Type 0} (step : Steps P) (pick : Entry P → Bool) where
       go none = refl
       go (some y) = tail-more d n up fs e (y .0) (y .1) h
 
-  bind-both : {A B C : Type 0} (o : Option A) (f : A → Option B) (g : B → Option C) → (o >>= f >>= g) ≡ (o >>= λ x. f x >>= g)
-  bind-both none f g = refl
-  bind-both (some x) f g = refl
-
   -- ---- the entry at p, then what is behind it
   module _ (d n k up : ℕ) (fs : List Frame) where
-    abbrev pub entered : Step P → Visits P
+    abbrev entered : Step P → Visits P
     entered x = visited (length fs) up (x .node) ∷ [] before behind step pick d n (frame k up) fs (x .children) (x .next)
 
-    abbrev pub Picks : Option (Entry P × ℕ) → Type 0
+    abbrev Picks : Option (Entry P × ℕ) → Type 0
     Picks o = isEmpty fs → Every (λ e. pick (e .0) ≡ true) o
 
     -- its list was read

@@ -1,20 +1,22 @@
 -- The nodes of a later stream are read by their steps; and the cursor behind a node.
 use Prim.Native.Nat.{ℕ, zero, suc, _+_, _<_}
 use native.Mathlib.Omega.{arith}
-use mathlib.Core.Path.{_≡_, refl, ap, _∙_}
+use mathlib.Core.Path.{_≡_, refl, sym, ap, _∙_}
+use mathlib.Core.Bool.{true, false}
 use mathlib.Core.List.{List}
 use mathlib.Core.Option.{Option, none, some}
 use lib.Dec.{leb, eqb}
 use lib.ListN.{length}
 use Rattle.rules.specs.Lists.{_>>=_}
 use Rattle.rules.specs.Bytes.{Bytes, u16}
-use Rattle.rules.specs.Tree.{Entry, parent, Entries, end, more, levelsAt, manyAt, node}
+use Rattle.rules.specs.Tree.{Entry, parent, Entries, end, more, levelsAt, manyAt, node, isReported}
 use Rattle.rules.specs.Later.{Prop, groupAt, childrenAt, withChildren, nodeAt, nodesAt}
 use Rattle.rules.proofs.ListLaws.{Every, every-if, every-at}
 use Rattle.rows.proofs.LevelLaws.{levels-none, levels-more, isMore}
-use Rattle.countlater.specs.Count.{children}
+use Rattle.countlater.specs.Count.{children, oneNode, section}
 use Rattle.countlater.specs.declared.Children.{Children}
-use Rattle.countlater.proofs.NodeLaws.{children-of, children-bad}
+use Rattle.countlater.specs.declared.Section.{Section}
+use Rattle.countlater.proofs.NodeLaws.{children-of, children-bad, section-kept, section-left}
 use Rattle.cursor.specs.Walk.{Step, closeBy, entryBy}
 use Rattle.cursor.specs.Stack.{Moved}
 use Rattle.cursor.specs.Cursors.{topAt, PastReady, Past}
@@ -77,9 +79,19 @@ pub nodes-same : (s : List ℕ) (d n p : ℕ) → nodesAt d s n p ≡ levelsAt (
 unfolding nodesAt
 nodes-same s d n p = nodes-by s d n p
 
-pub top-same : (s : List ℕ) (p : ℕ) → nodeAt s (nodesAt 255 s) p ≡ topAt (stepAt s) p
+top-same : (s : List ℕ) (p : ℕ) → nodeAt s (nodesAt 255 s) p ≡ topAt (stepAt s) p
 unfolding nodesAt
 top-same s p = node-same s (nodeAt s) 255 p ∙ ap (λ below. entryBy (stepAt s) below p) (λ i m q. nodes-by s 255 m q i)
+
+-- ---- a top node that is reported, or can't be read, and one that is passed over
+module _ (s : List ℕ) (p : ℕ) (r : Section) (re : r ≡ section (oneNode 255 s p)) where
+  pub kept-top : r ≡ Section.Kept → Every (λ e. isReported (e .0) ≡ true) (topAt (stepAt s) p)
+  kept-top rk = rw (← top-same s p) (section-kept (oneNode 255 s p) r re rk)
+
+  pub left-top : (next : ℕ) → r ≡ Section.Left next → (e : Entry Prop) × (topAt (stepAt s) p ≡ some (e, next)) × (isReported e ≡ false)
+  left-top next rk =
+      let x = section-left (oneNode 255 s p) r next re rk in
+      (x .0, sym (top-same s p) ∙ x .2, x .1)
 
 -- ---- a count fits its word
 abbrev CountSmall : ℕ × ℕ → Type 0

@@ -3,7 +3,7 @@ use Prim.Native.Nat.{ℕ, _+_}
 use native.Mathlib.Omega.{arith}
 use mathlib.Core.Path.{_≡_, refl, sym, ap, _∙_}
 use mathlib.Core.List.{List, [], _++_, map}
-use mathlib.Core.Option.{Option, none, some}
+use mathlib.Core.Option.{none, some}
 use lib.ListN.{length, length-append}
 use Rattle.rules.specs.Lists.{_>>=_}
 use Rattle.rules.specs.Tree.{Node}
@@ -15,13 +15,6 @@ use Rattle.rows.specs.Acts.{Nodes, _then_, Held, Fit, Stood, actBy}
 
 abbrev pub at-place : State → ℕ → Stood
 at-place st e = record { state = st; next = e }
-
--- where something was read
-pub held-some : {A : Type 0} (P : A → Type 0) (o : Option A) (a : A) → Held P o → o ≡ some a → P a
-held-some P o a h e = rw e at h
-
-pub held-none : {A : Type 0} (P : A → Type 0) (o : Option A) → Held P o → o ≡ none → ⊥
-held-none P o h e = rw e at h
 
 -- room for these controls and those is room for these, and then for those
 pub fit-both : (a b : List Control) (st : State) → Fit (a ++ b) st → Fit a st × Fit b (writeControls a st)

@@ -1,12 +1,11 @@
 -- What writing the nodes of a tree does, whatever the layout: `f` makes a control of a node.
 use Prim.Native.Nat.{ℕ, _+_, _≤_}
-use mathlib.Core.Bool.{cond}
 use mathlib.Core.List.{List, [], _++_, map}
 use mathlib.Core.Option.{Option, none, some}
 use lib.ListN.{length}
 use Rattle.rules.specs.Lists.{_>>=_}
 use Rattle.rules.specs.Answer.{longest}
-use Rattle.rules.specs.Tree.{Entry, Entries, Node, preorder1, preorder, nodesOf, isReported}
+use Rattle.rules.specs.Tree.{Entries, Node, nodesOf}
 use Rattle.rules.specs.Reading.{Control}
 use Rattle.rows.specs.Writing.{State, state, theirs, writeControls, Room}
 
@@ -14,23 +13,10 @@ use Rattle.rows.specs.Writing.{State, state, theirs, writeControls, Room
 abbrev pub Nodes : Type 0 → Type 0
 Nodes P = Option (List (Node P) × ℕ)
 
-abbrev pub entryNodes : {P : Type 0} → Option (Entry P × ℕ) → Nodes P
-entryNodes none = none
-entryNodes (some x) = some (preorder1 (x .0), x .1)
-
-abbrev pub listNodes : {P : Type 0} → Option (Entries P × ℕ) → Nodes P
-listNodes none = none
-listNodes (some x) = some (preorder (x .0), x .1)
-
 -- of the top list, those that are reported
 abbrev pub topNodes : {P : Type 0} → Option (Entries P × ℕ) → Nodes P
 topNodes none = none
 topNodes (some x) = some (nodesOf (x .0), x .1)
-
--- an entry of the top list with all below it, where it is reported
-abbrev pub keptNodes : {P : Type 0} → Option (Entry P × ℕ) → Nodes P
-keptNodes none = none
-keptNodes (some x) = some (cond (isReported (x .0)) (preorder1 (x .0)) [], x .1)
 
 -- these, and then those from the place behind them on
 abbrev pub _then_ : {P : Type 0} → Nodes P → (ℕ → Nodes P) → Nodes P

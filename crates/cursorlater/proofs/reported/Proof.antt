@@ -5,7 +5,7 @@ use Rattle.rules.specs.Tree.{isReported}
 use Rattle.cursor.specs.Cursors.{cursor}
 use Rattle.cursor.proofs.CursorLaws.{Passing, passing-none, passed-all, passed-some, passing-next, passed-none}
 use Rattle.cursorlater.specs.Steps.{stepAt}
-use Rattle.cursorlater.proofs.TopLaws.{kept-top, left-top}
+use Rattle.cursorlater.proofs.StepLaws.{kept-top, left-top}
 use Rattle.cursorlater.proofs.reported.Statement.{statement}
 use Rattle.cursorlater.proofs.reported.Tie as tie
 
