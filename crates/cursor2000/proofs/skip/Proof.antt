@@ -18,13 +18,25 @@ returns-3 : tie.Need-returns-3
 returns-3 c = skip-run-bad _ _ _ (c .before .before .before .before .before .before .before .before .half .ensures) _ (c .before .before .before .before .before .before .kind .given .1) _ (c .before .before .before .before .is-section .ensures) _ (c .before .before .props .ensures) (c .enum-told2 .given .1)
 
 returns-4 : tie.Need-returns-4
-returns-4 c = skip-plain _ _ _ (c .before .before .before .before .before .before .before .before .before .before .before .before .before .half .ensures) _ (c .before .before .before .before .before .before .before .before .before .before .before .kind .given .1) _ (c .before .before .before .before .before .before .before .before .before .is-section .ensures) _ (c .before .before .before .before .before .before .before .props .ensures) _ _ (c .before .before .before .before .before .next .given .1) _ (c .before .before .before .head .ensures) _ (c .before .end .given .1) (c .before .before .before .before .before .before .before .before .if1 .left)
+returns-4 c =
+    let headed = c .before .before .before in
+    let ran = headed .before .before .before .before in
+    let typed = ran .before .before .before .before in
+    skip-plain _ _ _ (typed .before .before .half .ensures) _ (typed .kind .given .1) _ (ran .before .before .is-section .ensures) _ (ran .props .ensures) _ _ (headed .before .before .next .given .1) _ (headed .head .ensures) _ (c .before .end .given .1) (ran .before .if1 .left)
 
 returns-5 : tie.Need-returns-5
-returns-5 c = skip-listed _ _ _ (c .before .before .before .before .before .before .before .before .before .before .before .before .half .ensures) _ (c .before .before .before .before .before .before .before .before .before .before .kind .given .1) _ (c .before .before .before .before .before .before .before .before .is-section .ensures) _ (c .before .before .before .before .before .before .props .ensures) _ _ (c .before .before .before .before .next .given .1) _ (c .before .before .head .ensures) _ _ (c .enum-told3 .given .1)
+returns-5 c =
+    let headed = c .before .before in
+    let ran = headed .before .before .before .before in
+    let typed = ran .before .before .before .before in
+    skip-listed _ _ _ (typed .before .before .half .ensures) _ (typed .kind .given .1) _ (ran .before .before .is-section .ensures) _ (ran .props .ensures) _ _ (headed .before .before .next .given .1) _ (headed .head .ensures) _ _ (c .enum-told3 .given .1)
 
 returns-6 : tie.Need-returns-6
-returns-6 c = skip-head-bad _ _ _ (c .before .before .before .before .before .before .before .before .before .before .before .before .half .ensures) _ (c .before .before .before .before .before .before .before .before .before .before .kind .given .1) _ (c .before .before .before .before .before .before .before .before .is-section .ensures) _ (c .before .before .before .before .before .before .props .ensures) _ _ (c .before .before .before .before .next .given .1) _ (c .before .before .head .ensures) (c .enum-told4 .given .1)
+returns-6 c =
+    let headed = c .before .before in
+    let ran = headed .before .before .before .before in
+    let typed = ran .before .before .before .before in
+    skip-head-bad _ _ _ (typed .before .before .half .ensures) _ (typed .kind .given .1) _ (ran .before .before .is-section .ensures) _ (ran .props .ensures) _ _ (headed .before .before .next .given .1) _ (headed .head .ensures) (c .enum-told4 .given .1)
 
 pub skip-spec : {M : Type 1} → statement M
 skip-spec =

@@ -20,21 +20,29 @@ abbrev μ-loop : tie.MeasureT-loop
 μ-loop s n at controls₀ properties₀ property stack₀ c₀ i₀ j₀ controls properties stack c i j = howMany (left (stepAt s) i stack c)
 
 write-control-requires : tie.Need-write-control-requires Inv-loop μ-loop
-write-control-requires c κs = going-ready _ _ _ _ _ _ _ _ _ (c .before .before .before .before .before .loop .inv .0) (c .before .before .before .if1 .taken) _ (c .before .before .u16-at .ensures)
+write-control-requires c κs = going-ready _ _ _ _ _ _ _ _ _ (c .before .before .before .before .before .loop .inv .0) (omega arith) _ (c .before .before .u16-at .ensures)
 
 past-requires : tie.Need-past-requires Inv-loop μ-loop
-past-requires c κs = going-past _ _ _ _ _ _ _ _ _ (c .before .before .before .before .before .before .before .before .before .before .before .loop .inv .0) (c .before .before .before .before .before .before .before .before .before .if1 .taken) _ (c .before .before .before .before .before .before .before .before .u16-at .ensures) _ _ _ (c .before .before .before .before .before .write-control .ensures)
+past-requires c κs =
+    let wrote = c .before .before .before .before .before in
+    let turn = wrote .before .before .before .before .before .before in
+    going-past _ _ _ _ _ _ _ _ _ (turn .loop .inv .0) (omega arith) _ (wrote .before .before .before .u16-at .ensures) _ _ _ (wrote .write-control .ensures)
 
 loop-less : tie.Need-loop-less Inv-loop μ-loop
-loop-less c = going-less _ _ _ _ _ _ _ _ _ (c .before .before .before .before .before .before .before .before .before .before .before .before .before .before .loop .inv .0) (c .before .before .before .before .before .before .before .before .before .before .before .before .if1 .taken) _ (c .before .before .before .before .before .before .before .before .before .before .before .u16-at .ensures) _ _ _ (c .before .before .before .before .before .before .before .before .write-control .ensures) _ _ _ (c .before .before .past .ensures) (c .before .reported2 .ensures)
+loop-less c =
+    let wrote = c .before .before .before .before .before .before .before .before in
+    let turn = wrote .before .before .before .before .before .before in
+    going-less _ _ _ _ _ _ _ _ _ (turn .loop .inv .0) (omega arith) _ (wrote .before .before .before .u16-at .ensures) _ _ _ (wrote .write-control .ensures) _ _ _ (c .before .before .past .ensures) (c .before .reported2 .ensures)
 
 loop-again : tie.Need-loop-again Inv-loop μ-loop
-loop-again c = (
-  going-next _ _ _ _ _ _ _ _ _ (c .before .before .before .before .before .before .before .before .before .before .before .before .before .before .loop .inv .0) (c .before .before .before .before .before .before .before .before .before .before .before .before .if1 .taken) _ (c .before .before .before .before .before .before .before .before .before .before .before .u16-at .ensures) _ _ _ (c .before .before .before .before .before .before .before .before .write-control .ensures) _ _ _ (c .before .before .past .ensures) (c .before .reported2 .ensures),
-  c .before .before .before .before .before .before .before .before .write-control .kept .1 .1 .1 .1 .0 ∙ c .before .before .before .before .before .before .before .before .before .before .before .before .before .before .loop .inv .1,
-  c .before .before .before .before .before .before .before .before .write-control .kept .1 .1 .1 .1 .1 .1 .0 ∙ c .before .before .before .before .before .before .before .before .before .before .before .before .before .before .loop .inv .2,
-  c .before .before .before .before .before .before .before .before .before .before .before .before .before .before .loop .inv .3,
-)
+loop-again c =
+    let wrote = c .before .before .before .before .before .before .before .before in
+    let turn = wrote .before .before .before .before .before .before in (
+      going-next _ _ _ _ _ _ _ _ _ (turn .loop .inv .0) (omega arith) _ (wrote .before .before .before .u16-at .ensures) _ _ _ (wrote .write-control .ensures) _ _ _ (c .before .before .past .ensures) (c .before .reported2 .ensures),
+      wrote .write-control .kept .1 .1 .1 .1 .0 ∙ turn .loop .inv .1,
+      wrote .write-control .kept .1 .1 .1 .1 .1 .1 .0 ∙ turn .loop .inv .2,
+      turn .loop .inv .3,
+    )
 
 pub write-sections-spec : {M : Type 1} → statement M
 write-sections-spec =
@@ -45,13 +53,13 @@ write-sections-spec =
     (λ c κs. search needs)
     (λ c. (going-start _ _ _ _ _ _ _ _ (length-replicate {A = ℕ} 512 0) (c .before .before .before .before .pre) (c .reported .ensures), refl, refl, c .before .before .before .before .pre .known))
     (λ c κs. search needs)
-    (λ c. omega (arith, going-inside _ _ _ _ _ _ _ _ _ (c .before .before .before .loop .inv .0) (c .before .if1 .taken), c .before .before .before .loop .inv .3))
+    (λ c. omega (arith, going-inside _ _ _ _ _ _ _ _ _ (c .before .before .before .loop .inv .0) (omega arith), c .before .before .before .loop .inv .3))
     write-control-requires
-    (λ c. omega (arith, going-adds _ _ _ _ _ _ _ _ _ (c .before .before .before .before .before .before .before .before .before .before .before .loop .inv .0) (c .before .before .before .before .before .before .before .before .before .if1 .taken) _ (c .before .before .before .before .before .before .before .before .u16-at .ensures) _ _ _ (c .before .before .before .before .before .write-control .ensures)))
+    (λ c. let wrote = c .before .before .before .before .before in omega (arith, going-adds _ _ _ _ _ _ _ _ _ (wrote .before .before .before .before .before .before .loop .inv .0) (omega arith) _ (wrote .before .before .before .u16-at .ensures) _ _ _ (wrote .write-control .ensures)))
     past-requires
     (λ c κs. search needs)
-    (λ c. omega (arith, going-adds _ _ _ _ _ _ _ _ _ (c .before .before .before .before .before .before .before .before .before .before .before .before .before .loop .inv .0) (c .before .before .before .before .before .before .before .before .before .before .before .if1 .taken) _ (c .before .before .before .before .before .before .before .before .before .before .u16-at .ensures) _ _ _ (c .before .before .before .before .before .before .before .write-control .ensures)))
-    (λ c. omega (arith, going-adds _ _ _ _ _ _ _ _ _ (c .before .before .before .before .before .before .before .before .before .before .before .before .before .before .loop .inv .0) (c .before .before .before .before .before .before .before .before .before .before .before .before .if1 .taken) _ (c .before .before .before .before .before .before .before .before .before .before .before .u16-at .ensures) _ _ _ (c .before .before .before .before .before .before .before .before .write-control .ensures)))
+    (λ c. let wrote = c .before .before .before .before .before .before .before in omega (arith, going-adds _ _ _ _ _ _ _ _ _ (wrote .before .before .before .before .before .before .loop .inv .0) (omega arith) _ (wrote .before .before .before .u16-at .ensures) _ _ _ (wrote .write-control .ensures)))
+    (λ c. let wrote = c .before .before .before .before .before .before .before .before in omega (arith, going-adds _ _ _ _ _ _ _ _ _ (wrote .before .before .before .before .before .before .loop .inv .0) (omega arith) _ (wrote .before .before .before .u16-at .ensures) _ _ _ (wrote .write-control .ensures)))
     loop-less
     loop-again
     (λ c. c .before .before .loop .inv .1)

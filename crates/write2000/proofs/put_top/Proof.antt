@@ -20,23 +20,31 @@ abbrev μ-loop : tie.MeasureT-loop
 μ-loop table hints₀ scopes s at n controls₀ rows₀ p stack₀ c₀ i₀ j₀ hints controls rows stack c i j = howMany (left (stepAt s) i stack c)
 
 put-node-requires : tie.Need-put-node-requires Inv-loop μ-loop
-put-node-requires c κs = going-ready _ _ _ _ _ _ _ _ (c .before .before .before .before .before .loop .inv .0) (c .before .before .before .if1 .taken)
+put-node-requires c κs = going-ready _ _ _ _ _ _ _ _ (c .before .before .before .before .before .loop .inv .0) (omega arith)
 
 cast-past : tie.Need-cast-past Inv-loop μ-loop
-cast-past c = omega (arith, going-small _ _ _ _ _ _ _ _ (c .before .before .before .before .before .before .before .before .before .before .before .loop .inv .0) (c .before .before .before .before .before .before .before .before .before .if1 .taken))
+cast-past c = omega (arith, going-small _ _ _ _ _ _ _ _ (c .before .before .before .before .before .before .before .before .before .before .before .loop .inv .0) (omega arith))
 
 past-requires : tie.Need-past-requires Inv-loop μ-loop
-past-requires c κs = going-past _ _ _ _ _ _ _ _ (c .before .before .before .before .before .before .before .before .before .before .before .loop .inv .0) (c .before .before .before .before .before .before .before .before .before .if1 .taken) _ _ (c .before .before .before .before .before .put-node .ensures)
+past-requires c κs =
+    let wrote = c .before .before .before .before .before in
+    let turn = wrote .before .before .before .before .before .before in
+    going-past _ _ _ _ _ _ _ _ (turn .loop .inv .0) (omega arith) _ _ (wrote .put-node .ensures)
 
 loop-less : tie.Need-loop-less Inv-loop μ-loop
-loop-less c = going-less _ _ _ _ _ _ _ _ (c .before .before .before .before .before .before .before .before .before .before .before .before .before .loop .inv .0) (c .before .before .before .before .before .before .before .before .before .before .before .if1 .taken) _ _ (c .before .before .before .before .before .before .before .put-node .ensures) _ _ _ (c .before .past .ensures) (c .reported2 .ensures)
+loop-less c =
+    let wrote = c .before .before .before .before .before .before .before in
+    let turn = wrote .before .before .before .before .before .before in
+    going-less _ _ _ _ _ _ _ _ (turn .loop .inv .0) (omega arith) _ _ (wrote .put-node .ensures) _ _ _ (c .before .past .ensures) (c .reported2 .ensures)
 
 loop-again : tie.Need-loop-again Inv-loop μ-loop
-loop-again c = (
-  going-next _ _ _ _ _ _ _ _ (c .before .before .before .before .before .before .before .before .before .before .before .before .before .loop .inv .0) (c .before .before .before .before .before .before .before .before .before .before .before .if1 .taken) _ _ (c .before .before .before .before .before .before .before .put-node .ensures) _ _ _ (c .before .past .ensures) (c .reported2 .ensures),
-  c .before .before .before .before .before .before .before .put-node .kept .1 .1 .1 .1 .1 .0 ∙ c .before .before .before .before .before .before .before .before .before .before .before .before .before .loop .inv .1,
-  c .before .before .before .before .before .before .before .put-node .kept .1 .1 .1 .1 .1 .1 .1 .0 ∙ c .before .before .before .before .before .before .before .before .before .before .before .before .before .loop .inv .2,
-)
+loop-again c =
+    let wrote = c .before .before .before .before .before .before .before in
+    let turn = wrote .before .before .before .before .before .before in (
+      going-next _ _ _ _ _ _ _ _ (turn .loop .inv .0) (omega arith) _ _ (wrote .put-node .ensures) _ _ _ (c .before .past .ensures) (c .reported2 .ensures),
+      wrote .put-node .kept .1 .1 .1 .1 .1 .0 ∙ turn .loop .inv .1,
+      wrote .put-node .kept .1 .1 .1 .1 .1 .1 .1 .0 ∙ turn .loop .inv .2,
+    )
 
 pub put-top-spec : {M : Type 1} → statement M
 put-top-spec =
