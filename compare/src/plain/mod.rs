@@ -1,5 +1,5 @@
 //! Document 01 read a second time, plainly, with places: it shares no code with jetdb and none with the Rattle crates.
-//! Trees are walked with a stack of counts, not by recursion, so that a slip in the levels is not shared either.
+//! Trees are judged with a stack of counts, not by recursion, so that a slip in the levels is not shared either.
 
 pub mod access2000;
 pub mod codes;
