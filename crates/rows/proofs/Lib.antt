@@ -1,4 +1,4 @@
--- Laws for whoever writes rows in a loop or by recursion.
+-- Laws for whoever counts entries or writes their rows.
 pub mod PutLaws
 pub mod WritingLaws
 pub mod CountingLaws
