@@ -1,2 +1,3 @@
--- What the reader of a table's text hands from one function to the next.
-pub mod Places
+-- What the lines of a code table's text say.
+pub mod Words
+pub mod Items

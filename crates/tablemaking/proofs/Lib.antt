@@ -1,3 +1,5 @@
--- Laws of making a table, and of the lines that are printed.
+-- Laws of judging a text, of the table that it says.
+pub mod Judging
+pub mod Parts
+pub mod Formed
 pub mod Making
-pub mod Reasons

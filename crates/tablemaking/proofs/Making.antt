@@ -1,57 +1,80 @@
--- What a refusal and a table that was handed out say.
-use mathlib.Core.Path.{_≡_, refl, ap, subst, sym, _∙_}
-use mathlib.Core.Bool.{true}
-use mathlib.Core.List.{List}
-use Prim.Native.Nat.{ℕ, _+_, _≤_, _<_}
+-- The exits of making a table, and the numbers of a text that was judged.
+use Prim.Native.Nat.{ℕ, _+_, _*_, _≤_, _<_}
 use native.Mathlib.Omega.{arith}
-use lib.ListN.{length, take, drop}
-use lib.Seq.{take-at, drop-at, length-take-le}
-use Rattle.rules.specs.CodeTable.{wellFormed}
+use native.Mathlib.Nat.{zero-add}
+use mathlib.Core.Path.{_≡_, refl, sym, ap, subst, _∙_}
+use mathlib.Core.List.{List, [], _∷_, _++_}
+use borrow.Author.Tests.{lt-ltb, le-ltb, eq-eqb, ne-eqb}
+use lib.ListN.{length, drop}
+use Rattle.rules.specs.Join.{twoBytes}
 use Rattle.text.specs.Writer.{Wrote}
-use Rattle.text.proofs.Chain.{same}
 use Rattle.text.proofs.Written.{all}
-use Rattle.tabletext.specs.Text.{tableText}
-use Rattle.tabletext.specs.Input.{Began, whole, filled}
-use Rattle.tabletext.proofs.Longest.{whole-table}
-use Rattle.tablelines.specs.Places.{longestText}
-use Rattle.tablesaid.specs.Said.{said}
+use Rattle.tablelines.specs.Items.{itemsOf}
+use Rattle.tablemaking.specs.Judged.{judged}
+use Rattle.tablemaking.specs.Made.{headersOf, scopesOf, codesSaid, scopesSaid, rowsSaid, tableSaid, FewRows, longestText, longText, noRoom, MadeExit, MadeAs, refused, written, makeExit}
+use Rattle.tablemaking.specs.declared.Judged.{Judged}
 use Rattle.tablemaking.specs.declared.Made.{Made}
-use Rattle.tablemaking.specs.Made.{SaidBy, Makes}
+use Rattle.tablemaking.proofs.Parts.{parts-are}
+use Rattle.tablemaking.proofs.Formed.{counts, no-rows-above, few-headers, few-scopes, said-fits, said-length}
 
--- a table that is well formed, and whose own text was written and says the same
-pub tested : {text table o new : List ℕ} {n : ℕ} → wellFormed table ≡ true → Wrote o 0 (tableText table) new n → 731386 ≤ length o
-    → said (take n new) ≡ said text → SaidBy text table
-tested {text} {table} w l h e = record { formed = w; says = ap said (sym (whole-table table w l h)) ∙ e }
+-- ---- exits
+pub exits : {e x : MadeExit} {r : Made} {n : List ℕ} → e ≡ x → r ≡ x .made → n ≡ x .out → MadeAs e r n
+exits e a b = record { made = a ∙ sym (ap (λ (x : MadeExit). x .made) e); out = b ∙ sym (ap (λ (x : MadeExit). x .out) e) }
 
-pub not-made : (text o : List ℕ) {r : Made} → (r .error ≡ 0 → ⊥) → r .size ≡ 0 → Makes text o o r
-not-made text o n z = record { short = λ e. absurd (n e); table = λ e. absurd (n e); behind = λ e. absurd (n e); refused = λ k. refl; within = omega arith }
+pub too-long : (s out : List ℕ) → longestText < length s → makeExit s out ≡ refused longText 0 out
+unfolding makeExit
+too-long s out h = rw (lt-ltb longestText (length s) h)
 
-module _ (text work o : List ℕ) (n : ℕ) {new : List ℕ} {next : ℕ} (s : SaidBy text (take n work)) (w : Wrote o 0 (take n work) new next)
-    (inside : n ≤ length work) (room : n ≤ length o) (few : length text ≤ longestText) where
-  size : length (take n work) ≡ n
-  size = length-take-le n work inside
+module _ (s out : List ℕ) (h : length s ≤ longestText) where
+  pub bad-line : (judged s .error ≡ 0 → ⊥) → makeExit s out ≡ refused (judged s .error) (judged s .line) out
+  unfolding makeExit
+  bad-line n = rw (le-ltb longestText (length s) h, ne-eqb (judged s .error) 0 n)
 
-  fits : 0 + length (take n work) ≤ length o
-  fits = omega (arith, size)
+  module _ (e : judged s .error ≡ 0) where
+    pub no-room : length out < length (tableSaid s) → makeExit s out ≡ refused noRoom 0 out
+    unfolding makeExit
+    no-room l = rw (le-ltb longestText (length s) h, eq-eqb (judged s .error) 0 e, lt-ltb (length out) (length (tableSaid s)) l)
 
-  written : take n new ≡ take n work
-  written = ap (take n) (all w fits) ∙ take-at (take n work) (drop (0 + length (take n work)) o) n size
+    pub with-room : length (tableSaid s) ≤ length out → makeExit s out ≡ written (tableSaid s) out
+    unfolding makeExit
+    with-room l = rw (le-ltb longestText (length s) h, eq-eqb (judged s .error) 0 e, le-ltb (length out) (length (tableSaid s)) l)
 
-  stays : drop n new ≡ drop n o
-  stays =
-      let e : 0 + length (take n work) ≡ n = omega (arith, size) in
-      ap (drop n) (all w fits) ∙ drop-at (take n work) (drop (0 + length (take n work)) o) n size ∙ ap (λ (k : ℕ). drop k o) e
+-- where there is room, the buffer begins with what was written
+pub begins-with : {o t n : List ℕ} {b : ℕ} → Wrote o 0 t n b → length t ≤ length o → n ≡ t ++ drop (length t) o
+begins-with {o} {t} w h = let k : 0 + length t ≤ length o = omega arith in all w k ∙ rw (zero-add (length t))
 
-  pub made : Makes text o new (record { error = 0; line = 0; size = n })
-  made = record {
-    short = λ e. few;
-    table = λ e. subst (SaidBy text) (sym written) s;
-    behind = λ e. stays;
-    refused = λ k. absurd (k refl);
-    within = omega (arith, same w);
-  }
+pub as-said : {o x y n : List ℕ} {a b : ℕ} → x ≡ y → Wrote o a x n b → Wrote o a y n b
+as-said {o} {x} {y} {n} {a} {b} e w = subst (λ (z : List ℕ). Wrote o a z n b) e w
 
--- a table that is handed out is said by all of the input, of which the text was read
-pub all-said : {text all o new : List ℕ} {r : Made} {room : ℕ} → longestText < room → Makes text o new r → r .error ≡ 0 → Began room text all → SaidBy all (take (r .size) new)
-all-said g M e whole = M .table e
-all-said g M e (filled h rest) = absurd (omega (arith, M .short e))
+-- ---- a text that was judged, and is taken
+module _ (s : List ℕ) (j : Judged) (q : j ≡ judged s) (e : j .error ≡ 0) where
+  pub error-said : judged s .error ≡ 0
+  error-said = ap (λ (x : Judged). x .error) (sym q) ∙ e
+
+  pub layout-byte : j .layout < 256
+  layout-byte = let a : j .layout ≡ judged s .layout = ap (λ (x : Judged). x .layout) q in omega (arith, counts s error-said .layout)
+
+  headers-are : j .headers ≡ length (headersOf (itemsOf s))
+  headers-are = ap (λ (x : Judged). x .headers) q ∙ counts s error-said .headers
+
+  scopes-are : j .scopes ≡ length (scopesOf (itemsOf s))
+  scopes-are = ap (λ (x : Judged). x .scopes) q ∙ counts s error-said .scopes
+
+  pub headers-byte : j .headers < 256
+  headers-byte = let a = headers-are in omega (arith, few-headers s error-said)
+
+  pub scopes-half : j .scopes < 65536
+  scopes-half = let a = scopes-are in omega (arith, few-scopes s error-said)
+
+  pub few : FewRows (itemsOf s)
+  few x m = said-fits s error-said .scopes-fit x m .rows-fit
+
+  pub whole : (j .layout ∷ []) ++ ((j .headers ∷ []) ++ (twoBytes (j .scopes) ++ (codesSaid (itemsOf s) ++ (scopesSaid (itemsOf s) ++ rowsSaid (itemsOf s))))) ≡ tableSaid s
+  whole = parts-are s (j .layout) (j .headers) (j .scopes) (ap (λ (x : Judged). x .layout) q) headers-are scopes-are (no-rows-above s error-said)
+
+  pub size-said : 4 + 2 * j .headers + 5 * j .scopes + 4 * j .rows ≡ length (tableSaid s)
+  size-said =
+      let a : j .headers ≡ judged s .headers = ap (λ (x : Judged). x .headers) q in
+      let b : j .scopes ≡ judged s .scopes = ap (λ (x : Judged). x .scopes) q in
+      let d : j .rows ≡ judged s .rows = ap (λ (x : Judged). x .rows) q in
+      omega (arith, said-length s error-said)

@@ -1,3 +1,3 @@
--- What it means to make a table of a text, and the words of a refusal.
+-- What it means to make a code table of its text.
+pub mod Judged
 pub mod Made
-pub mod Why

@@ -1,22 +1,72 @@
-// Makes a code table of its text, and says why where it can't. What is made is tested before it is handed out: it is well formed, and its own text says
-// what the given one says.
+// Makes a code table of its text, or says which line breaks which rule. specs/Judged.antt and specs/Made.antt say what is made.
+use tablelines::Item;
+use tablelines::line_at;
 use text::put_byte;
-use text::put_decimal;
-use text::put_text;
 ghost use mathlib.Core.Path.{_≡_};
-ghost use mathlib.Core.Bool.{true};
-ghost use Prim.Native.Nat.{_≤_, _<_};
-ghost use lib.ListN.{length, take};
+ghost use mathlib.Core.List.{[], _∷_, _++_};
+ghost use Prim.Native.Nat.{_+_, _≤_, _<_, _^_};
+ghost use lib.ListN.{length, drop};
+ghost use Rattle.rules.specs.CodeTable.{keyOf};
+ghost use Rattle.rules.specs.Join.{twoBytes};
 ghost use Rattle.text.specs.Writer.{Wrote};
-ghost use Rattle.tablelines.specs.Places.{longestText};
+ghost use Rattle.tablelines.specs.Items.{itemsOf};
+ghost use Rattle.tablemaking.specs.Judged as j;
 ghost use Rattle.tablemaking.specs.Made as m;
-ghost use Rattle.tablemaking.specs.Why as w;
 
-// Room for the text of any table.
-pub const SHOWN: usize = 731386;
+// Why a table isn't made; `tablewhy` has the words for it.
+pub const NO_LAYOUT: u32 = 1;
 
-// The program is at fault; the numbers before it are those of `tablelines`.
-pub const FAULT: u32 = 19;
+pub const LAYOUT_FIRST: u32 = 2;
+
+pub const LAYOUT_TWICE: u32 = 3;
+
+pub const HEADER_LATE: u32 = 8;
+
+pub const HEADER_ORDER: u32 = 9;
+
+pub const MANY_HEADERS: u32 = 10;
+
+pub const SCOPE_ORDER: u32 = 11;
+
+pub const MANY_SCOPES: u32 = 12;
+
+pub const ROW_EARLY: u32 = 13;
+
+pub const ID_ORDER: u32 = 14;
+
+pub const ID_HIGH: u32 = 15;
+
+pub const TARGET_HIGH: u32 = 16;
+
+pub const LONG_TEXT: u32 = 18;
+
+pub const NO_ROOM: u32 = 19;
+
+// The layout byte where none is named yet.
+const UNNAMED: u32 = 256;
+
+const LONGEST_TEXT: usize = 2097152;
+
+// What the lines so far say: the layout byte, how many header codes, scopes and rows, and the least code, key and id that may follow.
+pub struct Seen {
+    pub layout: u32,
+    pub headers: u32,
+    pub least_header: u32,
+    pub scopes: u32,
+    pub least_key: u32,
+    pub rows: u32,
+    pub least_id: u32,
+}
+
+// A text that was judged: what its table has, or the line that breaks a rule and which.
+pub struct Judged {
+    pub error: u32,
+    pub line: u32,
+    pub layout: u32,
+    pub headers: u32,
+    pub scopes: u32,
+    pub rows: u32,
+}
 
 // The size of the table, or the line that is refused and why: `error` is 0 where nothing is wrong.
 pub struct Made {
@@ -25,9 +75,373 @@ pub struct Made {
     pub size: usize,
 }
 
+// ---- the rules
+fn header_fault(seen: Seen, code: u32) -> u32
+    ensures { λ r. ⌜ r ≡ j.headerFault seen code ⌝ }
+{
+    if 0 < seen.scopes {
+        return HEADER_LATE;
+    }
+    if code < seen.least_header {
+        return HEADER_ORDER;
+    }
+    if 3 < seen.headers {
+        return MANY_HEADERS;
+    }
+    0
+}
+
+fn key_of(kind: u8, code: u16) -> u32
+    ensures { λ r. ⌜ r ≡ keyOf kind code ⌝ }
+{
+    (kind as u32) * 65536 + (code as u32)
+}
+
+fn scope_fault(seen: Seen, key: u32) -> u32
+    ensures { λ r. ⌜ r ≡ j.scopeFault seen key ⌝ }
+{
+    if key < seen.least_key {
+        return SCOPE_ORDER;
+    }
+    if 63 < seen.scopes {
+        return MANY_SCOPES;
+    }
+    0
+}
+
+fn row_fault(seen: Seen, id: u32, target: u32) -> u32
+    ensures { λ r. ⌜ r ≡ j.rowFault seen id target ⌝ }
+{
+    if seen.scopes == 0 {
+        return ROW_EARLY;
+    }
+    if 0xFC < id {
+        return ID_HIGH;
+    }
+    if id < seen.least_id {
+        return ID_ORDER;
+    }
+    if 0x7FFF < target {
+        return TARGET_HIGH;
+    }
+    0
+}
+
+fn below_layout(seen: Seen, fault: u32) -> u32
+    ensures { λ r. ⌜ r ≡ j.belowLayout seen fault ⌝ }
+{
+    if seen.layout == UNNAMED {
+        return LAYOUT_FIRST;
+    }
+    fault
+}
+
+fn layout_fault(seen: Seen) -> u32
+    ensures { λ r. ⌜ r ≡ j.layoutFault seen ⌝ }
+{
+    if seen.layout == UNNAMED {
+        return 0;
+    }
+    LAYOUT_TWICE
+}
+
+fn fault_of(seen: Seen, item: Item) -> u32
+    ensures { λ r. ⌜ r ≡ j.faultOf seen item ⌝ }
+{
+    match item {
+        Item::Nothing => 0,
+        Item::Layout { byte } => layout_fault(seen),
+        Item::Header { code } => below_layout(seen, header_fault(seen, code as u32)),
+        Item::Scope { kind, code } => below_layout(seen, scope_fault(seen, key_of(kind, code))),
+        Item::Row { id, target, kind } => below_layout(
+            seen,
+            row_fault(seen, id as u32, target as u32),
+        ),
+        Item::Bad { error } => error,
+    }
+}
+
+// ---- what the lines say so far
+fn nothing_seen() -> Seen
+    ensures { λ r. ⌜ r ≡ j.nothingSeen ⌝ }
+{
+    Seen {
+        layout: UNNAMED,
+        headers: 0,
+        least_header: 0,
+        scopes: 0,
+        least_key: 0,
+        rows: 0,
+        least_id: 0,
+    }
+}
+
+fn with_layout(mut seen: Seen, byte: u8) -> Seen
+    ensures { λ r. ⌜ r ≡ j.withLayout seen byte ⌝ }
+{
+    seen.layout = byte as u32;
+    seen
+}
+
+fn with_header(mut seen: Seen, code: u16) -> Seen
+    requires { ⌜ seen .headers + 1 < 2 ^ 32 ⌝ }
+    ensures { λ r. ⌜ r ≡ j.withHeader seen code ⌝ }
+{
+    seen.headers = seen.headers + 1;
+    seen.least_header = (code as u32) + 1;
+    seen
+}
+
+fn with_scope(mut seen: Seen, key: u32) -> Seen
+    requires { ⌜ (seen .scopes + 1 < 2 ^ 32) × (key + 1 < 2 ^ 32) ⌝ }
+    ensures { λ r. ⌜ r ≡ j.withScope seen key ⌝ }
+{
+    seen.scopes = seen.scopes + 1;
+    seen.least_key = key + 1;
+    seen.least_id = 0;
+    seen
+}
+
+fn with_row(mut seen: Seen, id: u8) -> Seen
+    requires { ⌜ seen .rows + 1 < 2 ^ 32 ⌝ }
+    ensures { λ r. ⌜ r ≡ j.withRow seen id ⌝ }
+{
+    seen.rows = seen.rows + 1;
+    seen.least_id = (id as u32) + 1;
+    seen
+}
+
+// What the lines say with one more; so far there are so many.
+fn after(seen: Seen, item: Item, lines: u32) -> Seen
+    requires { ⌜ j.Few seen lines × (lines < 2 ^ 31) ⌝ }
+    ensures { λ r. ⌜ r ≡ j.after seen item ⌝ }
+{
+    match item {
+        Item::Nothing => seen,
+        Item::Layout { byte } => with_layout(seen, byte),
+        Item::Header { code } => with_header(seen, code),
+        Item::Scope { kind, code } => with_scope(seen, key_of(kind, code)),
+        Item::Row { id, target, kind } => with_row(seen, id),
+        Item::Bad { error } => seen,
+    }
+}
+
+// ---- the first line that breaks a rule
+fn broken(error: u32, line: u32) -> Judged
+    ensures { λ r. ⌜ r ≡ j.broken error line ⌝ }
+{
+    Judged {
+        error,
+        line,
+        layout: 0,
+        headers: 0,
+        scopes: 0,
+        rows: 0,
+    }
+}
+
+fn judge_end(seen: Seen, lines: u32) -> Judged
+    requires { ⌜ lines + 1 < 2 ^ 32 ⌝ }
+    ensures { λ r. ⌜ r ≡ j.judgeEnd seen lines ⌝ }
+{
+    if seen.layout == UNNAMED {
+        return broken(NO_LAYOUT, lines + 1);
+    }
+    Judged {
+        error: 0,
+        line: 0,
+        layout: seen.layout,
+        headers: seen.headers,
+        scopes: seen.scopes,
+        rows: seen.rows,
+    }
+}
+
+fn judge(text: &[u8]) -> Judged
+    requires { ⌜ length (now text) ≤ m.longestText ⌝ }
+    ensures { λ r. ⌜ r ≡ j.judged (now (text .entry)) ⌝ }
+{
+    let mut seen = nothing_seen();
+    let mut lines = 0;
+    let mut at = 0;
+    while at < text.len() {
+        let line = line_at(text, at);
+        let item = line.item;
+        let fault = fault_of(seen, item);
+        if fault != 0 {
+            return broken(fault, lines + 1);
+        }
+        seen = after(seen, item, lines);
+        lines += 1;
+        at = line.next;
+    }
+    judge_end(seen, lines)
+}
+
+// ---- the table's parts
+fn put_half(out: &mut [u8], at: usize, n: u32) -> usize
+    requires { ⌜ n < 65536 ⌝ }
+    ensures { λ r. ⌜ Wrote (now (out .entry)) at (twoBytes n) (now (out .exit)) r ⌝ }
+{
+    let p = put_byte(out, at, (n % 256) as u8);
+    put_byte(out, p, (n / 256) as u8)
+}
+
+fn put_code(out: &mut [u8], at: usize, item: Item) -> usize
+    ensures { λ r. ⌜ Wrote (now (out .entry)) at (m.codeBytes item) (now (out .exit)) r ⌝ }
+{
+    match item {
+        Item::Nothing => at,
+        Item::Layout { byte } => at,
+        Item::Header { code } => put_half(out, at, code as u32),
+        Item::Scope { kind, code } => at,
+        Item::Row { id, target, kind } => at,
+        Item::Bad { error } => at,
+    }
+}
+
+// The codes of the header lines.
+fn put_codes(text: &[u8], out: &mut [u8], at: usize) -> usize
+    requires { ⌜ length (now text) ≤ m.longestText ⌝ }
+    ensures { λ r. ⌜ Wrote (now (out .entry)) at (m.codesSaid (itemsOf (now (text .entry)))) (now (out .exit)) r ⌝ }
+{
+    let mut p = at;
+    let mut place = 0;
+    while place < text.len() {
+        let line = line_at(text, place);
+        let item = line.item;
+        p = put_code(out, p, item);
+        place = line.next;
+    }
+    p
+}
+
+fn put_row(out: &mut [u8], at: usize, id: u8, target: u16, kind: u8) -> usize
+    ensures { λ r. ⌜ Wrote (now (out .entry)) at (id ∷ twoBytes target ++ (kind ∷ [])) (now (out .exit)) r ⌝ }
+{
+    let p = put_byte(out, at, id);
+    let p = put_half(out, p, target as u32);
+    put_byte(out, p, kind)
+}
+
+fn put_tie(out: &mut [u8], at: usize, item: Item) -> usize
+    ensures { λ r. ⌜ Wrote (now (out .entry)) at (m.rowBytes item) (now (out .exit)) r ⌝ }
+{
+    match item {
+        Item::Nothing => at,
+        Item::Layout { byte } => at,
+        Item::Header { code } => at,
+        Item::Scope { kind, code } => at,
+        Item::Row { id, target, kind } => put_row(out, at, id, target, kind),
+        Item::Bad { error } => at,
+    }
+}
+
+// The rows.
+fn put_ties(text: &[u8], out: &mut [u8], at: usize) -> usize
+    requires { ⌜ length (now text) ≤ m.longestText ⌝ }
+    ensures { λ r. ⌜ Wrote (now (out .entry)) at (m.rowsSaid (itemsOf (now (text .entry)))) (now (out .exit)) r ⌝ }
+{
+    let mut p = at;
+    let mut place = 0;
+    while place < text.len() {
+        let line = line_at(text, place);
+        let item = line.item;
+        p = put_tie(out, p, item);
+        place = line.next;
+    }
+    p
+}
+
+fn is_scope(item: Item) -> bool
+    ensures { λ r. ⌜ r ≡ m.isScope item ⌝ }
+{
+    match item {
+        Item::Nothing => false,
+        Item::Layout { byte } => false,
+        Item::Header { code } => false,
+        Item::Scope { kind, code } => true,
+        Item::Row { id, target, kind } => false,
+        Item::Bad { error } => false,
+    }
+}
+
+fn rows_in(item: Item) -> u32
+    ensures { λ r. ⌜ (r ≡ m.rowsIn item) × (r ≤ 1) ⌝ }
+{
+    match item {
+        Item::Nothing => 0,
+        Item::Layout { byte } => 0,
+        Item::Header { code } => 0,
+        Item::Scope { kind, code } => 0,
+        Item::Row { id, target, kind } => 1,
+        Item::Bad { error } => 0,
+    }
+}
+
+// How many rows stand from a place on above the next scope.
+fn rows_from(text: &[u8], from: usize) -> u32
+    requires { ⌜ length (now text) ≤ m.longestText ⌝ }
+    ensures { λ r. ⌜ r ≡ length (m.rowsOf (itemsOf (drop from (now (text .entry))))) ⌝ }
+{
+    let mut rows = 0;
+    let mut place = from;
+    while place < text.len() {
+        let line = line_at(text, place);
+        let item = line.item;
+        if is_scope(item) {
+            return rows;
+        }
+        rows += rows_in(item);
+        place = line.next;
+    }
+    rows
+}
+
+fn put_entry(out: &mut [u8], at: usize, kind: u8, code: u16, rows: u32) -> usize
+    requires { ⌜ rows < 65536 ⌝ }
+    ensures { λ r. ⌜ Wrote (now (out .entry)) at (kind ∷ twoBytes code ++ twoBytes rows) (now (out .exit)) r ⌝ }
+{
+    let p = put_byte(out, at, kind);
+    let p = put_half(out, p, code as u32);
+    put_half(out, p, rows)
+}
+
+// A scope's place in the contents; its rows begin at the next line.
+fn put_scope(text: &[u8], next: usize, item: Item, out: &mut [u8], at: usize) -> usize
+    requires { ⌜ (length (now text) ≤ m.longestText) × m.FewRows (item ∷ itemsOf (drop next (now text))) ⌝ }
+    ensures { λ r. ⌜ Wrote (now (out .entry)) at (m.scopeSaid item (itemsOf (drop next (now (text .entry))))) (now (out .exit)) r ⌝ }
+{
+    match item {
+        Item::Nothing => at,
+        Item::Layout { byte } => at,
+        Item::Header { code } => at,
+        Item::Scope { kind, code } => put_entry(out, at, kind, code, rows_from(text, next)),
+        Item::Row { id, target, kind } => at,
+        Item::Bad { error } => at,
+    }
+}
+
+// The scopes.
+fn put_scopes(text: &[u8], out: &mut [u8], at: usize) -> usize
+    requires { ⌜ (length (now text) ≤ m.longestText) × m.FewRows (itemsOf (now text)) ⌝ }
+    ensures { λ r. ⌜ Wrote (now (out .entry)) at (m.scopesSaid (itemsOf (now (text .entry)))) (now (out .exit)) r ⌝ }
+{
+    let mut p = at;
+    let mut place = 0;
+    while place < text.len() {
+        let line = line_at(text, place);
+        let item = line.item;
+        let next = line.next;
+        p = put_scope(text, next, item, out, p);
+        place = next;
+    }
+    p
+}
+
 // ---- the table
-fn failed(error: u32, line: u32) -> Made
-    ensures { λ r. ⌜ (r .size ≡ 0) × (r .error ≡ error) ⌝ }
+fn refused(error: u32, line: u32) -> Made
+    ensures { λ r. ⌜ r ≡ m.refusedWith error line ⌝ }
 {
     Made {
         error,
@@ -36,132 +450,41 @@ fn failed(error: u32, line: u32) -> Made
     }
 }
 
-// The table is well formed and says what the text says. `shown` has room for the table's own text.
-fn said_by(text: &[u8], table: &[u8], shown: &mut [u8]) -> bool
-    ensures { λ r. ⌜ (r ≡ true → m.SaidBy (now (text .entry)) (now (table .entry))) ⌝ }
+// The table of a text that was judged, from the buffer's start on.
+fn put_table(text: &[u8], judged: Judged, out: &mut [u8]) -> usize
+    requires { ⌜ (length (now text) ≤ m.longestText) × (judged ≡ j.judged (now text)) × (judged .error ≡ 0) ⌝ }
+    ensures { λ r. ⌜ Wrote (now (out .entry)) 0 (m.tableSaid (now (text .entry))) (now (out .exit)) r ⌝ }
 {
-    if !codetable::well_formed(table) {
-        return false;
-    }
-    if shown.len() < SHOWN {
-        return false;
-    }
-    let n = tabletext::table_text(table, shown);
-    tablesaid::same_said(&shown[..n], text)
+    let p = put_byte(out, 0, judged.layout as u8);
+    let p = put_byte(out, p, judged.headers as u8);
+    let p = put_half(out, p, judged.scopes);
+    let p = put_codes(text, out, p);
+    let p = put_scopes(text, out, p);
+    put_ties(text, out, p)
 }
 
-// What was read, tested: its table is handed out.
-fn tested(text: &[u8], size: usize, work: &[u8], shown: &mut [u8], out: &mut [u8]) -> Made
-    requires { ⌜ length (now text) ≤ longestText ⌝ }
-    ensures { λ r. ⌜ m.Makes (now (text .entry)) (now (out .entry)) (now (out .exit)) r ⌝ }
+// The table of a text, or the first line that can't be taken and why.
+pub fn make_table(text: &[u8], out: &mut [u8]) -> Made
+    ensures { λ r. ⌜ m.MadeAs (m.makeExit (now (text .entry)) (now (out .entry))) r (now (out .exit)) ⌝ }
 {
-    if work.len() < size {
-        return failed(FAULT, 0);
+    if LONGEST_TEXT < text.len() {
+        return refused(LONG_TEXT, 0);
     }
+    let judged = judge(text);
+    if judged.error != 0 {
+        return refused(judged.error, judged.line);
+    }
+    let size = 4
+        + 2 * (judged.headers as usize)
+        + 5 * (judged.scopes as usize)
+        + 4 * (judged.rows as usize);
     if out.len() < size {
-        return failed(FAULT, 0);
+        return refused(NO_ROOM, 0);
     }
-    if !said_by(text, &work[..size], shown) {
-        return failed(FAULT, 0);
-    }
-    put_text(out, 0, &work[..size]);
+    put_table(text, judged, out);
     Made {
         error: 0,
         line: 0,
         size,
     }
-}
-
-// The table of a text. `work` and `out` have room for any table, `shown` for the text of any.
-pub fn make_table(text: &[u8], work: &mut [u8], shown: &mut [u8], out: &mut [u8]) -> Made
-    ensures { λ r. ⌜ m.Makes (now (text .entry)) (now (out .entry)) (now (out .exit)) r ⌝ }
-{
-    let p = tablelines::parse(text, work);
-    if p.error != 0 {
-        return failed(p.error, p.line as u32);
-    }
-    tested(text, p.size, work, shown, out)
-}
-
-// ---- what is printed
-fn put_line(out: &mut [u8], at: usize, line: u32) -> usize
-    ensures { λ r. ⌜ Wrote (now (out .entry)) at (w.linePlace line) (now (out .exit)) r ⌝ }
-{
-    if line == 0 {
-        return at;
-    }
-    let p = put_text(out, at, b"line ");
-    let p = put_decimal(out, p, line);
-    put_text(out, p, b": ")
-}
-
-fn put_words_why(out: &mut [u8], at: usize, error: u32) -> usize
-    ensures { λ r. ⌜ Wrote (now (out .entry)) at (w.wordsWhy error) (now (out .exit)) r ⌝ }
-{
-    match error {
-        0 => put_text(out, at, b"nothing is wrong"),
-        1 => put_text(out, at, b"no layout is named; write one, such as layout 13"),
-        2 => put_text(out, at, b"a layout must come first, such as layout 13"),
-        3 => put_text(out, at, b"the layout is named a second time; keep one"),
-        4 => put_text(
-            out,
-            at,
-            b"begin with layout, header, form, report, entry or a row's id",
-        ),
-        5 => put_text(out, at, b"two hex digits must follow, such as layout 13"),
-        6 => put_text(out, at, b"the second word must be four hex digits, as 0064"),
-        7 => put_text(out, at, b"there are too many words; remarks stand behind #"),
-        _ => put_text(out, at, b"header lines stand before the first scope"),
-    }
-}
-
-fn put_rules_why(out: &mut [u8], at: usize, error: u32) -> usize
-    requires { ⌜ 9 ≤ error ⌝ }
-    ensures { λ r. ⌜ Wrote (now (out .entry)) at (w.rulesWhy error) (now (out .exit)) r ⌝ }
-{
-    match error {
-        9 => put_text(out, at, b"header codes must ascend; this one doesn't"),
-        10 => put_text(out, at, b"a table has at most 4 header codes"),
-        11 => put_text(out, at, b"form, report, entries by code must ascend"),
-        12 => put_text(out, at, b"a table has at most 64 scopes"),
-        13 => put_text(out, at, b"a row stands below a form, a report or an entry"),
-        14 => put_text(out, at, b"ids must ascend; this one doesn't"),
-        15 => put_text(out, at, b"an id is at most FC"),
-        16 => put_text(out, at, b"a target is at most 7FFF"),
-        17 => put_text(
-            out,
-            at,
-            b"the third word must be number, text, guid, double or bytes",
-        ),
-        18 => put_text(out, at, b"the text is longer than 2097152 bytes"),
-        _ => put_text(out, at, b"no table came of it: a fault of the program"),
-    }
-}
-
-fn put_why(out: &mut [u8], at: usize, error: u32) -> usize
-    ensures { λ r. ⌜ Wrote (now (out .entry)) at (w.why error) (now (out .exit)) r ⌝ }
-{
-    if error < 9 {
-        put_words_why(out, at, error)
-    } else {
-        put_rules_why(out, at, error)
-    }
-}
-
-// The line of a refusal, from the buffer's start on.
-pub fn why_line(error: u32, line: u32, out: &mut [u8]) -> usize
-    ensures { λ r. ⌜ Wrote (now (out .entry)) 0 (w.whyText error line) (now (out .exit)) r ⌝ }
-{
-    let p = put_line(out, 0, line);
-    let p = put_why(out, p, error);
-    put_byte(out, p, b'\n')
-}
-
-// The line in front of a table.
-pub fn size_line(size: u32, out: &mut [u8]) -> usize
-    ensures { λ r. ⌜ Wrote (now (out .entry)) 0 (w.sizeText size) (now (out .exit)) r ⌝ }
-{
-    let p = put_text(out, 0, b"table ");
-    let p = put_decimal(out, p, size);
-    put_byte(out, p, b'\n')
 }

@@ -1,0 +1,203 @@
+-- Searches, words and numbers, as the code meets them: one byte at a time, one test at a time.
+use Prim.Native.Nat.{ℕ, zero, suc, _+_, _*_, _-_, _≤_, _<_}
+use native.Mathlib.Omega.{arith}
+use native.Mathlib.Numerals.{add-one}
+use mathlib.Core.Path.{_≡_, refl, sym, ap, _∙_}
+use mathlib.Core.Bool.{Bool, true, false, not, cond, _&&_}
+use mathlib.Core.List.{List, [], _∷_}
+use borrow.Author.Tests.{lt-ltb, le-ltb, le-leb, lt-leb, eq-eqb, ne-eqb, eqb-true, eqb-false, ltb-true, ltb-false}
+use lib.Dec.{ltb, eqb}
+use lib.ListN.{length, getD, take, drop, drop-of-length-le}
+use lib.Seq.{drop-cons}
+use Rattle.rules.specs.Lists.{same}
+use Rattle.tablelines.specs.Words.{lineEnd, sign, letter, blank, isBlank, stops, before, onward, word, behind, digitOf, pairOf, wideOf, twoOf, fourOf}
+use Rattle.tablelines.specs.Items.{part, Until, WordAt}
+use Rattle.tablelines.specs.declared.Word.{Word}
+
+-- ---- what a byte stops
+pub space-blank : (b : ℕ) → b ≡ 32 → isBlank b ≡ eqb b 32
+unfolding isBlank
+space-blank b e = rw (eq-eqb b 32 e)
+
+pub tab-blank : (b : ℕ) → (b ≡ 32 → ⊥) → b ≡ 9 → isBlank b ≡ eqb b 9
+unfolding isBlank
+tab-blank b n e = rw (ne-eqb b 32 n, eq-eqb b 9 e)
+
+pub return-blank : (b : ℕ) → (b ≡ 32 → ⊥) → (b ≡ 9 → ⊥) → isBlank b ≡ eqb b 13
+unfolding isBlank
+return-blank b n m = rw (ne-eqb b 32 n, ne-eqb b 9 m)
+
+module _ (search b : ℕ) where
+  pub at-end : search ≡ lineEnd → stops search b ≡ eqb b 10
+  unfolding stops
+  at-end e = rw (eq-eqb search 0 e)
+
+  pub at-sign : (search ≡ lineEnd → ⊥) → search ≡ sign → stops search b ≡ eqb b 35
+  unfolding stops
+  at-sign n e = rw (ne-eqb search 0 n, eq-eqb search 1 e)
+
+  pub at-letter : (search ≡ lineEnd → ⊥) → (search ≡ sign → ⊥) → search ≡ letter → stops search b ≡ not (isBlank b)
+  unfolding stops
+  at-letter n m e = rw (ne-eqb search 0 n, ne-eqb search 1 m, eq-eqb search 2 e)
+
+  pub at-blank : (search ≡ lineEnd → ⊥) → (search ≡ sign → ⊥) → (search ≡ letter → ⊥) → stops search b ≡ isBlank b
+  unfolding stops
+  at-blank n m k = rw (ne-eqb search 0 n, ne-eqb search 1 m, ne-eqb search 2 k)
+
+-- ---- a part of a list
+pub part-empty : (s : List ℕ) (r : ℕ) → part s r r ≡ []
+part-empty s r = let e : r - r ≡ 0 = omega arith in rw e
+
+pub part-cons : (s : List ℕ) (at r : ℕ) → at < r → r ≤ length s → part s at r ≡ getD s at 0 ∷ part s (suc at) r
+part-cons s at r l h = let e : r - at ≡ suc (r - suc at) = omega arith in rw (e, drop-cons s at 0 (omega arith))
+
+-- ---- a search
+-- no byte from `at` up to p stops it
+abbrev pub Passed : ℕ → List ℕ → ℕ → ℕ → Type 0
+Passed search s at p = (i : ℕ) → at ≤ i → i < p → stops search (getD s i 0) ≡ false
+
+pub none-passed : (search : ℕ) (s : List ℕ) (at : ℕ) → Passed search s at at
+none-passed search s at i h l = absurd (omega arith)
+
+passed-by : (search : ℕ) (s : List ℕ) (at p i : ℕ) (t : Bool) → eqb i p ≡ t → Passed search s at p → stops search (getD s p 0) ≡ false → at ≤ i → i < p + 1 → stops search (getD s i 0) ≡ false
+passed-by search s at p i true e h z a l = ap (λ (k : ℕ). stops search (getD s k 0)) (eqb-true i p e) ∙ z
+passed-by search s at p i false e h z a l = let n = eqb-false i p e in h i a (omega arith)
+
+pub one-passed : (search : ℕ) (s : List ℕ) (at p : ℕ) → Passed search s at p → stops search (getD s p 0) ≡ false → Passed search s at (p + 1)
+one-passed search s at p h z i a l = passed-by search s at p i (eqb i p) refl h z a l
+
+module _ (search : ℕ) (s : List ℕ) (r : ℕ) (inside : r ≤ length s) (stop : r < length s → stops search (getD s r 0) ≡ true) where
+  -- what the search finds from r on
+  here-by : (t : Bool) → ltb r (length s) ≡ t → (before search (drop r s) ≡ []) × (onward search (drop r s) ≡ drop r s)
+  unfolding before onward
+  here-by true e = let l : r < length s = ltb-true r (length s) e in let d = drop-cons s r 0 l in let z = stop l in (rw (d, z), rw (d, z))
+  here-by false e = let d : drop r s ≡ [] = drop-of-length-le s (ltb-false r (length s) e) in (rw d, rw d)
+
+  found-by : (n at : ℕ) → at + n ≡ r → Passed search s at r → (before search (drop at s) ≡ part s at r) × (onward search (drop at s) ≡ drop r s)
+  unfolding before onward
+  found-by zero at e h =
+      let q : at ≡ r = omega arith in
+      let z = here-by (ltb r (length s)) refl in
+      rw q (z .0 ∙ sym (part-empty s r), z .1)
+  found-by (suc n) at e h =
+      let l : at < r = omega arith in
+      let d = drop-cons s at 0 (omega arith) in
+      let z = h at (omega arith) l in
+      let k = found-by n (suc at) (omega arith) (λ i a b. h i (omega arith) b) in
+      let front : before search (drop at s) ≡ getD s at 0 ∷ before search (drop (suc at) s) = rw (d, z) in
+      let back : onward search (drop at s) ≡ onward search (drop (suc at) s) = rw (d, z) in
+      (front ∙ ap (λ (x : List ℕ). getD s at 0 ∷ x) (k .0) ∙ sym (part-cons s at r l inside), back ∙ k .1)
+
+  pub found : (at : ℕ) → at ≤ r → Passed search s at r → Until search s at r
+  found at a h =
+      let n : at + (r - at) ≡ r = omega arith in
+      let k = found-by (r - at) at n h in
+      record { from = a; to = inside; front = k .0; back = k .1 }
+
+-- ---- a word
+pub word-found : (s : List ℕ) (at from to : ℕ) → Until letter s at from → Until blank s from to → WordAt s at (record { from = from; to = to })
+unfolding word behind
+word-found s at from to a b = record {
+  order = b .from;
+  inside = b .to;
+  is = ap (before blank) (a .back) ∙ b .front;
+  rest = ap (onward blank) (a .back) ∙ b .back;
+}
+
+-- ---- the same word
+and-off : (t : Bool) → (t && false) ≡ false
+and-off true = refl
+and-off false = refl
+
+pub other-length : (a b : List ℕ) → (length a ≡ length b → ⊥) → same a b ≡ false
+unfolding same
+other-length [] [] n = absurd (n refl)
+other-length [] (y ∷ b) n = refl
+other-length (x ∷ a) [] n = refl
+other-length (x ∷ a) (y ∷ b) n = rw (other-length a b (λ e. n (ap suc e))) (and-off (eqb x y))
+
+module _ (a b : List ℕ) (p : ℕ) (la : p < length a) (lb : p < length b) where
+  pub other-byte : (getD a p 0 ≡ getD b p 0 → ⊥) → same (drop p a) (drop p b) ≡ false
+  unfolding same
+  other-byte n = rw (drop-cons a p 0 la, drop-cons b p 0 lb, ne-eqb (getD a p 0) (getD b p 0) n)
+
+  pub same-byte : getD a p 0 ≡ getD b p 0 → same (drop p a) (drop p b) ≡ same (drop (p + 1) a) (drop (p + 1) b)
+  unfolding same
+  same-byte e = rw (drop-cons a p 0 la, drop-cons b p 0 lb, eq-eqb (getD a p 0) (getD b p 0) e, add-one p)
+
+pub same-end : (a b : List ℕ) (p : ℕ) → length a ≤ p → length b ≤ p → same (drop p a) (drop p b) ≡ true
+unfolding same
+same-end a b p h g = rw (drop-of-length-le a h, drop-of-length-le b g)
+
+-- ---- digits
+module _ (b : ℕ) where
+  pub before-digits : b < 48 → digitOf b ≡ 16
+  unfolding digitOf
+  before-digits h = rw (lt-leb 48 b h, lt-leb 65 b (omega arith), lt-leb 97 b (omega arith))
+
+  pub a-digit : 48 ≤ b → b ≤ 57 → digitOf b ≡ b - 48
+  unfolding digitOf
+  a-digit h g = rw (le-leb 48 b h, le-leb b 57 g)
+
+  pub before-capitals : 57 < b → b < 65 → digitOf b ≡ 16
+  unfolding digitOf
+  before-capitals h g = rw (le-leb 48 b (omega arith), lt-leb b 57 h, lt-leb 65 b g, lt-leb 97 b (omega arith))
+
+  pub a-capital : 65 ≤ b → b ≤ 70 → digitOf b ≡ b - 55
+  unfolding digitOf
+  a-capital h g = rw (le-leb 48 b (omega arith), lt-leb b 57 (omega arith), le-leb 65 b h, le-leb b 70 g)
+
+  pub before-letters : 70 < b → b < 97 → digitOf b ≡ 16
+  unfolding digitOf
+  before-letters h g = rw (le-leb 48 b (omega arith), lt-leb b 57 (omega arith), le-leb 65 b (omega arith), lt-leb b 70 h, lt-leb 97 b g)
+
+  pub a-letter : 97 ≤ b → b ≤ 102 → digitOf b ≡ b - 87
+  unfolding digitOf
+  a-letter h g = rw (le-leb 48 b (omega arith), lt-leb b 57 (omega arith), le-leb 65 b (omega arith), lt-leb b 70 (omega arith), le-leb 97 b h, le-leb b 102 g)
+
+  pub behind-letters : 102 < b → digitOf b ≡ 16
+  unfolding digitOf
+  behind-letters h = rw (le-leb 48 b (omega arith), lt-leb b 57 (omega arith), le-leb 65 b (omega arith), lt-leb b 70 (omega arith), le-leb 97 b (omega arith), lt-leb b 102 h)
+
+-- ---- numbers, by the numbers that were read of their digits
+module _ (a b high low : ℕ) (e : high ≡ digitOf a) (f : low ≡ digitOf b) where
+  pub no-high : 15 < high → pairOf a b ≡ 256
+  unfolding pairOf
+  no-high h = rw (← e, le-ltb high 16 h)
+
+  pub no-low : high ≤ 15 → 15 < low → pairOf a b ≡ 256
+  unfolding pairOf
+  no-low g h = rw (← e, ← f, lt-ltb high 16 (omega arith), le-ltb low 16 h)
+
+  pub a-pair : high ≤ 15 → low ≤ 15 → pairOf a b ≡ 16 * high + low
+  unfolding pairOf
+  a-pair g h = rw (← e, ← f, lt-ltb high 16 (omega arith), lt-ltb low 16 (omega arith))
+
+module _ (high low : ℕ) where
+  pub no-wide-high : 255 < high → wideOf high low ≡ 65536
+  unfolding wideOf
+  no-wide-high h = rw (le-ltb high 256 h)
+
+  pub no-wide-low : high ≤ 255 → 255 < low → wideOf high low ≡ 65536
+  unfolding wideOf
+  no-wide-low g h = rw (lt-ltb high 256 (omega arith), le-ltb low 256 h)
+
+  pub a-wide : high ≤ 255 → low ≤ 255 → wideOf high low ≡ 256 * high + low
+  unfolding wideOf
+  a-wide g h = rw (lt-ltb high 256 (omega arith), lt-ltb low 256 (omega arith))
+
+pub two-digits : (w : List ℕ) → length w ≡ 2 → twoOf w ≡ pairOf (getD w 0 0) (getD w 1 0)
+unfolding twoOf
+two-digits w e = rw (eq-eqb (length w) 2 e)
+
+pub not-two : (w : List ℕ) → (length w ≡ 2 → ⊥) → twoOf w ≡ 256
+unfolding twoOf
+not-two w n = rw (ne-eqb (length w) 2 n)
+
+pub four-digits : (w : List ℕ) → length w ≡ 4 → fourOf w ≡ wideOf (pairOf (getD w 0 0) (getD w 1 0)) (pairOf (getD w 2 0) (getD w 3 0))
+unfolding fourOf
+four-digits w e = rw (eq-eqb (length w) 4 e)
+
+pub not-four : (w : List ℕ) → (length w ≡ 4 → ⊥) → fourOf w ≡ 65536
+unfolding fourOf
+not-four w n = rw (ne-eqb (length w) 4 n)

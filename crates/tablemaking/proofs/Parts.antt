@@ -1,0 +1,137 @@
+-- The table's parts, one line at a time, and together.
+use Prim.Native.Nat.{ℕ, _+_, _≤_, _<_}
+use native.Mathlib.Omega.{arith}
+use mathlib.Core.Path.{_≡_, refl, sym, ap, subst, _∙_}
+use mathlib.Core.Bool.{Bool, true, false, cond}
+use mathlib.Core.List.{List, [], _∷_, _++_, map, append-assoc, List·Memᴰ, List·Memᴰ·head, List·Memᴰ·tail}
+use lib.ListN.{length, drop}
+use Rattle.rules.specs.Lists.{concat}
+use Rattle.rules.specs.CodeTable.{Tie}
+use Rattle.rules.specs.CodeTable as table
+use Rattle.rules.specs.Join.{twoBytes, tieBytes, tiesBytes, scopeBytes, tableBytes}
+use Rattle.tablelines.specs.Items.{itemsOf, LineAt}
+use Rattle.tablelines.specs.declared.Item.{Item}
+use Rattle.tablelines.specs.declared.Item.the-variants.{Nothing, Layout, Header, Scope, Row, Bad}
+use Rattle.tablelines.specs.declared.Line.{Line}
+use Rattle.tablemaking.specs.Judged.{judged}
+use Rattle.tablemaking.proofs.Judging.{no-items}
+use Rattle.tablemaking.specs.Made.{headersOf, rowsOf, scopesOf, codeBytes, rowBytes, isScope, rowsIn, scopeSaid, codesSaid, rowsSaid, scopesSaid, tableSaid, FewRows}
+
+-- ---- a line more
+module _ (item : Item) (items : List Item) where
+  pub code-said : codesSaid (item ∷ items) ≡ codeBytes item ++ codesSaid items
+  unfolding codesSaid concat
+  code-said = refl
+
+  pub row-said : rowsSaid (item ∷ items) ≡ rowBytes item ++ rowsSaid items
+  unfolding rowsSaid concat
+  row-said = refl
+
+  pub a-scope-said : scopesSaid (item ∷ items) ≡ scopeSaid item items ++ scopesSaid items
+  unfolding scopesSaid
+  a-scope-said = refl
+
+pub no-codes : codesSaid [] ≡ []
+unfolding codesSaid concat
+no-codes = refl
+
+pub no-rows-said : rowsSaid [] ≡ []
+unfolding rowsSaid concat
+no-rows-said = refl
+
+pub no-scopes : scopesSaid [] ≡ []
+unfolding scopesSaid
+no-scopes = refl
+
+-- ---- rows above the next scope
+not-both : {A : Type 0} → false ≡ true → A
+not-both e = let z : _≡_ {A = ℕ} 0 1 = ap (λ (b : Bool). cond b 1 0) e in absurd (omega arith)
+
+pub rows-end : (item : Item) (items : List Item) → isScope item ≡ true → length (rowsOf (item ∷ items)) ≡ 0
+unfolding rowsOf isScope
+rows-end Nothing items e = not-both e
+rows-end (Layout byte) items e = not-both e
+rows-end (Header code) items e = not-both e
+rows-end (Scope kind code) items e = refl
+rows-end (Row id target kind) items e = not-both e
+rows-end (Bad error) items e = not-both e
+
+pub rows-on : (item : Item) (items : List Item) → isScope item ≡ false → length (rowsOf (item ∷ items)) ≡ rowsIn item + length (rowsOf items)
+unfolding rowsOf isScope rowsIn
+rows-on Nothing items e = omega arith
+rows-on (Layout byte) items e = omega arith
+rows-on (Header code) items e = omega arith
+rows-on (Scope kind code) items e = not-both (sym e)
+rows-on (Row id target kind) items e = omega arith
+rows-on (Bad error) items e = omega arith
+
+pub no-rows-left : (s : List ℕ) (at : ℕ) → length s ≤ at → length (rowsOf (itemsOf (drop at s))) ≡ 0
+unfolding rowsOf
+no-rows-left s at h = rw (no-items s at h)
+
+-- ---- few rows in each scope
+pub few-rest : (item : Item) (items : List Item) → FewRows (item ∷ items) → FewRows items
+unfolding scopesOf
+few-rest Nothing items f = f
+few-rest (Layout byte) items f = f
+few-rest (Header code) items f = f
+few-rest (Scope kind code) items f = λ s m. f s (List·Memᴰ·tail m)
+few-rest (Row id target kind) items f = f
+few-rest (Bad error) items f = f
+
+pub few-of : (item : Item) (kind code : ℕ) (items : List Item) → item ≡ Scope kind code → FewRows (item ∷ items) → length (rowsOf items) < 65536
+unfolding scopesOf
+few-of item kind code items e f =
+    let g : FewRows (Scope kind code ∷ items) = subst (λ (x : Item). FewRows (x ∷ items)) e f in
+    g (record { kind = kind; code = code; rows = rowsOf items }) (List·Memᴰ·head refl)
+
+-- ---- the parts together
+pub codes-are : (items : List Item) → codesSaid items ≡ concat (map twoBytes (headersOf items))
+unfolding codesSaid concat codeBytes headersOf
+codes-are [] = refl
+codes-are (Nothing ∷ items) = codes-are items
+codes-are (Layout byte ∷ items) = codes-are items
+codes-are (Header code ∷ items) = ap (λ (x : List ℕ). twoBytes code ++ x) (codes-are items)
+codes-are (Scope kind code ∷ items) = codes-are items
+codes-are (Row id target kind ∷ items) = codes-are items
+codes-are (Bad error ∷ items) = codes-are items
+
+pub scopes-are : (items : List Item) → scopesSaid items ≡ concat (map scopeBytes (scopesOf items))
+unfolding scopesSaid concat scopeSaid scopesOf
+scopes-are [] = refl
+scopes-are (Nothing ∷ items) = scopes-are items
+scopes-are (Layout byte ∷ items) = scopes-are items
+scopes-are (Header code ∷ items) = scopes-are items
+scopes-are (Scope kind code ∷ items) = ap (λ (x : List ℕ). scopeBytes (record { kind = kind; code = code; rows = rowsOf items }) ++ x) (scopes-are items)
+scopes-are (Row id target kind ∷ items) = scopes-are items
+scopes-are (Bad error ∷ items) = scopes-are items
+
+abbrev bodies : List table.Scope → List ℕ
+bodies ss = concat (map (λ (s : table.Scope). tiesBytes (s .rows)) ss)
+
+-- those above the first scope stand before the bodies
+rows-with : (items : List Item) → rowsSaid items ≡ tiesBytes (rowsOf items) ++ bodies (scopesOf items)
+unfolding rowsSaid concat rowBytes rowsOf scopesOf
+rows-with [] = refl
+rows-with (Nothing ∷ items) = rows-with items
+rows-with (Layout byte ∷ items) = rows-with items
+rows-with (Header code ∷ items) = rows-with items
+rows-with (Scope kind code ∷ items) = rows-with items
+rows-with (Row id target kind ∷ items) =
+    let r : Tie = record { id = id; target = target; kind = kind } in
+    ap (λ (x : List ℕ). tieBytes r ++ x) (rows-with items) ∙ sym (append-assoc (tieBytes r) (tiesBytes (rowsOf items)) (bodies (scopesOf items)))
+rows-with (Bad error ∷ items) = rows-with items
+
+no-ties : (rs : List Tie) → length rs ≡ 0 → tiesBytes rs ≡ []
+unfolding concat
+no-ties [] e = refl
+no-ties (r ∷ rs) e = absurd (omega arith)
+
+pub rows-are : (items : List Item) → length (rowsOf items) ≡ 0 → rowsSaid items ≡ bodies (scopesOf items)
+rows-are items e = rows-with items ∙ ap (λ (x : List ℕ). x ++ bodies (scopesOf items)) (no-ties (rowsOf items) e)
+
+-- the whole table
+pub parts-are : (s : List ℕ) (layout headers scopes : ℕ) → layout ≡ judged s .layout → headers ≡ length (headersOf (itemsOf s)) → scopes ≡ length (scopesOf (itemsOf s)) → length (rowsOf (itemsOf s)) ≡ 0
+    → (layout ∷ []) ++ ((headers ∷ []) ++ (twoBytes scopes ++ (codesSaid (itemsOf s) ++ (scopesSaid (itemsOf s) ++ rowsSaid (itemsOf s))))) ≡ tableSaid s
+unfolding tableSaid tableBytes
+parts-are s layout headers scopes a b d e = rw (a, b, d, codes-are (itemsOf s), scopes-are (itemsOf s), rows-are (itemsOf s) e)

@@ -1,2 +1,0 @@
--- Laws of what a text says.
-pub mod Steps

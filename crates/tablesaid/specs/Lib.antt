@@ -1,2 +1,0 @@
--- What a text says, comments and blanks left out.
-pub mod Said

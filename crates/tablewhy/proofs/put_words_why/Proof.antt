@@ -1,0 +1,65 @@
+use borrow.Author.Needs.{needs}
+use Rattle.values.proofs.Marks.{past}
+use Rattle.tablewhy.specs.Why.{wordsWhy}
+use Rattle.tablewhy.proofs.Reasons.{last-words}
+use Rattle.tablewhy.proofs.put_words_why.Statement.{statement}
+use Rattle.tablewhy.proofs.put_words_why.Tie as tie
+
+returns : tie.Need-returns
+unfolding wordsWhy
+returns c = rw (c .before .before .before .before .before .match .keys1) (c .before .before .put-text .ensures)
+
+returns-2 : tie.Need-returns-2
+unfolding wordsWhy
+returns-2 c = rw (c .before .before .before .before .before .match .keys2) (c .before .before .put-text2 .ensures)
+
+returns-3 : tie.Need-returns-3
+unfolding wordsWhy
+returns-3 c = rw (c .before .before .before .before .before .match .keys3) (c .before .before .put-text3 .ensures)
+
+returns-4 : tie.Need-returns-4
+unfolding wordsWhy
+returns-4 c = rw (c .before .before .before .before .before .match .keys4) (c .before .before .put-text4 .ensures)
+
+returns-5 : tie.Need-returns-5
+unfolding wordsWhy
+returns-5 c = rw (c .before .before .before .before .before .match .keys5) (c .before .before .put-text5 .ensures)
+
+returns-6 : tie.Need-returns-6
+unfolding wordsWhy
+returns-6 c = rw (c .before .before .before .before .before .match .keys6) (c .before .before .put-text6 .ensures)
+
+returns-7 : tie.Need-returns-7
+unfolding wordsWhy
+returns-7 c = rw (c .before .before .before .before .before .match .keys7) (c .before .before .put-text7 .ensures)
+
+returns-8 : tie.Need-returns-8
+unfolding wordsWhy
+returns-8 c = rw (c .before .before .before .before .before .match .keys8) (c .before .before .put-text8 .ensures)
+
+returns-9 : tie.Need-returns-9
+returns-9 c = rw (last-words (c .before .before .before .before .before .before .before .args .error) (past 8 _ (c .before .before .before .before .before .match .rest))) (c .before .before .put-text9 .ensures)
+
+pub put-words-why-spec : {M : Type 1} → statement M
+put-words-why-spec =
+    tie.close
+    (tie.spec
+    (λ c. search needs) (λ c κs. search needs) (λ c. search needs) (λ c κs. search needs) (λ c. search needs) (λ c κs. search needs) (λ c. search needs) (λ c κs. search needs) (λ c. search needs) (λ c κs. search needs) (λ c. search needs) (λ c κs. search needs) (λ c. search needs) (λ c κs. search needs) (λ c. search needs) (λ c κs. search needs) (λ c. search needs) (λ c κs. search needs)
+    (λ c. search needs)
+    returns
+    (λ c. search needs)
+    returns-2
+    (λ c. search needs)
+    returns-3
+    (λ c. search needs)
+    returns-4
+    (λ c. search needs)
+    returns-5
+    (λ c. search needs)
+    returns-6
+    (λ c. search needs)
+    returns-7
+    (λ c. search needs)
+    returns-8
+    (λ c. search needs)
+    returns-9)

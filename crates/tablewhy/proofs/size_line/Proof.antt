@@ -1,0 +1,23 @@
+use borrow.Author.Needs.{needs}
+use Rattle.text.proofs.Chain.{_⨟_, same}
+use Rattle.tablewhy.specs.Why.{sizeText}
+use Rattle.tablewhy.proofs.size_line.Statement.{statement}
+use Rattle.tablewhy.proofs.size_line.Tie as tie
+
+returns : tie.Need-returns
+unfolding sizeText
+returns c = c .before .before .before .before .before .before .before .before .before .before .put-text .ensures ⨟ c .before .before .before .before .before .before .put-decimal .ensures ⨟ c .before .before .put-byte .ensures
+
+same-length : tie.Need-same-length
+same-length c = same (returns c)
+
+pub size-line-spec : {M : Type 1} → statement M
+size-line-spec =
+    tie.close
+    (tie.spec
+    (λ c. search needs)
+    (λ c κs. search needs)
+    (λ c κs. search needs)
+    (λ c κs. search needs)
+    same-length
+    returns)

@@ -1,0 +1,22 @@
+use borrow.Author.Needs.{needs}
+use Rattle.text.proofs.Chain.{_⨟_, same}
+use Rattle.tablewhy.specs.Why.{whyText}
+use Rattle.tablewhy.proofs.why_line.Statement.{statement}
+use Rattle.tablewhy.proofs.why_line.Tie as tie
+
+returns : tie.Need-returns
+unfolding whyText
+returns c = c .before .before .before .before .before .before .before .before .before .before .put-line .ensures ⨟ c .before .before .before .before .before .before .put-why .ensures ⨟ c .before .before .put-byte .ensures
+
+same-length : tie.Need-same-length
+same-length c = same (returns c)
+
+pub why-line-spec : {M : Type 1} → statement M
+why-line-spec =
+    tie.close
+    (tie.spec
+    (λ c κs. search needs)
+    (λ c κs. search needs)
+    (λ c κs. search needs)
+    same-length
+    returns)

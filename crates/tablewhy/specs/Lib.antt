@@ -1,0 +1,2 @@
+-- The words of a refusal.
+pub mod Why
