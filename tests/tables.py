@@ -116,46 +116,86 @@ def number(word, digits):
     return int(word, 16) if len(word) == digits and HEX.issuperset(word) else None
 
 
+# why a line is refused, in the words that are printed
+FIRST = "a layout must come first, such as layout 13"
+TWICE = "the layout is named a second time; keep one"
+UNKNOWN = "begin with layout, header, form, report, entry or a row's id"
+TWO = "two hex digits must follow, such as layout 13"
+FOUR = "the second word must be four hex digits, as 0064"
+MORE = "there are too many words; remarks stand behind #"
+LATE = "header lines stand before the first scope"
+HEADERS = "header codes must ascend; this one doesn't"
+FIVE = "a table has at most 4 header codes"
+SCOPES = "form, report, entries by code must ascend"
+MANY = "a table has at most 64 scopes"
+EARLY = "a row stands below a form, a report or an entry"
+IDS = "ids must ascend; this one doesn't"
+HIGH = "an id is at most FC"
+TARGET = "a target is at most 7FFF"
+KIND = "the third word must be number, text, guid, double or bytes"
+NONE = "no layout is named; write one, such as layout 13"
+
+
+def item(w):
+    """What the words of a line say by themselves: a tuple, or why they can't be taken."""
+    if w[0] == "layout":
+        return MORE if len(w) > 2 else TWO if len(w) < 2 or number(w[1], 2) is None else ("layout", number(w[1], 2))
+    if w[0] in ("header", "entry"):
+        return MORE if len(w) > 2 else FOUR if len(w) < 2 or number(w[1], 4) is None else (w[0], number(w[1], 4))
+    if w[0] in ("form", "report"):
+        return MORE if len(w) > 1 else (w[0], 0)
+    if number(w[0], 2) is None:
+        return UNKNOWN
+    if len(w) > 3:
+        return MORE
+    if len(w) < 2 or number(w[1], 4) is None:
+        return FOUR
+    if len(w) < 3 or w[2] not in KINDS:
+        return KIND
+    return "row", number(w[0], 2), number(w[1], 4), KINDS.index(w[2])
+
+
+def broken(said, layout, headers, scopes):
+    """The rule that a line breaks below those that were taken, or None."""
+    what, first = said[0], said[1]
+    if what == "layout":
+        return None if layout is None else TWICE
+    if layout is None:
+        return FIRST
+    if what == "header":
+        return LATE if scopes else HEADERS if headers and first <= headers[-1] else FIVE if len(headers) == 4 else None
+    if what != "row":
+        key = (["form", "report", "entry"].index(what), first)
+        return SCOPES if scopes and key <= scopes[-1][0] else MANY if len(scopes) == 64 else None
+    if not scopes:
+        return EARLY
+    rows = scopes[-1][1]
+    return HIGH if first > 0xFC else IDS if rows and first <= rows[-1][0] else TARGET if said[2] > 0x7FFF else None
+
+
 def read_text(text):
-    """The table of a text, or the number of the line that is refused."""
+    """The table of a text, or the line that is refused and why, as it is printed."""
     layout, headers, scopes, n = None, [], [], 0
     lines = text.split("\n")
     if lines[-1] == "":
         lines.pop()
     for n, line in enumerate(lines, 1):
-        w = line.split("#", 1)[0].replace("\t", " ").replace("\r", " ").split(" ")
-        w = [x for x in w if x]
+        w = [x for x in line.split("#", 1)[0].replace("\t", " ").replace("\r", " ").split(" ") if x]
         if not w:
             continue
-        if w[0] == "layout":
-            if layout is not None or len(w) != 2 or number(w[1], 2) is None:
-                return n
-            layout = number(w[1], 2)
-        elif layout is None:
-            return n
-        elif w[0] == "header":
-            code = number(w[1], 4) if len(w) == 2 else None
-            if code is None or scopes or len(headers) == 4 or (headers and code <= headers[-1]):
-                return n
-            headers.append(code)
-        elif w[0] in ("form", "report", "entry"):
-            kind = ["form", "report", "entry"].index(w[0])
-            if len(w) != (2 if kind == 2 else 1):
-                return n
-            code = number(w[1], 4) if kind == 2 else 0
-            if code is None or len(scopes) == 64 or (scopes and (kind, code) <= scopes[-1][0]):
-                return n
-            scopes.append(((kind, code), []))
+        said = item(w)
+        why = said if isinstance(said, str) else broken(said, layout, headers, scopes)
+        if why:
+            return "line %d: %s\n" % (n, why)
+        if said[0] == "layout":
+            layout = said[1]
+        elif said[0] == "header":
+            headers.append(said[1])
+        elif said[0] == "row":
+            scopes[-1][1].append(said[1:])
         else:
-            row = [number(w[0], 2)]
-            if row[0] is None or not scopes or len(w) != 3:
-                return n
-            row += [number(w[1], 4), KINDS.index(w[2]) if w[2] in KINDS else None]
-            rows = scopes[-1][1]
-            if None in row or row[0] > 0xFC or row[1] > 0x7FFF or (rows and row[0] <= rows[-1][0]):
-                return n
-            rows.append(tuple(row))
-    return n + 1 if layout is None else packed(layout, headers, scopes)
+            scopes.append(((["form", "report", "entry"].index(said[0]), said[1]), []))
+    return "line %d: %s\n" % (n + 1, NONE) if layout is None else packed(layout, headers, scopes)
 
 
 def damaged_text(rng, text):
@@ -241,7 +281,7 @@ def main():
         if isinstance(answer, bytes):
             right = printed == b"table %d\n" % len(answer) + answer
         else:
-            right = printed.startswith(b"line %d: " % answer) and printed.count(b"\n") == 1
+            right = printed == answer.encode()
         if not right:
             fail(n, "a damaged text was misjudged", text=strange, answer=answer, printed=printed[:200])
         tally["damaged"] += 1
@@ -249,7 +289,7 @@ def main():
         tally["texts"] += 3
         tally["refused"] += not isinstance(answer, bytes)
     print("tables: %(tables)d tables (%(bytes)d bytes, %(rows)d rows) shown and made again from their text; %(damaged)d of them from another spelling too; as many damaged ones judged as document 01 "
-          "does, %(broken)d of them broken; as many damaged texts, %(refused)d refused, each at its line" % tally)
+          "does, %(broken)d of them broken; as many damaged texts, %(refused)d refused, each at its line and with its reason" % tally)
 
 
 if __name__ == "__main__":

@@ -4,7 +4,7 @@
 --     header 0099
 --
 --     form
---     14 013A number
+--     14 013A number  # DividingLines
 --
 --     entry 0064  # Label
 --     60 0036 number  # Left
