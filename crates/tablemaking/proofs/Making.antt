@@ -3,6 +3,7 @@ use Prim.Native.Nat.{ℕ, _+_, _*_, _≤_, _<_}
 use native.Mathlib.Omega.{arith}
 use native.Mathlib.Nat.{zero-add}
 use mathlib.Core.Path.{_≡_, refl, sym, ap, subst, _∙_}
+use mathlib.Core.Bool.{true, false}
 use mathlib.Core.List.{List, [], _∷_, _++_}
 use borrow.Author.Tests.{lt-ltb, le-ltb, eq-eqb, ne-eqb}
 use lib.ListN.{length, drop}
@@ -11,7 +12,7 @@ use Rattle.text.specs.Writer.{Wrote}
 use Rattle.text.proofs.Written.{all}
 use Rattle.tablelines.specs.Items.{itemsOf}
 use Rattle.tablemaking.specs.Judged.{judged}
-use Rattle.tablemaking.specs.Made.{headersOf, scopesOf, codesSaid, scopesSaid, rowsSaid, tableSaid, FewRows, longestText, longText, noRoom, MadeExit, MadeAs, refused, written, makeExit}
+use Rattle.tablemaking.specs.Made.{headersOf, scopesOf, partsSaid, scopesSaid, tableSaid, FewRows, longestText, longText, noRoom, MadeExit, MadeAs, refused, written, makeExit}
 use Rattle.tablemaking.specs.declared.Judged.{Judged}
 use Rattle.tablemaking.specs.declared.Made.{Made}
 use Rattle.tablemaking.proofs.Parts.{parts-are}
@@ -69,7 +70,7 @@ module _ (s : List ℕ) (j : Judged) (q : j ≡ judged s) (e : j .error ≡ 0) w
   pub few : FewRows (itemsOf s)
   few x m = said-fits s error-said .scopes-fit x m .rows-fit
 
-  pub whole : (j .layout ∷ []) ++ ((j .headers ∷ []) ++ (twoBytes (j .scopes) ++ (codesSaid (itemsOf s) ++ (scopesSaid (itemsOf s) ++ rowsSaid (itemsOf s))))) ≡ tableSaid s
+  pub whole : (j .layout ∷ []) ++ ((j .headers ∷ []) ++ (twoBytes (j .scopes) ++ (partsSaid false (itemsOf s) ++ (scopesSaid (itemsOf s) ++ partsSaid true (itemsOf s))))) ≡ tableSaid s
   whole = parts-are s (j .layout) (j .headers) (j .scopes) (ap (λ (x : Judged). x .layout) q) headers-are scopes-are (no-rows-above s error-said)
 
   pub size-said : 4 + 2 * j .headers + 5 * j .scopes + 4 * j .rows ≡ length (tableSaid s)

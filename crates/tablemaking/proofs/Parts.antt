@@ -15,29 +15,21 @@ use Rattle.tablelines.specs.declared.Item.the-variants.{Nothing, Layout, Header
 use Rattle.tablelines.specs.declared.Line.{Line}
 use Rattle.tablemaking.specs.Judged.{judged}
 use Rattle.tablemaking.proofs.Judging.{no-items}
-use Rattle.tablemaking.specs.Made.{headersOf, rowsOf, scopesOf, codeBytes, rowBytes, isScope, rowsIn, scopeSaid, codesSaid, rowsSaid, scopesSaid, tableSaid, FewRows}
+use Rattle.tablemaking.specs.Made.{headersOf, rowsOf, scopesOf, codeBytes, rowBytes, isScope, rowsIn, scopeSaid, partBytes, partsSaid, scopesSaid, tableSaid, FewRows}
 
 -- ---- a line more
 module _ (item : Item) (items : List Item) where
-  pub code-said : codesSaid (item ∷ items) ≡ codeBytes item ++ codesSaid items
-  unfolding codesSaid concat
-  code-said = refl
-
-  pub row-said : rowsSaid (item ∷ items) ≡ rowBytes item ++ rowsSaid items
-  unfolding rowsSaid concat
-  row-said = refl
+  pub part-said : (bodies : Bool) → partsSaid bodies (item ∷ items) ≡ partBytes bodies item ++ partsSaid bodies items
+  unfolding partsSaid concat
+  part-said bodies = refl
 
   pub a-scope-said : scopesSaid (item ∷ items) ≡ scopeSaid item items ++ scopesSaid items
   unfolding scopesSaid
   a-scope-said = refl
 
-pub no-codes : codesSaid [] ≡ []
-unfolding codesSaid concat
-no-codes = refl
-
-pub no-rows-said : rowsSaid [] ≡ []
-unfolding rowsSaid concat
-no-rows-said = refl
+pub no-parts : (bodies : Bool) → partsSaid bodies [] ≡ []
+unfolding partsSaid concat
+no-parts bodies = refl
 
 pub no-scopes : scopesSaid [] ≡ []
 unfolding scopesSaid
@@ -86,8 +78,8 @@ few-of item kind code items e f =
     g (record { kind = kind; code = code; rows = rowsOf items }) (List·Memᴰ·head refl)
 
 -- ---- the parts together
-pub codes-are : (items : List Item) → codesSaid items ≡ concat (map twoBytes (headersOf items))
-unfolding codesSaid concat codeBytes headersOf
+pub codes-are : (items : List Item) → partsSaid false items ≡ concat (map twoBytes (headersOf items))
+unfolding partsSaid partBytes concat codeBytes headersOf
 codes-are [] = refl
 codes-are (Nothing ∷ items) = codes-are items
 codes-are (Layout byte ∷ items) = codes-are items
@@ -110,8 +102,8 @@ abbrev bodies : List table.Scope → List ℕ
 bodies ss = concat (map (λ (s : table.Scope). tiesBytes (s .rows)) ss)
 
 -- those above the first scope stand before the bodies
-rows-with : (items : List Item) → rowsSaid items ≡ tiesBytes (rowsOf items) ++ bodies (scopesOf items)
-unfolding rowsSaid concat rowBytes rowsOf scopesOf
+rows-with : (items : List Item) → partsSaid true items ≡ tiesBytes (rowsOf items) ++ bodies (scopesOf items)
+unfolding partsSaid partBytes concat rowBytes rowsOf scopesOf
 rows-with [] = refl
 rows-with (Nothing ∷ items) = rows-with items
 rows-with (Layout byte ∷ items) = rows-with items
@@ -127,11 +119,11 @@ unfolding concat
 no-ties [] e = refl
 no-ties (r ∷ rs) e = absurd (omega arith)
 
-pub rows-are : (items : List Item) → length (rowsOf items) ≡ 0 → rowsSaid items ≡ bodies (scopesOf items)
+pub rows-are : (items : List Item) → length (rowsOf items) ≡ 0 → partsSaid true items ≡ bodies (scopesOf items)
 rows-are items e = rows-with items ∙ ap (λ (x : List ℕ). x ++ bodies (scopesOf items)) (no-ties (rowsOf items) e)
 
 -- the whole table
 pub parts-are : (s : List ℕ) (layout headers scopes : ℕ) → layout ≡ judged s .layout → headers ≡ length (headersOf (itemsOf s)) → scopes ≡ length (scopesOf (itemsOf s)) → length (rowsOf (itemsOf s)) ≡ 0
-    → (layout ∷ []) ++ ((headers ∷ []) ++ (twoBytes scopes ++ (codesSaid (itemsOf s) ++ (scopesSaid (itemsOf s) ++ rowsSaid (itemsOf s))))) ≡ tableSaid s
+    → (layout ∷ []) ++ ((headers ∷ []) ++ (twoBytes scopes ++ (partsSaid false (itemsOf s) ++ (scopesSaid (itemsOf s) ++ partsSaid true (itemsOf s))))) ≡ tableSaid s
 unfolding tableSaid tableBytes
 parts-are s layout headers scopes a b d e = rw (a, b, d, codes-are (itemsOf s), scopes-are (itemsOf s), rows-are (itemsOf s) e)

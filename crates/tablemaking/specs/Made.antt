@@ -129,11 +129,12 @@ scopeSaid (Scope kind code) items = scopeBytes (record { kind = kind; code = cod
 scopeSaid (Row id target kind) items = []
 scopeSaid (Bad error) items = []
 
-unfoldable pub codesSaid : List Item → List ℕ
-codesSaid items = concat (map codeBytes items)
+-- a line's part of the bodies, or of the header codes
+unfoldable pub partBytes : Bool → Item → List ℕ
+partBytes bodies item = cond bodies (rowBytes item) (codeBytes item)
 
-unfoldable pub rowsSaid : List Item → List ℕ
-rowsSaid items = concat (map rowBytes items)
+unfoldable pub partsSaid : Bool → List Item → List ℕ
+partsSaid bodies items = concat (map (partBytes bodies) items)
 
 unfoldable pub scopesSaid : List Item → List ℕ
 scopesSaid [] = []

@@ -300,22 +300,6 @@ fn put_code(out: &mut [u8], at: usize, item: Item) -> usize
     }
 }
 
-// The codes of the header lines.
-fn put_codes(text: &[u8], out: &mut [u8], at: usize) -> usize
-    requires { ⌜ length (now text) ≤ m.longestText ⌝ }
-    ensures { λ r. ⌜ Wrote (now (out .entry)) at (m.codesSaid (itemsOf (now (text .entry)))) (now (out .exit)) r ⌝ }
-{
-    let mut p = at;
-    let mut place = 0;
-    while place < text.len() {
-        let line = line_at(text, place);
-        let item = line.item;
-        p = put_code(out, p, item);
-        place = line.next;
-    }
-    p
-}
-
 fn put_row(out: &mut [u8], at: usize, id: u8, target: u16, kind: u8) -> usize
     ensures { λ r. ⌜ Wrote (now (out .entry)) at (id ∷ twoBytes target ++ (kind ∷ [])) (now (out .exit)) r ⌝ }
 {
@@ -337,17 +321,27 @@ fn put_tie(out: &mut [u8], at: usize, item: Item) -> usize
     }
 }
 
-// The rows.
-fn put_ties(text: &[u8], out: &mut [u8], at: usize) -> usize
+// A line's part of the bodies, or of the header codes.
+fn put_part(out: &mut [u8], at: usize, item: Item, bodies: bool) -> usize
+    ensures { λ r. ⌜ Wrote (now (out .entry)) at (m.partBytes bodies item) (now (out .exit)) r ⌝ }
+{
+    if bodies {
+        return put_tie(out, at, item);
+    }
+    put_code(out, at, item)
+}
+
+// The rows of all lines, or their header codes.
+fn put_parts(text: &[u8], bodies: bool, out: &mut [u8], at: usize) -> usize
     requires { ⌜ length (now text) ≤ m.longestText ⌝ }
-    ensures { λ r. ⌜ Wrote (now (out .entry)) at (m.rowsSaid (itemsOf (now (text .entry)))) (now (out .exit)) r ⌝ }
+    ensures { λ r. ⌜ Wrote (now (out .entry)) at (m.partsSaid bodies (itemsOf (now (text .entry)))) (now (out .exit)) r ⌝ }
 {
     let mut p = at;
     let mut place = 0;
     while place < text.len() {
         let line = line_at(text, place);
         let item = line.item;
-        p = put_tie(out, p, item);
+        p = put_part(out, p, item, bodies);
         place = line.next;
     }
     p
@@ -458,9 +452,9 @@ fn put_table(text: &[u8], judged: Judged, out: &mut [u8]) -> usize
     let p = put_byte(out, 0, judged.layout as u8);
     let p = put_byte(out, p, judged.headers as u8);
     let p = put_half(out, p, judged.scopes);
-    let p = put_codes(text, out, p);
+    let p = put_parts(text, false, out, p);
     let p = put_scopes(text, out, p);
-    put_ties(text, out, p)
+    put_parts(text, true, out, p)
 }
 
 // The table of a text, or the first line that can't be taken and why.

@@ -22,7 +22,7 @@ returns c =
     let a = c .before .before .before .before .before .before .before .before .before .before .before .before .before .before .before .before .before .before .before .before .before .before .before .before .before .before .before .before .args in
     let p = c .before .before .before .before .before .before .before .before .before .before .before .before .before .before .before .before .before .before .before .before .before .before .before .before .before .before .before .before .pre in
     as-said (whole (a .text .now) (a .judged) (p .1) (p .2))
-    (c .before .before .before .before .before .before .before .before .before .before .before .before .before .before .before .before .before .before .before .before .before .before .before .put-byte .ensures ⨟ c .before .before .before .before .before .before .before .before .before .before .before .before .before .before .before .before .before .before .put-byte2 .ensures ⨟ c .before .before .before .before .before .before .before .before .before .before .before .before .before .before .put-half .ensures ⨟ c .before .before .before .before .before .before .before .before .before .before .put-codes .ensures ⨟ c .before .before .before .before .before .before .put-scopes .ensures ⨟ c .before .before .put-ties .ensures)
+    (c .before .before .before .before .before .before .before .before .before .before .before .before .before .before .before .before .before .before .before .before .before .before .before .put-byte .ensures ⨟ c .before .before .before .before .before .before .before .before .before .before .before .before .before .before .before .before .before .before .put-byte2 .ensures ⨟ c .before .before .before .before .before .before .before .before .before .before .before .before .before .before .put-half .ensures ⨟ c .before .before .before .before .before .before .before .before .before .before .put-parts .ensures ⨟ c .before .before .before .before .before .before .put-scopes .ensures ⨟ c .before .before .put-parts2 .ensures)
 
 pub put-table-spec : {M : Type 1} → statement M
 put-table-spec =
