@@ -13,7 +13,9 @@ use leaf::u16_at;
 use leaf::u32_at;
 use matchlater::find_match;
 use propvalue::entry_value;
+use rows::CONTROL_WIDTH;
 use rows::Next;
+use rows::PROPERTY_WIDTH;
 use rows::control_row;
 use rows::put_control;
 use rows::put_property;
@@ -318,10 +320,10 @@ pub fn read(stream: &[u8], controls: &mut [u32], properties: &mut [u32]) -> Answ
         };
     }
     let n = count(stream);
-    if controls.len() / 6 < n.controls {
+    if controls.len() / CONTROL_WIDTH < n.controls {
         return counted(6, n);
     }
-    if properties.len() / 6 < n.own + n.props {
+    if properties.len() / PROPERTY_WIDTH < n.own + n.props {
         return counted(7, n);
     }
     write_blob(stream, n.tree, controls, properties);

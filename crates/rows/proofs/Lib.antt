@@ -1,5 +1,6 @@
 -- Laws for whoever counts entries or writes their rows.
 pub mod PutLaws
+pub mod GetLaws
 pub mod WritingLaws
 pub mod CountingLaws
 pub mod LevelLaws

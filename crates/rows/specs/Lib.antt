@@ -1,4 +1,5 @@
 pub mod Put
+pub mod Get
 pub mod Writing
 pub mod Counting
 pub mod Acts

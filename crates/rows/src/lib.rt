@@ -1,15 +1,26 @@
-// Rows of words put into a lent slice, every other word keeping its value; and what both Blob readers share.
+// Rows of words put into a lent slice, every other word keeping its value, and read from one; and what both Blob readers share.
 use rules::Name;
 use rules::Property;
+use rules::Value;
 use text::label_length;
 ghost use mathlib.Core.Path.{_≡_};
 ghost use mathlib.Core.List.{[], _∷_, _++_};
 ghost use Prim.Native.Nat.{_+_, _*_, _≤_};
-ghost use lib.ListN.{length};
-ghost use Rattle.rules.specs.Rows.{controlWidth, propertyWidth, typeInfoWidth};
+ghost use lib.ListN.{length, getD};
+ghost use Rattle.rules.specs.Rows.{controlWidth, propertyWidth, typeInfoWidth, rowAt};
 ghost use Rattle.rules.specs.Reading.{nameWords, propertyRow};
 ghost use Rattle.rules.specs.Tree.{isSection};
 ghost use Rattle.rows.specs.Put.{put, controlWords, infoWords};
+ghost use Rattle.rows.specs.Get.{ControlOf, PropertyOf, InfoOf};
+
+// How many words a control's row has.
+pub const CONTROL_WIDTH: usize = 6;
+
+// The same of a property's row.
+pub const PROPERTY_WIDTH: usize = 6;
+
+// The same of a TypeInfo row.
+pub const INFO_WIDTH: usize = 4;
 
 // The words of a control's row.
 pub struct ControlRow {
@@ -90,7 +101,7 @@ pub fn put_control(rows: &mut [u32], at: usize, row: ControlRow)
     requires { ⌜ at * controlWidth + controlWidth ≤ length (now rows) ⌝ }
     ensures { λ _. ⌜ now (rows .exit) ≡ put controlWidth (now (rows .entry)) at (controlWords row ∷ []) ⌝ }
 {
-    let k = at * 6;
+    let k = at * CONTROL_WIDTH;
     rows[k] = row.type_code;
     rows[k + 1] = row.mark;
     rows[k + 2] = row.start;
@@ -104,7 +115,7 @@ pub fn put_property(rows: &mut [u32], at: usize, p: Property)
     requires { ⌜ at * propertyWidth + propertyWidth ≤ length (now rows) ⌝ }
     ensures { λ _. ⌜ now (rows .exit) ≡ put propertyWidth (now (rows .entry)) at (propertyRow p ∷ []) ⌝ }
 {
-    let k = at * 6;
+    let k = at * PROPERTY_WIDTH;
     let v = p.value;
     rows[k] = p.id;
     rows[k + 1] = v.mark;
@@ -119,9 +130,61 @@ pub fn put_info(rows: &mut [u32], at: usize, row: InfoRow)
     requires { ⌜ at * typeInfoWidth + typeInfoWidth ≤ length (now rows) ⌝ }
     ensures { λ _. ⌜ now (rows .exit) ≡ put typeInfoWidth (now (rows .entry)) at (infoWords row ∷ []) ⌝ }
 {
-    let k = at * 4;
+    let k = at * INFO_WIDTH;
     rows[k] = row.type_code;
     rows[k + 1] = row.index;
     rows[k + 2] = row.start;
     rows[k + 3] = row.size;
+}
+
+// 0 where the rows end before it.
+fn word_at(rows: &[u32], at: usize) -> u32
+    ensures { λ r. ⌜ r ≡ getD (now (rows .entry)) at 0 ⌝ }
+{
+    if at < rows.len() { rows[at] } else { 0 }
+}
+
+// Reads row `n` of the control rows; a word that the slice lacks is 0.
+pub fn get_control(rows: &[u32], n: u32) -> ControlRow
+    ensures { λ r. ⌜ ControlOf (rowAt controlWidth n (now (rows .entry))) r ⌝ }
+{
+    let k = (n as usize) * CONTROL_WIDTH;
+    ControlRow {
+        type_code: word_at(rows, k),
+        mark: word_at(rows, k + 1),
+        start: word_at(rows, k + 2),
+        size: word_at(rows, k + 3),
+        first: word_at(rows, k + 4),
+        count: word_at(rows, k + 5),
+    }
+}
+
+// Reads row `n` of the property rows; a word that the slice lacks is 0.
+pub fn get_property(rows: &[u32], n: u32) -> Property
+    ensures { λ r. ⌜ PropertyOf (rowAt propertyWidth n (now (rows .entry))) r ⌝ }
+{
+    let k = (n as usize) * PROPERTY_WIDTH;
+    Property {
+        id: word_at(rows, k),
+        value: Value {
+            mark: word_at(rows, k + 1),
+            low: word_at(rows, k + 2),
+            high: word_at(rows, k + 3),
+        },
+        start: word_at(rows, k + 4),
+        size: word_at(rows, k + 5),
+    }
+}
+
+// Reads row `n` of the TypeInfo rows; a word that the slice lacks is 0.
+pub fn get_info(rows: &[u32], n: u32) -> InfoRow
+    ensures { λ r. ⌜ InfoOf (rowAt typeInfoWidth n (now (rows .entry))) r ⌝ }
+{
+    let k = (n as usize) * INFO_WIDTH;
+    InfoRow {
+        type_code: word_at(rows, k),
+        index: word_at(rows, k + 1),
+        start: word_at(rows, k + 2),
+        size: word_at(rows, k + 3),
+    }
 }

@@ -119,18 +119,18 @@ module _ (s rows : List ℕ) where
     after : (found : ℕ) → found ≡ length (reportedAt s 32 count) → typeInfoAnswer s (room typeInfoWidth rows) ≡ fromHere rows found
     after found f = decided ∙ ap (λ h. answerFor h (fromHere rows (length (typeInfoOf s)))) accepts ∙ ap (fromHere rows) (sym (f ∙ ap length all))
 
-    pub no-room : (found : ℕ) → found ≡ length (reportedAt s 32 count) → length rows / 4 < found
+    pub no-room : (found : ℕ) → found ≡ length (reportedAt s 32 count) → room typeInfoWidth rows < found
         → (answer moreControls found 0 0 ≡ typeInfoExit s rows .answer) × (rows ≡ typeInfoExit s rows .rows)
     no-room found f h =
         exits (answer moreControls found 0 0)
-        (after found f ∙ ap (λ t. cond t (answer moreControls found 0 0) (answer 0 found 0 0)) (lt-ltb (length rows / 4) found h))
+        (after found f ∙ ap (λ t. cond t (answer moreControls found 0 0) (answer 0 found 0 0)) (lt-ltb (room typeInfoWidth rows) found h))
         rows refl
 
-    pub all-written : (found : ℕ) → found ≡ length (reportedAt s 32 count) → found ≤ length rows / 4
+    pub all-written : (found : ℕ) → found ≡ length (reportedAt s 32 count) → found ≤ room typeInfoWidth rows
         → (new : List ℕ) → new ≡ put typeInfoWidth rows 0 (map typeInfoRow (reportedAt s 32 count))
         → (answer 0 found 0 0 ≡ typeInfoExit s rows .answer) × (new ≡ typeInfoExit s rows .rows)
     unfolding typeInfoRows
     all-written found f h new w =
         exits (answer 0 found 0 0)
-        (after found f ∙ ap (λ t. cond t (answer moreControls found 0 0) (answer 0 found 0 0)) (le-ltb (length rows / 4) found h))
+        (after found f ∙ ap (λ t. cond t (answer moreControls found 0 0) (answer 0 found 0 0)) (le-ltb (room typeInfoWidth rows) found h))
         new (w ∙ written-put typeInfoWidth rows (map typeInfoRow (reportedAt s 32 count)) ∙ ap (λ l. written (map typeInfoRow l) rows) all)

@@ -1,4 +1,5 @@
 // The TypeInfo reader: entries are counted first, then written as rows of four words. Names stay bytes of the stream.
+use rows::INFO_WIDTH;
 use rows::InfoRow;
 use rules::Answer;
 ghost use mathlib.Core.Path.{_≡_};
@@ -240,7 +241,7 @@ pub fn read_type_info(stream: &[u8], rows: &mut [u32]) -> Answer
             third: 0,
         },
         Header::Entries(count) => {
-            let room = rows.len() / 4;
+            let room = rows.len() / INFO_WIDTH;
             match room_for(stream, count, room) {
                 Fit::Short(found) => Answer {
                     number: 6,

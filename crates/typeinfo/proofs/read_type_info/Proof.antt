@@ -1,9 +1,10 @@
 -- `read_type_info` meets `typeInfoExit`: a refusal leaves the rows, and with number 0 all reported entries are written.
-use Prim.Native.Nat.{_/_, _≤_}
+use Prim.Native.Nat.{_≤_}
 use native.Mathlib.Omega.{arith}
 use mathlib.Core.Path.{_≡_, sym, _∙_}
 use lib.ListN.{length}
 use borrow.Author.Needs.{needs}
+use Rattle.rules.specs.Rows.{typeInfoWidth, room}
 use Rattle.typeinfo.specs.Entries.{headerOf, reportedAt}
 use Rattle.typeinfo.specs.declared.Header.the-variants.{Entries}
 use Rattle.typeinfo.proofs.EntryLaws.{at-most}
@@ -16,7 +17,7 @@ accepts : (c : tie.After-header2) → headerOf (c .before .before .before .befor
 accepts c = sym (c .before .before .type-info-count .ensures) ∙ c .header2 .given .1
 
 -- the rows lent hold what is reported
-fits : (c : tie.After-enum-told) → length (reportedAt (c .before .before .before .before .before .before .before .before .before .args .stream .now) 32 (c .before .before .before .before .header2 .given .0 .0)) ≤ length (c .before .before .before .before .before .before .before .before .before .args .rows .now) / 4
+fits : (c : tie.After-enum-told) → length (reportedAt (c .before .before .before .before .before .before .before .before .before .args .stream .now) 32 (c .before .before .before .before .header2 .given .0 .0)) ≤ room typeInfoWidth (c .before .before .before .before .before .before .before .before .before .args .rows .now)
 fits c = enough _ _ _ (c .before .before .room-for .ensures) (c .enum-told .given .1)
 
 room-for-requires : tie.Need-room-for-requires

@@ -1,0 +1,30 @@
+-- The words of a row by their names; a word that the row lacks is 0.
+use Prim.Native.Nat.{ℕ}
+use mathlib.Core.Path.{_≡_}
+use mathlib.Core.List.{List}
+use Rattle.rules.specs.Listing.{word}
+use Rattle.rules.specs.declared.Property.{Property}
+use Rattle.rows.specs.declared.ControlRow.{ControlRow}
+use Rattle.rows.specs.declared.InfoRow.{InfoRow}
+
+pub record ControlOf (row : List ℕ) (r : ControlRow) : Type 0 where
+  pub type-code : r .«type_code» ≡ word row 0
+  pub mark : r .mark ≡ word row 1
+  pub start : r .start ≡ word row 2
+  pub size : r .size ≡ word row 3
+  pub first : r .first ≡ word row 4
+  pub count : r .count ≡ word row 5
+
+pub record PropertyOf (row : List ℕ) (p : Property) : Type 0 where
+  pub id : p .id ≡ word row 0
+  pub mark : p .value .mark ≡ word row 1
+  pub low : p .value .low ≡ word row 2
+  pub high : p .value .high ≡ word row 3
+  pub start : p .start ≡ word row 4
+  pub size : p .size ≡ word row 5
+
+pub record InfoOf (row : List ℕ) (r : InfoRow) : Type 0 where
+  pub type-code : r .«type_code» ≡ word row 0
+  pub index : r .index ≡ word row 1
+  pub start : r .start ≡ word row 2
+  pub size : r .size ≡ word row 3
