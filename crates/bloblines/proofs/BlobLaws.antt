@@ -19,7 +19,7 @@ use Rattle.rules.specs.declared.Answer.{Answer}
 use Rattle.blob.specs.Exit.{exited}
 use Rattle.text.specs.Writer.{Wrote}
 use Rattle.text.proofs.Chain.{nothing, _⨟_}
-use Rattle.fields.proofs.Fields.{word-at}
+use Rattle.rows.proofs.GetLaws.{word-in}
 use Rattle.listing.specs.Shown.{linesTo, shown}
 use Rattle.listing.specs.Bound.{longestAnswer, longestControl, longestProperty}
 use Rattle.listing.proofs.Printed.{Stated, outcome-stated, printed-shown}
@@ -59,11 +59,11 @@ module _ (t s cs ps : List ℕ) (a : Answer) (cs′ ps′ : List ℕ) (x : exite
     answer-most : length (answerLine a) ≤ longestAnswer
     answer-most = answer-short a (w .number) (w .first) (w .second) (w .third)
 
-    control-word : (n i : ℕ) → i < 6 → Word32 (word (rowAt controlWidth n cs′) i)
-    control-word n i h = rw (word-at n i cs′ h) (w .controls (n * 6 + i))
+    control-word : (n i : ℕ) → i < controlWidth → Word32 (word (rowAt controlWidth n cs′) i)
+    control-word n i h = rw (word-in controlWidth n i cs′ h) (w .controls (n * controlWidth + i))
 
-    property-word : (n i : ℕ) → i < 6 → Word32 (word (rowAt propertyWidth n ps′) i)
-    property-word n i h = rw (word-at n i ps′ h) (w .properties (n * 6 + i))
+    property-word : (n i : ℕ) → i < propertyWidth → Word32 (word (rowAt propertyWidth n ps′) i)
+    property-word n i h = rw (word-in propertyWidth n i ps′ h) (w .properties (n * propertyWidth + i))
 
     controls-most : length (linesTo controlLine controlWidth (a .first) cs′) ≤ a .first * longestControl
     controls-most =

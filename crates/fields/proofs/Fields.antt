@@ -1,21 +1,14 @@
--- Words of rows and fields, as the code has them.
-use mathlib.Core.Path.{_≡_, refl, _∙_}
+-- A name, a count, as the code has them.
+use mathlib.Core.Path.{_≡_, refl}
 use mathlib.Core.List.{List, [], _∷_}
-use Prim.Native.Nat.{ℕ, _+_, _*_, _/_, _<_}
+use Prim.Native.Nat.{ℕ, _/_}
 use native.Mathlib.Omega.{arith}
 use borrow.Author.Tests.{eq-eqb, ne-eqb}
-use lib.ListN.{length, getD, drop}
-use lib.Seq.{getD-take, getD-drop}
+use lib.ListN.{length}
 use Rattle.rules.specs.Lists.{text}
 use Rattle.rules.specs.Digits.{decimal}
-use Rattle.rules.specs.Rows.{propertyWidth, rowAt}
-use Rattle.rules.specs.Listing.{orDash, word, nameColumn}
+use Rattle.rules.specs.Listing.{orDash, nameColumn}
 
--- a word of a row, by its place in the slice
-pub word-at : (n i : ℕ) (rows : List ℕ) → i < 6 → word (rowAt propertyWidth n rows) i ≡ getD rows (n * 6 + i) 0
-word-at n i rows h = getD-take 6 (drop (n * 6) rows) i 0 h ∙ getD-drop (n * 6) rows i 0
-
--- ---- a name, a count
 pub no-name : (s : List ℕ) → length s ≡ 0 → orDash s ≡ text "-"
 unfolding orDash
 no-name [] e = refl

@@ -1,4 +1,5 @@
-// The fields of a line, and the words of rows that they show. Each is written into a lent buffer; the place behind it is returned.
+// The fields of a line. Each is written into a lent buffer; the place behind it is returned.
+use rules::Property;
 use text::put_byte;
 use text::put_decimal;
 use text::put_hex;
@@ -8,25 +9,15 @@ use values::put_word;
 use values::value_bytes;
 ghost use mathlib.Core.Path.{_≡_};
 ghost use mathlib.Core.List.{[], _∷_};
-ghost use Prim.Native.Nat.{_<_};
 ghost use Rattle.rules.specs.Lists.{text};
 ghost use Rattle.rules.specs.Digits.{decimal, hex};
 ghost use Rattle.rules.specs.NameTables.{controlTypeNames};
 ghost use Rattle.rules.specs.Names.{nameIn, namesFor};
-ghost use Rattle.rules.specs.Rows.{propertyWidth, rowAt};
-ghost use Rattle.rules.specs.Listing.{orDash, word, nameColumn};
+ghost use Rattle.rules.specs.Reading.{propertyRow};
+ghost use Rattle.rules.specs.Listing.{orDash, nameColumn};
 ghost use Rattle.names.specs.Lookup.{Lent, AllLent};
 ghost use Rattle.text.specs.Writer.{Wrote};
 ghost use Rattle.fields.specs.Parts.{fields, shownFields};
-
-// Word `i` of row `n`; rows that end before it have 0 there.
-pub fn row_word(rows: &[u32], n: u32, i: usize) -> u32
-    requires { ⌜ i < 6 ⌝ }
-    ensures { λ r. ⌜ r ≡ word (rowAt propertyWidth n (now (rows .entry))) i ⌝ }
-{
-    let at = (n as usize) * 6 + i;
-    if at < rows.len() { rows[at] } else { 0 }
-}
 
 // LF ends each line.
 pub fn put_end(out: &mut [u8], at: usize) -> usize
@@ -110,17 +101,13 @@ pub fn put_chars(out: &mut [u8], at: usize, mark: u32, size: u32) -> usize
     }
 }
 
-// The word and the value of property row `n`.
-pub fn put_shown(out: &mut [u8], at: usize, stream: &[u8], rows: &[u32], n: u32) -> usize
-    ensures { λ r. ⌜ Wrote (now (out .entry)) at (shownFields (now (stream .entry)) (rowAt propertyWidth n (now (rows .entry)))) (now (out .exit)) r ⌝ }
+// The word and the value of a property.
+pub fn put_shown(out: &mut [u8], at: usize, stream: &[u8], p: Property) -> usize
+    ensures { λ r. ⌜ Wrote (now (out .entry)) at (shownFields (now (stream .entry)) (propertyRow p)) (now (out .exit)) r ⌝ }
 {
-    let mark = row_word(rows, n, 1);
-    let low = row_word(rows, n, 2);
-    let high = row_word(rows, n, 3);
-    let start = row_word(rows, n, 4);
-    let size = row_word(rows, n, 5);
-    let bytes = value_bytes(stream, start, size);
-    let p = put_word(out, at, mark);
-    let p = put_byte(out, p, b' ');
-    put_value(out, p, mark, low, high, size, bytes)
+    let v = p.value;
+    let bytes = value_bytes(stream, p.start, p.size);
+    let next = put_word(out, at, v.mark);
+    let next = put_byte(out, next, b' ');
+    put_value(out, next, v.mark, v.low, v.high, p.size, bytes)
 }

@@ -2,15 +2,15 @@
 use fields::put_end;
 use fields::put_head;
 use fields::put_type_name;
+use rows::get_info;
 use text::put_byte;
 use text::put_decimal;
 use text::put_hex;
 use values::value_bytes;
 ghost use mathlib.Core.Path.{_≡_};
-ghost use Prim.Native.Nat.{_<_};
 ghost use Rattle.rules.specs.NameTables.{controlTypeNames};
 ghost use Rattle.rules.specs.Rows.{typeInfoWidth, room, rowAt};
-ghost use Rattle.rules.specs.Listing.{orDash, word};
+ghost use Rattle.rules.specs.Listing.{orDash};
 ghost use Rattle.names.specs.Lookup.{Lent};
 ghost use Rattle.text.specs.Writer.{Wrote};
 ghost use Rattle.listing.specs.Shown.{linesTo};
@@ -62,15 +62,6 @@ fn put_name(out: &mut [u8], at: usize, s: &[u8]) -> usize
 }
 
 // ---- lines
-// Word `i` of row `n`; rows that end before it have 0 there.
-fn info_word(rows: &[u32], n: u32, i: usize) -> u32
-    requires { ⌜ i < typeInfoWidth ⌝ }
-    ensures { λ r. ⌜ r ≡ word (rowAt typeInfoWidth n (now (rows .entry))) i ⌝ }
-{
-    let at = (n as usize) * 4 + i;
-    if at < rows.len() { rows[at] } else { 0 }
-}
-
 // The T line of row `n`. The names of control types are lent.
 fn info_line(
     out: &mut [u8],
@@ -84,17 +75,14 @@ fn info_line(
     requires { ⌜ Lent controlTypeNames (now «type_ids») (now «type_names») ⌝ }
     ensures { λ r. ⌜ Wrote (now (out .entry)) at (infoLine (now (stream .entry)) n (rowAt typeInfoWidth n (now (rows .entry)))) (now (out .exit)) r ⌝ }
 {
-    let code = info_word(rows, n, 0);
-    let index = info_word(rows, n, 1);
-    let start = info_word(rows, n, 2);
-    let size = info_word(rows, n, 3);
-    let name = value_bytes(stream, start, size);
-    let p = put_head(out, at, b'T', n, code);
-    let p = put_type_name(out, p, type_ids, type_names, code);
+    let row = get_info(rows, n);
+    let name = value_bytes(stream, row.start, row.size);
+    let p = put_head(out, at, b'T', n, row.type_code);
+    let p = put_type_name(out, p, type_ids, type_names, row.type_code);
     let p = put_byte(out, p, b' ');
-    let p = put_decimal(out, p, index);
+    let p = put_decimal(out, p, row.index);
     let p = put_byte(out, p, b' ');
-    let p = put_decimal(out, p, size);
+    let p = put_decimal(out, p, row.size);
     let p = put_byte(out, p, b' ');
     let p = put_name(out, p, name);
     put_end(out, p)

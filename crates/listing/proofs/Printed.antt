@@ -60,7 +60,7 @@ module _ (r : Reading) (old : List ℕ) where
   pub control-lines : length (r .controls) ≤ room controlWidth old
       → linesFrom controlLine 0 (controlRows r) ≡ linesTo controlLine controlWidth (length (r .controls)) (written (controlRows r) old)
   control-lines h =
-      let k : length (controlRows r) * 6 ≤ length old = omega (arith, controls-counted r) in
+      let k : length (controlRows r) * controlWidth ≤ length old = omega (arith, controls-counted r) in
       lines-written controlLine controlWidth (controlRows r) (controls-width r) old k
       ∙ ap (λ (n : ℕ). linesTo controlLine controlWidth n (written (controlRows r) old)) (controls-counted r)
 
@@ -68,7 +68,7 @@ module _ (r : Reading) (old : List ℕ) where
       → linesFrom (propertyLine stream) 0 (propertyRows r)
       ≡ linesTo (propertyLine stream) propertyWidth (length (properties r)) (written (propertyRows r) old)
   property-lines stream h =
-      let k : length (propertyRows r) * 6 ≤ length old = omega (arith, properties-counted r) in
+      let k : length (propertyRows r) * propertyWidth ≤ length old = omega (arith, properties-counted r) in
       lines-written (propertyLine stream) propertyWidth (propertyRows r) (properties-width r) old k
       ∙ ap (λ (n : ℕ). linesTo (propertyLine stream) propertyWidth n (written (propertyRows r) old)) (properties-counted r)
 

@@ -6,10 +6,14 @@ use Rattle.rules.specs.Lists.{text}
 use Rattle.rules.specs.Digits.{decimal, hex}
 use Rattle.rules.specs.NameTables.{controlTypeNames}
 use Rattle.rules.specs.Names.{nameIn, namesFor}
+use Rattle.rules.specs.Reading.{propertyRow}
 use Rattle.rules.specs.Listing.{answerLine, orDash, word, nameColumn, controlLine, propertyLine}
 use Rattle.rules.specs.declared.Answer.{Answer}
+use Rattle.rules.specs.declared.Property.{Property}
 use Rattle.text.specs.Writer.{Wrote}
 use Rattle.text.proofs.Chain.{_⨟_}
+use Rattle.rows.specs.Get.{ControlOf, PropertyOf}
+use Rattle.rows.specs.declared.ControlRow.{ControlRow}
 use Rattle.fields.specs.Parts.{fields, shownFields}
 
 pub control-text : (n : ℕ) (row : List ℕ) → controlLine n row
@@ -43,24 +47,28 @@ unfolding answerLine
 answer-wrote a w1 w2 w3 w4 w5 w6 w7 w8 w9 w10 = w1 ⨟ w2 ⨟ w3 ⨟ w4 ⨟ w5 ⨟ w6 ⨟ w7 ⨟ w8 ⨟ w9 ⨟ w10
 
 module _ (n : ℕ) (row : List ℕ) where
-  pub control-wrote : {o b1 b2 b3 b4 b5 b6 b7 b8 new : List ℕ} {at p1 p2 p3 p4 p5 p6 p7 p8 e code mark size first count : ℕ}
-      → code ≡ word row 0 → mark ≡ word row 1 → size ≡ word row 3 → first ≡ word row 4 → count ≡ word row 5
-      → Wrote o at (fields (text "C" ∷ decimal n ∷ hex 4 code ∷ [])) b1 p1
-      → Wrote b1 p1 (orDash (nameIn controlTypeNames code)) b2 p2
-      → Wrote b2 p2 (text " ") b3 p3 → Wrote b3 p3 (nameColumn mark size) b4 p4
-      → Wrote b4 p4 (text " ") b5 p5 → Wrote b5 p5 (decimal first) b6 p6
-      → Wrote b6 p6 (text " ") b7 p7 → Wrote b7 p7 (decimal count) b8 p8
+  pub control-wrote : {o b1 b2 b3 b4 b5 b6 b7 b8 new : List ℕ} {at p1 p2 p3 p4 p5 p6 p7 p8 e : ℕ} {r : ControlRow}
+      → ControlOf row r
+      → Wrote o at (fields (text "C" ∷ decimal n ∷ hex 4 (r .«type_code») ∷ [])) b1 p1
+      → Wrote b1 p1 (orDash (nameIn controlTypeNames (r .«type_code»))) b2 p2
+      → Wrote b2 p2 (text " ") b3 p3 → Wrote b3 p3 (nameColumn (r .mark) (r .size)) b4 p4
+      → Wrote b4 p4 (text " ") b5 p5 → Wrote b5 p5 (decimal (r .first)) b6 p6
+      → Wrote b6 p6 (text " ") b7 p7 → Wrote b7 p7 (decimal (r .count)) b8 p8
       → Wrote b8 p8 (text "\n") new e
       → Wrote o at (controlLine n row) new e
-  control-wrote c m s f k w1 w2 w3 w4 w5 w6 w7 w8 w9 =
-      rw (control-text n row) (rw (c, m, s, f, k) at (w1 ⨟ w2 ⨟ w3 ⨟ w4 ⨟ w5 ⨟ w6 ⨟ w7 ⨟ w8 ⨟ w9))
+  control-wrote h w1 w2 w3 w4 w5 w6 w7 w8 w9 =
+      rw (control-text n row) (rw (h .type-code, h .mark, h .size, h .first, h .count) at (w1 ⨟ w2 ⨟ w3 ⨟ w4 ⨟ w5 ⨟ w6 ⨟ w7 ⨟ w8 ⨟ w9))
 
-  pub property-wrote : (stream : List ℕ) {o b1 b2 b3 b4 new : List ℕ} {at p1 p2 p3 p4 e id mark : ℕ}
-      → id ≡ word row 0 → mark ≡ word row 1
-      → Wrote o at (fields (text "P" ∷ decimal n ∷ hex 4 id ∷ [])) b1 p1
-      → Wrote b1 p1 (orDash (nameIn (namesFor mark) id)) b2 p2
-      → Wrote b2 p2 (text " ") b3 p3 → Wrote b3 p3 (shownFields stream row) b4 p4
+  shown-of : (stream : List ℕ) {p : Property} → PropertyOf row p → shownFields stream (propertyRow p) ≡ shownFields stream row
+  unfolding shownFields
+  shown-of stream h = rw (h .mark, h .low, h .high, h .start, h .size)
+
+  pub property-wrote : (stream : List ℕ) {o b1 b2 b3 b4 new : List ℕ} {at p1 p2 p3 p4 e : ℕ} {p : Property}
+      → PropertyOf row p
+      → Wrote o at (fields (text "P" ∷ decimal n ∷ hex 4 (p .id) ∷ [])) b1 p1
+      → Wrote b1 p1 (orDash (nameIn (namesFor (p .value .mark)) (p .id))) b2 p2
+      → Wrote b2 p2 (text " ") b3 p3 → Wrote b3 p3 (shownFields stream (propertyRow p)) b4 p4
       → Wrote b4 p4 (text "\n") new e
       → Wrote o at (propertyLine stream n row) new e
-  property-wrote stream i m w1 w2 w3 w4 w5 =
-      rw (property-text stream n row) (rw (i, m) at (w1 ⨟ w2 ⨟ w3 ⨟ w4 ⨟ w5))
+  property-wrote stream h w1 w2 w3 w4 w5 =
+      rw (property-text stream n row) (rw (shown-of stream h, h .id, h .mark) at (w1 ⨟ w2 ⨟ w3 ⨟ w4 ⨟ w5))

@@ -5,7 +5,8 @@ use fields::put_head;
 use fields::put_shown;
 use fields::put_type_name;
 use fields::put_value_name;
-use fields::row_word;
+use rows::get_control;
+use rows::get_property;
 use rules::Answer;
 use text::put_byte;
 use text::put_decimal;
@@ -60,19 +61,15 @@ pub fn control_line(
     requires { ⌜ Lent controlTypeNames (now «type_ids») (now «type_names») ⌝ }
     ensures { λ r. ⌜ Wrote (now (out .entry)) at (controlLine n (rowAt controlWidth n (now (rows .entry)))) (now (out .exit)) r ⌝ }
 {
-    let code = row_word(rows, n, 0);
-    let mark = row_word(rows, n, 1);
-    let size = row_word(rows, n, 3);
-    let first = row_word(rows, n, 4);
-    let count = row_word(rows, n, 5);
-    let p = put_head(out, at, b'C', n, code);
-    let p = put_type_name(out, p, type_ids, type_names, code);
+    let row = get_control(rows, n);
+    let p = put_head(out, at, b'C', n, row.type_code);
+    let p = put_type_name(out, p, type_ids, type_names, row.type_code);
     let p = put_byte(out, p, b' ');
-    let p = put_chars(out, p, mark, size);
+    let p = put_chars(out, p, row.mark, row.size);
     let p = put_byte(out, p, b' ');
-    let p = put_decimal(out, p, first);
+    let p = put_decimal(out, p, row.first);
     let p = put_byte(out, p, b' ');
-    let p = put_decimal(out, p, count);
+    let p = put_decimal(out, p, row.count);
     put_end(out, p)
 }
 
@@ -93,9 +90,9 @@ pub fn property_line<'a>(
     requires { ⌜ AllLent (now «text_ids») (now «text_names») (now «number_ids») (now «number_names») (now «bytes_ids») (now «bytes_names») ⌝ }
     ensures { λ r. ⌜ Wrote (now (out .entry)) at (propertyLine (now (stream .entry)) n (rowAt propertyWidth n (now (rows .entry)))) (now (out .exit)) r ⌝ }
 {
-    let id = row_word(rows, n, 0);
-    let mark = row_word(rows, n, 1);
-    let p = put_head(out, at, b'P', n, id);
+    let row = get_property(rows, n);
+    let v = row.value;
+    let p = put_head(out, at, b'P', n, row.id);
     let p = put_value_name(
         out,
         p,
@@ -105,10 +102,10 @@ pub fn property_line<'a>(
         number_names,
         bytes_ids,
         bytes_names,
-        mark,
-        id,
+        v.mark,
+        row.id,
     );
     let p = put_byte(out, p, b' ');
-    let p = put_shown(out, p, stream, rows, n);
+    let p = put_shown(out, p, stream, row);
     put_end(out, p)
 }

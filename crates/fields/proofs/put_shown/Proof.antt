@@ -10,20 +10,11 @@ returns c =
     let c3 = c .before .before in
     let c2 = c3 .before .before .before .before in
     let c1 = c2 .before .before .before .before in
-    let w = c1 .before .before in
-    rw (
-      w .value-bytes .ensures,
-      w .before .before .before .before .before .row-word .ensures,
-      w .before .before .before .before .row-word2 .ensures,
-      w .before .before .before .row-word3 .ensures,
-      w .before .before .row-word4 .ensures,
-      w .before .row-word5 .ensures,
-    ) at (c1 .put-word .ensures ⨟ c2 .put-byte .ensures ⨟ c3 .put-value .ensures)
+    rw (c1 .before .before .value-bytes .ensures) at (c1 .put-word .ensures ⨟ c2 .put-byte .ensures ⨟ c3 .put-value .ensures)
 
 pub put-shown-spec : {M : Type 1} → statement M
 put-shown-spec =
     tie.close
     (tie.spec
-    (λ c κs. search needs) (λ c κs. search needs) (λ c κs. search needs) (λ c κs. search needs) (λ c κs. search needs)
     (λ c κs. search needs) (λ c κs. search needs) (λ c κs. search needs) (λ c κs. search needs) (λ c. search needs)
     returns)

@@ -17,12 +17,9 @@ returns c =
     let c2 = c3 .before .before .before .before in
     let c1 = c2 .before .before .before .before in
     let v = c1 .before .before in
-    let a = v .before .before .before .before .before .before .before .before .before .args in
+    let a = v .before .before .before .before .before .before .args in
     info-wrote (a .stream .now) (a .n) (rowAt typeInfoWidth (a .n) (a .rows .now))
-    (v .before .before .before .before .info-word .ensures)
-    (v .before .before .before .info-word2 .ensures)
-    (v .before .before .info-word3 .ensures)
-    (v .before .info-word4 .ensures)
+    (v .before .get-info .ensures)
     (v .value-bytes .ensures)
     (c1 .put-head .ensures)
     (c2 .put-type-name .ensures)
@@ -43,6 +40,6 @@ info-line-spec =
     (tie.spec
     (λ c κs. search needs) (λ c κs. search needs) (λ c κs. search needs) (λ c κs. search needs) (λ c κs. search needs)
     (λ c κs. search needs) (λ c κs. search needs) (λ c κs. search needs) (λ c κs. search needs) (λ c κs. search needs)
-    (λ c κs. search needs) (λ c κs. search needs) (λ c κs. search needs) (λ c κs. search needs)
+    (λ c κs. search needs)
     same-length
     returns)

@@ -17,13 +17,9 @@ returns c =
     let c2 = c3 .before .before .before .before in
     let c1 = c2 .before .before .before .before in
     let w = c1 .before .before in
-    let a = c1 .before .before .before .before .before .before .before .before .before .before .args in
+    let a = w .before .before .before .before .args in
     control-wrote (a .n) (rowAt controlWidth (a .n) (a .rows .now))
-    (w .before .before .before .before .row-word .ensures)
-    (w .before .before .before .row-word2 .ensures)
-    (w .before .before .row-word3 .ensures)
-    (w .before .row-word4 .ensures)
-    (w .row-word5 .ensures)
+    (w .get-control .ensures)
     (c1 .put-head .ensures)
     (c2 .put-type-name .ensures)
     (c3 .put-byte .ensures)
@@ -43,6 +39,5 @@ control-line-spec =
     (tie.spec
     (λ c κs. search needs) (λ c κs. search needs) (λ c κs. search needs) (λ c κs. search needs) (λ c κs. search needs)
     (λ c κs. search needs) (λ c κs. search needs) (λ c κs. search needs) (λ c κs. search needs) (λ c κs. search needs)
-    (λ c κs. search needs) (λ c κs. search needs) (λ c κs. search needs) (λ c κs. search needs)
     same-length
     returns)

@@ -15,9 +15,9 @@ returns c =
     let c2 = c3 .before .before .before .before in
     let c1 = c2 .before .before .before .before in
     let w = c1 .before .before in
-    let a = c1 .before .before .before .before .before .before .before .before .before .before .args in
+    let a = w .before .before .before .before .before .before .before .before .args in
     property-wrote (a .n) (rowAt propertyWidth (a .n) (a .rows .now)) (a .stream .now)
-    (w .before .row-word .ensures) (w .row-word2 .ensures)
+    (w .before .get-property .ensures)
     (c1 .put-head .ensures)
     (c2 .put-value-name .ensures)
     (c3 .put-byte .ensures)
@@ -28,7 +28,7 @@ pub property-line-spec : {M : Type 1} → statement M
 property-line-spec =
     tie.close
     (tie.spec
-    (λ c κs. search needs) (λ c κs. search needs) (λ c κs. search needs)
+    (λ c κs. search needs) (λ c κs. search needs)
     put-value-name-requires
     (λ c κs. search needs) (λ c κs. search needs) (λ c κs. search needs) (λ c. search needs)
     returns)
