@@ -1,13 +1,16 @@
 // Lists the Blob that standard input holds behind its code table, as `formlist` does, for larger Blobs.
 use libc::STDIN_FILENO;
 use libc::STDOUT_FILENO;
+use rows::CONTROL_WIDTH;
+use rows::PROPERTY_WIDTH;
 ghost use mathlib.Core.Path.{_≡_};
 ghost use mathlib.Core.Bool.{true};
 ghost use mathlib.Core.List.{List};
-ghost use Prim.Native.Nat.{ℕ, _≤_, _<_};
+ghost use Prim.Native.Nat.{ℕ, _*_, _≤_, _<_};
 ghost use lib.ListN.{length};
+ghost use Rattle.rules.specs.Rows.{controlWidth, propertyWidth};
 ghost use Rattle.inputs.specs.Begun.{Begun};
-ghost use Rattle.bloblines.specs.Blobs.{longestInput, blobListing, listedIn, mostIn, Written};
+ghost use Rattle.bloblines.specs.Blobs.{controlRoom, propertyRoom, longestInput, blobListing, listedIn, mostIn, Written};
 ghost use Rattle.bloblist.specs.Space.{Roomy};
 
 // Of the large arrays only the length is told, since a proof that computed with their elements would not end.
@@ -23,16 +26,16 @@ fn large_input() -> [u8; 4259844]
     [0; 4259844]
 }
 
-fn large_controls() -> [u32; 98304]
-    ensures { λ r. ⌜ 98304 ≡ length r ⌝ }
+fn large_controls() -> [u32; 16384 * CONTROL_WIDTH]
+    ensures { λ r. ⌜ controlRoom * controlWidth ≡ length r ⌝ }
 {
-    [0; 98304]
+    [0; 16384 * CONTROL_WIDTH]
 }
 
-fn large_properties() -> [u32; 1572864]
-    ensures { λ r. ⌜ 1572864 ≡ length r ⌝ }
+fn large_properties() -> [u32; 262144 * PROPERTY_WIDTH]
+    ensures { λ r. ⌜ propertyRoom * propertyWidth ≡ length r ⌝ }
 {
-    [0; 1572864]
+    [0; 262144 * PROPERTY_WIDTH]
 }
 
 fn large_lines() -> [u8; 26017843]
@@ -95,8 +98,8 @@ fn list(input: &[u8], controls: &mut [u32], properties: &mut [u32], out: &mut [u
 fn list_small(input: &[u8])
     requires { ⌜ length (now input) < 16384 ⌝ }
 {
-    let mut controls = [0; 32766];
-    let mut properties = [0; 98304];
+    let mut controls = [0; 5461 * CONTROL_WIDTH];
+    let mut properties = [0; 16384 * PROPERTY_WIDTH];
     let mut out = small_lines();
     list(input, &mut controls, &mut properties, &mut out);
 }

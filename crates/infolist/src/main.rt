@@ -1,11 +1,13 @@
 // Lists the TypeInfo stream that standard input holds.
 use libc::STDIN_FILENO;
 use libc::STDOUT_FILENO;
+use rows::INFO_WIDTH;
 ghost use mathlib.Core.Path.{_≡_};
 ghost use mathlib.Core.Bool.{true};
 ghost use mathlib.Core.List.{List};
-ghost use Prim.Native.Nat.{ℕ, _≤_};
+ghost use Prim.Native.Nat.{ℕ, _*_, _≤_};
 ghost use lib.ListN.{length};
+ghost use Rattle.rules.specs.Rows.{typeInfoWidth};
 ghost use Rattle.inputs.specs.Begun.{Begun};
 ghost use Rattle.infolines.specs.Infos.{longestInfo, infoListing};
 ghost use Rattle.infolist.specs.Space.{Roomy};
@@ -17,10 +19,10 @@ fn large_stream() -> [u8; 4194304]
     [0; 4194304]
 }
 
-fn large_rows() -> [u32; 2097136]
-    ensures { λ r. ⌜ 2097136 ≡ length r ⌝ }
+fn large_rows() -> [u32; 524284 * INFO_WIDTH]
+    ensures { λ r. ⌜ 524284 * typeInfoWidth ≡ length r ⌝ }
 {
-    [0; 2097136]
+    [0; 524284 * INFO_WIDTH]
 }
 
 fn large_lines() -> [u8; 33554483]
@@ -56,7 +58,7 @@ fn list(input: &[u8], rows: &mut [u32], out: &mut [u8])
 fn list_small(input: &[u8])
     requires { ⌜ length (now input) ≤ 65536 ⌝ }
 {
-    let mut rows = [0; 32752];
+    let mut rows = [0; 8188 * INFO_WIDTH];
     let mut out = [0; 524339];
     list(input, &mut rows, &mut out);
 }

@@ -179,8 +179,8 @@ module _ (t s : List ℕ) (small : length s ≤ 32768) (e : Exit) (f : Fitting e
 -- ---- every input
 blob-bounded : (t s : List ℕ) → length s ≤ 32768 → Bounded (printed s (outcome t s 256 1024))
 blob-bounded t s small =
-    let cs = replicate {A = ℕ} 1536 0 in
-    let ps = replicate {A = ℕ} 6144 0 in
+    let cs = replicate {A = ℕ} (256 * controlWidth) 0 in
+    let ps = replicate {A = ℕ} (1024 * propertyWidth) 0 in
     let c : room controlWidth cs ≡ 256 = refl in
     let p : room propertyWidth ps ≡ 1024 = refl in
     rw (rows-shown t s cs ps c p) (shown-short t s small (exit t s cs ps) (exit-fits s cs ps small c t p) (row-checks .checks t s cs ps))

@@ -1,5 +1,7 @@
 // The listing of an input of document 01's program, written whole into a lent buffer.
 use listing::refusal_line;
+use rows::CONTROL_WIDTH;
+use rows::PROPERTY_WIDTH;
 ghost use Rattle.rules.specs.NameTables.{controlTypeNames};
 ghost use Rattle.names.specs.Lookup.{Lent, AllLent};
 ghost use Rattle.text.specs.Writer.{Wrote};
@@ -31,8 +33,8 @@ pub fn write_listing<'a>(
     if 32768 < input.len() {
         return refusal_line(out, 5);
     }
-    let mut controls = [0; 1536];
-    let mut properties = [0; 6144];
+    let mut controls = [0; 256 * CONTROL_WIDTH];
+    let mut properties = [0; 1024 * PROPERTY_WIDTH];
     bloblines::write_listing(
         input,
         &mut controls,

@@ -9,6 +9,9 @@ use lines::print_answer;
 use lines::print_bytes;
 use lines::print_kept;
 use lines::print_rows;
+use rows::CONTROL_WIDTH;
+use rows::INFO_WIDTH;
+use rows::PROPERTY_WIDTH;
 
 // What rows hold before a case, so that a word which wasn't written shows.
 const UNWRITTEN: u32 = 0xDEAD_BEEF;
@@ -58,25 +61,25 @@ fn words_mut(s: &mut [u32], size: usize) -> &mut [u32] {
 
 // ---- the kinds of case
 fn replay_blob(codes: &[u8], stream: &[u8], lent: u32, more: u32, out: &mut [u8]) {
-    let mut space = [UNWRITTEN; 1536];
-    let mut room = [UNWRITTEN; 6144];
+    let mut space = [UNWRITTEN; 256 * CONTROL_WIDTH];
+    let mut room = [UNWRITTEN; 1024 * PROPERTY_WIDTH];
     let controls = words_mut(&mut space, lent as usize);
     let properties = words_mut(&mut room, more as usize);
     let answer = blob::read_blob(codes, stream, controls, properties);
     print_answer(answer, out);
     if answer.number == 0 {
-        print_rows(b'C', controls, 6, answer.first, out);
-        print_rows(b'P', properties, 6, answer.second, out);
+        print_rows(b'C', controls, CONTROL_WIDTH, answer.first, out);
+        print_rows(b'P', properties, PROPERTY_WIDTH, answer.second, out);
     }
 }
 
 fn replay_type_info(stream: &[u8], lent: u32, out: &mut [u8]) {
-    let mut space = [UNWRITTEN; 1024];
+    let mut space = [UNWRITTEN; 256 * INFO_WIDTH];
     let rows = words_mut(&mut space, lent as usize);
     let answer = typeinfo::read_type_info(stream, rows);
     print_answer(answer, out);
     if answer.number == 0 {
-        print_rows(b'T', rows, 4, answer.first, out);
+        print_rows(b'T', rows, INFO_WIDTH, answer.first, out);
     }
 }
 

@@ -11,18 +11,25 @@ ghost use Rattle.text.specs.Writer.{Wrote};
 ghost use Rattle.roomlist.specs.Rooms.{Small, blobBytes, infoBytes, blobLine, infoLine, lengthLine, roomLines};
 
 // ---- the bytes of rows
+// The widths of rows as numbers of 32 bits.
+const CONTROL_WORDS: u32 = rows::CONTROL_WIDTH as u32;
+
+const PROPERTY_WORDS: u32 = rows::PROPERTY_WIDTH as u32;
+
+const INFO_WORDS: u32 = rows::INFO_WIDTH as u32;
+
 fn blob_bytes(room: Room) -> u32
     requires { ⌜ Small room ⌝ }
     ensures { λ r. ⌜ r ≡ blobBytes room ⌝ }
 {
-    4 * (6 * room.controls + 6 * room.properties)
+    4 * (CONTROL_WORDS * room.controls + PROPERTY_WORDS * room.properties)
 }
 
 fn info_bytes(rows: u32) -> u32
     requires { ⌜ rows ≤ longest ⌝ }
     ensures { λ r. ⌜ r ≡ infoBytes rows ⌝ }
 {
-    4 * (4 * rows)
+    4 * (INFO_WORDS * rows)
 }
 
 // ---- lines
