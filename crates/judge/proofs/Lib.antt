@@ -1,0 +1,2 @@
+-- Laws of a reading and its counts, for both Blob readers.
+pub mod JudgeLaws
