@@ -4,16 +4,17 @@ use native.Mathlib.Omega.{arith}
 use mathlib.Core.Path.{_≡_, refl, sym, ap, _∙_}
 use mathlib.Core.Bool.{Bool, true, false, not}
 use mathlib.Core.List.{List}
+use mathlib.Core.Option.{some}
 use lib.ListN.{length}
 use borrow.Author.Tests.{lt-ltb, le-ltb}
 use Rattle.rules.specs.Lists.{concat}
 use Rattle.rules.specs.Answer.{refusal, longest}
 use Rattle.rules.specs.CodeTable.{wellFormed}
 use Rattle.rules.specs.Access2000.{streamOf}
-use Rattle.rules.specs.Blob.{is2000, readBy, readingOf, exitBy, outcome, exit}
+use Rattle.rules.specs.ReadLater.{readLater}
+use Rattle.rules.specs.Blob.{is2000, readBy, readingOf, outcome, exit}
 use Rattle.rules.specs.declared.Answer.{Answer}
-use Rattle.form2000.specs.Acts as acts
-use Rattle.later.specs.Write as later
+use Rattle.judge.specs.Judge.{Exits}
 use Rattle.blob.specs.Exit.{exited}
 
 pub not-true : (b : Bool) → not b ≡ true → b ≡ false
@@ -33,13 +34,11 @@ module _ (t s cs ps : List ℕ) where
   unfolding exit outcome concat
   eight h w a e = ap (λ x. exited x cs ps) e ∙ sym (rw (le-ltb longest (length s) h, w))
 
-  module _ (h : length s ≤ longest) (w : wellFormed t ≡ true) where
-    pub by-2000 : is2000 t s ≡ true → exitBy (acts.outcome t s cs ps) cs ps ≡ exit t s cs ps
-    unfolding exit outcome readingOf acts.outcome
-    by-2000 o = sym (rw (le-ltb longest (length s) h, w, o))
-
-    pub by-later : is2000 t s ≡ false → (a : Answer) (cs′ ps′ : List ℕ) → later.Ended s cs ps a cs′ ps′ → exited a cs′ ps′ ≡ exit t s cs ps
+  module _ (h : length s ≤ longest) (w : wellFormed t ≡ true) (a : Answer) (cs′ ps′ : List ℕ) where
+    pub by-2000 : is2000 t s ≡ true → Exits (readBy t s (streamOf s)) cs ps a cs′ ps′ → exited a cs′ ps′ ≡ exit t s cs ps
     unfolding exit outcome readingOf
-    by-later o a cs′ ps′ e =
-        (λ i. exited (e .answer i) (e .controls i) (e .properties i))
-        ∙ sym (rw (le-ltb longest (length s) h, w, o))
+    by-2000 o e = e ∙ sym (rw (le-ltb longest (length s) h, w, o))
+
+    pub by-later : is2000 t s ≡ false → Exits (some (readLater s)) cs ps a cs′ ps′ → exited a cs′ ps′ ≡ exit t s cs ps
+    unfolding exit outcome readingOf
+    by-later o e = e ∙ sym (rw (le-ltb longest (length s) h, w, o))

@@ -7,9 +7,10 @@ ghost use Prim.Native.Nat.{_+_, _≤_};
 ghost use lib.ListN.{length};
 ghost use Rattle.rules.specs.Answer.{refusal, longest};
 ghost use Rattle.rules.specs.CodeTable.{wellFormed};
-ghost use Rattle.rules.specs.Blob.{is2000, exitBy, exit};
+ghost use Rattle.rules.specs.Access2000.{streamOf};
+ghost use Rattle.rules.specs.Blob.{is2000, readBy, exit};
 ghost use Rattle.rules.specs.NamePart.{namePart, partBytes};
-ghost use Rattle.form2000.specs.Acts as acts;
+ghost use Rattle.judge.specs.Judge.{Exits};
 ghost use Rattle.blob.specs.Exit.{exited, partOr, placeOr, partPlace};
 
 fn refused(number: u32) -> Answer
@@ -36,7 +37,7 @@ fn is_2000(table: &[u8], stream: &[u8]) -> bool
 // Reads a stream of the Access 2000 layout.
 fn read_2000(table: &[u8], stream: &[u8], controls: &mut [u32], properties: &mut [u32]) -> Answer
     requires { ⌜ (wellFormed (now table) ≡ true) × (length (now stream) ≤ longest) ⌝ }
-    ensures { λ r. ⌜ exited r (now (controls .exit)) (now (properties .exit)) ≡ exitBy (acts.outcome (now (table .entry)) (now (stream .entry)) (now (controls .entry)) (now (properties .entry))) (now (controls .entry)) (now (properties .entry)) ⌝ }
+    ensures { λ r. ⌜ Exits (readBy (now (table .entry)) (now (stream .entry)) (streamOf (now (stream .entry)))) (now (controls .entry)) (now (properties .entry)) r (now (controls .exit)) (now (properties .exit)) ⌝ }
 {
     form2000::read(table, stream, controls, properties)
 }

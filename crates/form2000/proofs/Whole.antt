@@ -1,31 +1,31 @@
 -- The whole stream: its counts are those of the reading, and its rows are written in two goes.
-use Prim.Native.Nat.{ℕ, _+_, _*_, _≤_, _<_}
+use Prim.Native.Nat.{ℕ, _+_, _≤_}
 use native.Mathlib.Omega.{arith}
 use mathlib.Core.Path.{_≡_, refl, sym, ap, _∙_}
-use mathlib.Core.Bool.{true, false}
+use mathlib.Core.Bool.{true}
 use mathlib.Core.List.{List, map}
 use mathlib.Core.Option.{Option, none, some}
-use lib.Dec.{ltb, eqb}
-use lib.ListN.{length, length-append, length-map}
-use borrow.Author.Tests.{eqb-true, lt-ltb, le-ltb}
+use lib.Dec.{eqb}
+use lib.ListN.{length, length-map}
+use borrow.Author.Tests.{eqb-true}
 use Rattle.rules.specs.Lists.{concat}
-use Rattle.rules.specs.Answer.{longest, moreControls, moreProperties, noReading}
+use Rattle.rules.specs.Answer.{refusal, longest, noReading}
 use Rattle.rules.specs.CodeTable.{wellFormed}
 use Rattle.rules.specs.Tree.{Entries, reported, nodesOf, levels}
 use Rattle.rules.specs.Access2000.{Prop, runAt, headAt, entriesAt, streamOf}
-use Rattle.rules.specs.Reading.{properties, propertiesOf, controlRows, propertyRows}
-use Rattle.rules.specs.Rows.{controlWidth, propertyWidth, room, written}
+use Rattle.rules.specs.Rows.{controlWidth, propertyWidth, room}
 use Rattle.rules.specs.Read2000.{objectPlace, propertyIn, controlOf, read2000}
-use Rattle.rules.specs.Blob.{fit, readBy, exitBy, counted}
+use Rattle.rules.specs.Blob.{readBy}
 use Rattle.rules.specs.declared.Answer.{Answer}
 use Rattle.rules.proofs.ListLaws.{none-some, Every, every-if, every-when, every-at}
-use Rattle.rules.proofs.Read2000Laws.{controls-many, own-many}
-use Rattle.rows.specs.Counting.{size, props}
-use Rattle.rows.specs.Writing.{state, theirs, writeControls, writeProperties}
-use Rattle.rows.specs.Acts.{topNodes, Held, Stood, stood}
+use Rattle.rows.specs.Counting.{size, props, propsIn}
+use Rattle.rows.specs.Writing.{state, writeProperties}
+use Rattle.rows.specs.Acts.{topNodes, Held, stood}
 use Rattle.rows.proofs.LevelLaws.{EntriesGrow, fewer}
 use Rattle.rows.proofs.CountingLaws as counting
-use Rattle.rows.proofs.WritingLaws.{properties-length, reading-written}
+use Rattle.rows.proofs.WritingLaws.{properties-length}
+use Rattle.judge.specs.Judge.{Counts, Judged, Roomy, Exits}
+use Rattle.judge.proofs.JudgeLaws.{exits-refused, roomy, exits-read, made-counts, made-fit, made-written}
 use Rattle.coderows.specs.Look.{Listed, Finds, bodyRows}
 use Rattle.coderows.specs.declared.Body.{Body}
 use Rattle.walk2000.specs.Told as walked
@@ -36,7 +36,7 @@ use Rattle.walk2000.proofs.Inverse.{opens-plain, opens-listed, opens-bad}
 use Rattle.walk2000.proofs.Grows.{run-grows, head-grows, entries-grow}
 use Rattle.run2000.specs.Runs.{shownIn, ran, runAct, RunReady}
 use Rattle.node2000.specs.Nodes.{act, NodesReady}
-use Rattle.form2000.specs.Acts.{answer, Roomy, StreamReady, StreamDone, exited, outcome}
+use Rattle.form2000.specs.Acts.{StreamReady, StreamDone}
 use Rattle.run2000.proofs.Written.{RunOf, run-written, shown-same}
 
 -- ---- the parts of a stream
@@ -66,22 +66,16 @@ stream-parts s =
     }) λ _. tt
 
 -- ---- counts
+same-properties : (t s : List ℕ) (n : _) → length (controlOf t s n .properties) ≡ length (n .props)
+unfolding controlOf
+same-properties t s n = simp length-map
+
 module _ (t s : List ℕ) (x : List Prop × Entries Prop) where
-  pub controls-are : length (read2000 t s x .controls) ≡ size (reported (x .1))
-  unfolding nodesOf
-  controls-are = controls-many t s x ∙ counting.nodes (reported (x .1))
-
-  same-properties : (n : _) → length (controlOf t s n .properties) ≡ length (n .props)
-  unfolding controlOf
-  same-properties n = simp length-map
-
-  pub theirs-are : length (theirs (map (controlOf t s) (nodesOf (x .1)))) ≡ props (reported (x .1))
-  unfolding nodesOf
-  theirs-are = counting.theirs-many (controlOf t s) same-properties (nodesOf (x .1)) ∙ counting.in-all (reported (x .1))
-
-  pub properties-are : length (properties (read2000 t s x)) ≡ length (x .0) + props (reported (x .1))
-  unfolding properties read2000 theirs
-  properties-are = length-append (read2000 t s x .own) (concat (map propertiesOf (read2000 t s x .controls))) ∙ omega (arith, own-many t s x, theirs-are)
+  pub counts : Counts (read2000 t s x) (size (reported (x .1))) (length (x .0) + props (reported (x .1))) (length (x .0))
+  unfolding read2000 nodesOf
+  counts =
+      let k = made-counts (propertyIn t s (objectPlace s)) (controlOf t s) (same-properties t s) (x .0) (nodesOf (x .1)) in
+      rw (counting.nodes (reported (x .1)), counting.in-all (reported (x .1))) at k
 
   -- a stream is longer than all that is counted of it
   pub few : streamOf s ≡ some x → length (x .0) + (size (reported (x .1)) + props (reported (x .1))) ≤ length s
@@ -118,7 +112,7 @@ module _ (t s controls rows : List ℕ) (h : StreamReady t s controls rows) wher
     own-ready = record {
       small = h .small;
       sorted = be .sorted (h .formed);
-      fits = rw (parts .run) (omega (arith, is .fits .1, properties-are t s (is .tree)));
+      fits = rw (parts .run) (omega (arith, is .fits .properties, counts t s (is .tree) .properties-are));
     }
 
     module _ (rows′ : List ℕ) (row end : ℕ) (we : some (ran rows′ row end) ≡ runAct (shownIn (bodyRows t body) s) (runAt s 10) rows 0) where
@@ -158,116 +152,72 @@ module _ (t s controls rows : List ℕ) (h : StreamReady t s controls rows) wher
               d ∙ parts .list
 
           pub top-ready : (scopes : List ℕ) → Listed t scopes → NodesReady t scopes s (topNodes (entriesAt levels s n next)) (state controls 0 rows′ row)
-          unfolding read2000
+          unfolding read2000 nodesOf
           top-ready scopes listed =
-              let l : length rows′ ≡ length rows = ap length own-rows ∙ properties-length (read2000 t s (is .tree) .own) rows 0 in
-              let m = theirs-are t s (is .tree) in
-              let c = controls-are t s (is .tree) in
+              let x = is .tree in
+              let l : length rows′ ≡ length rows = ap length own-rows ∙ properties-length (read2000 t s x .own) rows 0 in
+              let q : row ≡ length (x .0) = own-run .row-is ∙ omega arith in
+              let m : length (x .0) + length (nodesOf (x .1)) + propsIn (nodesOf (x .1)) ≤ longest = omega (arith, few t s x (is .reads), h .small, counting.nodes (reported (x .1)), counting.in-all (reported (x .1))) in
               record {
                 known = record { formed = h .formed; listed = listed; small = h .small };
-                fits = rw list-is (record {
-                  room = record { controls = omega (arith, is .fits .0); properties = omega (arith, is .fits .1, l, own-run .row-is, properties-are t s (is .tree), m) };
-                  few = omega (arith, few t s (is .tree) (is .reads), h .small, own-run .row-is, m, c);
-                });
+                fits = rw (list-is, q) (made-fit (propertyIn t s (objectPlace s)) (controlOf t s) (same-properties t s) (x .0) (nodesOf (x .1)) controls rows rows′ (is .fits) l m);
               }
 
           pub top-done : (controls′ : List ℕ) (c : ℕ) (rows″ : List ℕ) (p e : ℕ)
               → some (stood controls′ c rows″ p e) ≡ act t s (topNodes (entriesAt levels s n next)) (state controls 0 rows′ row) → StreamDone t s controls rows controls′ rows″
           unfolding read2000
           top-done controls′ c rows″ p e w =
-              let r = read2000 t s (is .tree) in
-              let q : row ≡ length (r .own) = own-run .row-is ∙ omega (arith, own-many t s (is .tree)) in
-              let z : some (stood controls′ c rows″ p e) ≡ some (record { state = writeControls (r .controls) (state controls 0 rows′ row); next = length s }) = w ∙ ap (λ o. act t s (topNodes o) (state controls 0 rows′ row)) list-is in
-              let y : stood controls′ c rows″ p e ≡ record { state = writeControls (r .controls) (state controls 0 rows′ row); next = length s } = cc in
-              let v : state controls′ c rows″ p ≡ state (written (controlRows r) controls) (length (r .controls)) (written (propertyRows r) rows) (length (properties r)) =
-              ap (λ (g : Stood). g .state) y ∙ (λ i. writeControls (r .controls) (state controls 0 (own-rows i) (q i))) ∙ reading-written r controls rows in
-              record {
-                done = λ x xe.
-                    let g : some (is .tree) ≡ some x = sym (is .reads) ∙ xe in
-                    let f : is .tree ≡ x = cc in
-                    (ap (λ st. st .cs) v ∙ ap (λ u. written (controlRows (read2000 t s u)) controls) f, ap (λ st. st .ps) v ∙ ap (λ u. written (propertyRows (read2000 t s u)) rows) f);
-              }
+              let x = is .tree in
+              let q : row ≡ length (x .0) = own-run .row-is ∙ omega arith in
+              let z = w ∙ ap (λ o. act t s (topNodes o) (state controls 0 rows′ row)) list-is ∙ (λ i. act t s (some (nodesOf (x .1), length s)) (state controls 0 (own-rows i) (q i))) in
+              rw (is .reads) (made-written (propertyIn t s (objectPlace s)) (controlOf t s) (same-properties t s) (x .0) (nodesOf (x .1)) controls rows controls′ rows″ c p e (length s) z)
 
 -- ---- the answer
 -- what is known of a stream that was counted
 record Facts (t s : List ℕ) (all theirs own : ℕ) : Type 0 where
   tree : List Prop × Entries Prop
   reads : streamOf s ≡ some tree
-  all-is : all ≡ length (read2000 t s tree .controls)
-  theirs-is : theirs ≡ length (properties (read2000 t s tree))
-  own-is : own ≡ length (read2000 t s tree .own)
-  small : all + theirs ≤ length s
-  fewer : own ≤ theirs
+  has : Counts (read2000 t s tree) all theirs own
+  small : (all + theirs ≤ length s) × (own ≤ theirs)
 
-module _ (t s controls rows : List ℕ) (formed : wellFormed t ≡ true) (small : length s ≤ longest) (r : Counted) (re : r ≡ told.counted (streamOf s)) where
+module _ (t s controls rows : List ℕ) (r : Counted) (re : r ≡ told.counted (streamOf s)) where
   none-of : (o : Option (List Prop × Entries Prop)) → r ≡ told.counted o → r ≡ Counted.Bad → o ≡ none
   none-of none e k = refl
   none-of (some x) e k = cc
 
-  pub read-bad : r ≡ Counted.Bad → (a : Answer) → a ≡ answer noReading 0 0 0 → exited a controls rows ≡ exitBy (outcome t s controls rows) controls rows
-  unfolding outcome concat
-  read-bad k a ae = rw (none-of (streamOf s) re k, ae)
+  pub read-bad : r ≡ Counted.Bad → (a : Answer) → a ≡ refusal noReading → Exits (readBy t s (streamOf s)) controls rows a controls rows
+  unfolding concat
+  read-bad k a e = rw (none-of (streamOf s) re k, e)
 
   module _ (all theirs own : ℕ) (k : r ≡ Counted.Of all theirs own) where
     facts : (o : Option (List Prop × Entries Prop)) → streamOf s ≡ o → r ≡ told.counted o → Facts t s all theirs own
     facts none e re = absurd (let z : _≡_ {A = ℕ} 0 1 = cc in omega arith)
     facts (some x) e re =
-        let a : all ≡ size (reported (x .1)) = cc in
-        let b : theirs ≡ length (x .0) + props (reported (x .1)) = cc in
-        let c : own ≡ length (x .0) = cc in
+        let a : size (reported (x .1)) ≡ all = cc in
+        let b : length (x .0) + props (reported (x .1)) ≡ theirs = cc in
+        let c : length (x .0) ≡ own = cc in
         let f = few t s x e in
+        let n = counts t s x in
         record {
           tree = x;
           reads = e;
-          all-is = a ∙ sym (controls-are t s x);
-          theirs-is = b ∙ sym (properties-are t s x);
-          own-is = c ∙ sym (own-many t s x);
+          has = record { controls-are = n .controls-are ∙ a; properties-are = n .properties-are ∙ b; own-are = n .own-are ∙ c };
           small = omega (arith, f, a, b, c);
-          fewer = omega (arith, b, c);
         }
 
     now : Facts t s all theirs own
     now = facts (streamOf s) refl re
 
-    pub read-small : (all ≤ longest) × (theirs ≤ longest) × (own ≤ longest)
-    read-small = omega (arith, now .small, small, now .fewer)
+    pub read-small : length s ≤ longest → (all + theirs ≤ longest) × (own ≤ theirs)
+    read-small small = omega (arith, now .small .0, small, now .small .1)
 
-    counted-is : (number : ℕ) (a : Answer) → a ≡ answer number all theirs own → a ≡ counted number (read2000 t s (now .tree))
-    counted-is number a ae = ae ∙ (λ i. answer number (now .all-is i) (now .theirs-is i) (now .own-is i))
+    module _ (a : Answer) (j : Judged all theirs own (room controlWidth controls) (room propertyWidth rows) a) where
+      pub read-refused : (a .number ≡ 0 → ⊥) → Exits (readBy t s (streamOf s)) controls rows a controls rows
+      read-refused h = rw (now .reads) (exits-refused controls rows (read2000 t s (now .tree)) a (j _ (now .has)) h)
 
-    by-fit : outcome t s controls rows ≡ fit (room controlWidth controls) (room propertyWidth rows) (some (read2000 t s (now .tree)))
-    unfolding outcome
-    by-fit = ap (λ o. fit (room controlWidth controls) (room propertyWidth rows) (readBy t s o)) (now .reads)
+      module _ (z : a .number ≡ 0) where
+        pub read-ready : wellFormed t ≡ true → length s ≤ longest → StreamReady t s controls rows
+        read-ready formed small = record { formed = formed; small = small; fits = rw (now .reads) (roomy controls rows (read2000 t s (now .tree)) a (j _ (now .has)) z) }
 
-    pub read-controls : room controlWidth controls < all → (a : Answer) → a ≡ answer moreControls all theirs own → exited a controls rows ≡ exitBy (outcome t s controls rows) controls rows
-    unfolding concat
-    read-controls l a ae =
-        let b : ltb (room controlWidth controls) (length (read2000 t s (now .tree) .controls)) ≡ true = lt-ltb _ _ (rw (now .all-is) at l) in
-        rw (by-fit, b) (ap (λ z. exited z controls rows) (counted-is moreControls a ae))
-
-    module _ (g : all ≤ room controlWidth controls) where
-      enough : ltb (room controlWidth controls) (length (read2000 t s (now .tree) .controls)) ≡ false
-      enough = le-ltb _ _ (rw (now .all-is) at g)
-
-      pub read-properties : room propertyWidth rows < theirs → (a : Answer) → a ≡ answer moreProperties all theirs own → exited a controls rows ≡ exitBy (outcome t s controls rows) controls rows
-      unfolding concat
-      read-properties l a ae =
-          let b : ltb (room propertyWidth rows) (length (properties (read2000 t s (now .tree)))) ≡ true = lt-ltb _ _ (rw (now .theirs-is) at l) in
-          rw (by-fit, enough, b) (ap (λ z. exited z controls rows) (counted-is moreProperties a ae))
-
-      module _ (m : theirs ≤ room propertyWidth rows) where
-        pub read-ready : StreamReady t s controls rows
-        read-ready = record {
-          formed = formed;
-          small = small;
-          fits = rw (now .reads) (let a : length (read2000 t s (now .tree) .controls) * controlWidth ≤ length controls = omega (arith, now .all-is, g) in
-              let b : length (properties (read2000 t s (now .tree))) * propertyWidth ≤ length rows = omega (arith, now .theirs-is, m) in
-              (a, b));
-        }
-
-        pub read-done : (controls′ rows′ : List ℕ) → StreamDone t s controls rows controls′ rows′ → (a : Answer) → a ≡ answer 0 all theirs own → exited a controls′ rows′ ≡ exitBy (outcome t s controls rows) controls rows
-        read-done controls′ rows′ d a ae =
-            let w = d .done (now .tree) (now .reads) in
-            let b : ltb (room propertyWidth rows) (length (properties (read2000 t s (now .tree)))) ≡ false = le-ltb _ _ (rw (now .theirs-is) at m) in
-            let c = counted-is 0 a ae in
-            rw (by-fit, enough, b) (λ i. exited (c i) (w .0 i) (w .1 i))
+        pub read-done : (controls′ rows′ : List ℕ) → StreamDone t s controls rows controls′ rows′ → Exits (readBy t s (streamOf s)) controls rows a controls′ rows′
+        read-done controls′ rows′ d = rw (now .reads) (exits-read controls rows (read2000 t s (now .tree)) a (j _ (now .has)) z controls′ rows′ (rw (now .reads) at d))

@@ -3,31 +3,32 @@ use Prim.Native.Nat.{ℕ, _+_, _≤_, _<_}
 use native.Mathlib.Omega.{arith}
 use mathlib.Core.Path.{_≡_, refl, sym, ap, ap₂, _∙_, subst}
 use mathlib.Core.Bool.{Bool, true, false, cond}
-use mathlib.Core.List.{List, [], map}
+use mathlib.Core.List.{List, map}
 use mathlib.Core.Option.{Option, none, some}
 use lib.Dec.{ltb, eqb}
-use lib.ListN.{length, length-append, length-map}
+use lib.ListN.{length}
 use borrow.Author.Tests.{lt-ltb, le-ltb}
 use Rattle.rules.specs.Lists.{_>>=_, concat}
 use Rattle.rules.specs.Answer.{answer, longest}
-use Rattle.rules.specs.Rows.{controlWidth, propertyWidth, room, written}
+use Rattle.rules.specs.Rows.{controlWidth, propertyWidth, room}
 use Rattle.rules.specs.Tree.{Entries, Node, levels}
 use Rattle.rules.specs.Later.{Prop, childrenAt, nodesAt, objectGroup, treeOf, nodesBy, scanFrom, laterOf}
 use Rattle.rules.specs.Reading.{properties, controlRowsFrom, controlRows, propertyRows}
 use Rattle.rules.specs.ReadLater.{propertyOf, controlOf, readLater}
-use Rattle.rules.specs.Blob.{counted}
 use Rattle.rules.specs.declared.Answer.{Answer}
-use Rattle.rows.specs.Writing.{State, state, theirs, writeControls, writeProperties}
+use Rattle.rows.specs.Writing.{State, state}
 use Rattle.rows.specs.Acts.{topNodes, Held, Fit, Stood}
-use Rattle.rows.proofs.WritingLaws.{properties-length, reading-written}
-use Rattle.rows.proofs.CountingLaws.{theirs-many}
+use Rattle.rows.proofs.WritingLaws.{properties-length}
 use Rattle.rows.proofs.ActLaws.{at-place}
+use Rattle.judge.specs.Judge as judge
+use Rattle.judge.specs.Judge.{Written, Exits}
+use Rattle.judge.proofs.JudgeLaws.{exits-refused, roomy, exits-read, made-counts, made-fit, made-written}
 use Rattle.countlater.specs.Count.{children, wholeTree, isTree, Counted}
 use Rattle.countlater.specs.declared.Children.{Children}
 use Rattle.countlater.specs.declared.Counts.{Counts}
 use Rattle.countlater.proofs.CountLaws.{whole, whole-by, entriesIn, tree-open, tree-by, object-within}
 use Rattle.countlater.proofs.NodeLaws.{children-of, children-bad}
-use Rattle.later.specs.Write.{trailerOr0, GroupReady, GroupDone, NodesReady, act, scanned, ScanReady, started, BlobReady, BlobDone, Ended}
+use Rattle.later.specs.Write.{trailerOr0, GroupReady, GroupDone, NodesReady, act, scanned, ScanReady, started, BlobReady}
 use Rattle.later.specs.declared.Wrote.{Wrote}
 use Rattle.later.proofs.WriteNodeLaws.{own-many}
 
@@ -63,14 +64,8 @@ later-is s h = rw (le-ltb (length s) 14 h)
 
 module _ (s : List ℕ) (h : 14 ≤ length s) where
   -- the nodes' rows are written behind the object's
-  blob-by : (cs ps cs′ ps′ : List ℕ) (ci pi e f : ℕ) → some (at-place (state cs′ ci ps′ pi) e) ≡ act s (some (nodesBy s (treeOf s), f)) (started s cs ps) → BlobDone s cs ps cs′ ps′
-  blob-by cs ps cs′ ps′ ci pi e f d =
-      let r = later-is s h in
-      let z : at-place (state cs′ ci ps′ pi) e ≡ at-place (writeControls (map (controlOf s) (nodesBy s (treeOf s))) (started s cs ps)) f = cc in
-      let l : length (objectGroup s .props) ≡ length (map (propertyOf s) (objectGroup s .props)) = sym (simp length-map) in
-      let w = ap (λ o. o .state) z ∙ ap (λ n. writeControls (map (controlOf s) (nodesBy s (treeOf s))) (state cs 0 (writeProperties (map (propertyOf s) (objectGroup s .props)) ps 0) n)) l
-      ∙ reading-written (record { own = map (propertyOf s) (objectGroup s .props); controls = map (controlOf s) (nodesBy s (treeOf s)) }) cs ps in
-      record { controls = ap (λ st. st .cs) w ∙ sym (ap (λ r. written (controlRows r) cs) r); properties = ap (λ st. st .ps) w ∙ sym (ap (λ r. written (propertyRows r) ps) r) }
+  blob-by : (cs ps cs′ ps′ : List ℕ) (ci pi e f : ℕ) → some (at-place (state cs′ ci ps′ pi) e) ≡ act s (some (nodesBy s (treeOf s), f)) (started s cs ps) → Written (readLater s) cs ps cs′ ps′
+  blob-by cs ps cs′ ps′ ci pi e f d = rw (later-is s h) (made-written (propertyOf s) (controlOf s) (own-many s) (objectGroup s .props) (nodesBy s (treeOf s)) cs ps cs′ ps′ ci pi e f d)
 
 module _ (s : List ℕ) (tree : Bool) (cs ps : List ℕ) (h : BlobReady s tree cs ps) where
   pub own-ready : GroupReady s (length s) 14 (length ps) 0
@@ -83,7 +78,7 @@ module _ (s : List ℕ) (tree : Bool) (cs ps : List ℕ) (h : BlobReady s tree c
     all-fit : Fit (map (controlOf s) (nodesBy s (treeOf s))) (state cs 0 ps′ (w .count))
     all-fit = subst (Fit (map (controlOf s) (nodesBy s (treeOf s)))) started-is (h .fits)
 
-    done-by : (cs′ ps″ : List ℕ) (ci pi e f : ℕ) → some (at-place (state cs′ ci ps″ pi) e) ≡ act s (some (nodesBy s (treeOf s), f)) (state cs 0 ps′ (w .count)) → BlobDone s cs ps cs′ ps″
+    done-by : (cs′ ps″ : List ℕ) (ci pi e f : ℕ) → some (at-place (state cs′ ci ps″ pi) e) ≡ act s (some (nodesBy s (treeOf s), f)) (state cs 0 ps′ (w .count)) → Written (readLater s) cs ps cs′ ps″
     done-by cs′ ps″ ci pi e f n = blob-by s (h .long) cs ps cs′ ps″ ci pi e f (n ∙ ap (act s (some (nodesBy s (treeOf s), f))) (sym started-is))
 
     tree-is : tree ≡ true → (e : ℕ) × (topNodes (wholeTree s (w .trailer) (w .stop)) ≡ some (nodesBy s (treeOf s), e))
@@ -102,7 +97,7 @@ module _ (s : List ℕ) (tree : Bool) (cs ps : List ℕ) (h : BlobReady s tree c
     pub blob-tree-ready : tree ≡ true → NodesReady s (topNodes (wholeTree s (w .trailer) (w .stop))) (state cs 0 ps′ (w .count))
     blob-tree-ready b = rw (tree-is b .1) (record { known = h .small; fits = all-fit })
 
-    pub blob-tree-done : tree ≡ true → (cs′ ps″ : List ℕ) (ci pi e : ℕ) → some (at-place (state cs′ ci ps″ pi) e) ≡ act s (topNodes (wholeTree s (w .trailer) (w .stop))) (state cs 0 ps′ (w .count)) → BlobDone s cs ps cs′ ps″
+    pub blob-tree-done : tree ≡ true → (cs′ ps″ : List ℕ) (ci pi e : ℕ) → some (at-place (state cs′ ci ps″ pi) e) ≡ act s (topNodes (wholeTree s (w .trailer) (w .stop))) (state cs 0 ps′ (w .count)) → Written (readLater s) cs ps cs′ ps″
     blob-tree-done b cs′ ps″ ci pi e n =
         let x = tree-is b in
         done-by cs′ ps″ ci pi e (x .0) (n ∙ ap (λ o. act s o (state cs 0 ps′ (w .count))) (x .1))
@@ -120,78 +115,37 @@ module _ (s : List ℕ) (tree : Bool) (cs ps : List ℕ) (h : BlobReady s tree c
       ready = record { known = h .small; fits = rw (sym (scan-is b)) all-fit };
     }
 
-    pub blob-scan-done : tree ≡ false → (cs′ ps″ : List ℕ) (ci pi e : ℕ) → some (at-place (state cs′ ci ps″ pi) e) ≡ act s (scanned s (w .stop)) (state cs 0 ps′ (w .count)) → BlobDone s cs ps cs′ ps″
+    pub blob-scan-done : tree ≡ false → (cs′ ps″ : List ℕ) (ci pi e : ℕ) → some (at-place (state cs′ ci ps″ pi) e) ≡ act s (scanned s (w .stop)) (state cs 0 ps′ (w .count)) → Written (readLater s) cs ps cs′ ps″
     blob-scan-done b cs′ ps″ ci pi e n = done-by cs′ ps″ ci pi e (length s) (n ∙ ap (λ ns. act s (some (ns, length s)) (state cs 0 ps′ (w .count))) (sym (scan-is b)))
 
 -- ---- what a caller sees
-pub ended-short : (s cs ps : List ℕ) → length s < 14 → Ended s cs ps (answer 0 0 0 0) cs ps
+pub read-short : (s cs ps : List ℕ) → length s < 14 → (a : Answer) → a ≡ answer 0 0 0 0 → Exits (some (readLater s)) cs ps a cs ps
 unfolding readLater laterOf properties controlRows propertyRows controlRowsFrom concat
-ended-short s cs ps h =
-    let e : laterOf s ≡ ([], []) = rw (lt-ltb (length s) 14 h) in
+read-short s cs ps h a e =
     let z : ltb (room controlWidth cs) 0 ≡ false = le-ltb (room controlWidth cs) 0 (omega arith) in
     let y : ltb (room propertyWidth ps) 0 ≡ false = le-ltb (room propertyWidth ps) 0 (omega arith) in
-    record { answer = rw (lt-ltb (length s) 14 h, z, y); controls = rw (lt-ltb (length s) 14 h, z, y); properties = rw (lt-ltb (length s) 14 h, z, y) }
+    rw (lt-ltb (length s) 14 h, z, y, e)
 
 module _ (s : List ℕ) (h : 14 ≤ length s) (n : Counts) (c : Counted s n) where
-  many-controls : length (readLater s .controls) ≡ n .controls
-  many-controls =
-      let l : length (map (controlOf s) (nodesBy s (treeOf s))) ≡ length (nodesBy s (treeOf s)) = simp length-map in
-      ap (λ r. length (r .controls)) (later-is s h) ∙ l ∙ sym (c .controls)
+  has : judge.Counts (readLater s) (n .controls) (n .own + n .props) (n .own)
+  has = rw (later-is s h, c .controls, c .props, c .own) (made-counts (propertyOf s) (controlOf s) (own-many s) (objectGroup s .props) (nodesBy s (treeOf s)))
 
-  many-own : length (readLater s .own) ≡ n .own
-  many-own =
-      let l : length (map (propertyOf s) (objectGroup s .props)) ≡ length (objectGroup s .props) = simp length-map in
-      ap (λ r. length (r .own)) (later-is s h) ∙ l ∙ sym (c .own)
+  module _ (cs ps : List ℕ) (a : Answer) (j : judge.Judged (n .controls) (n .own + n .props) (n .own) (room controlWidth cs) (room propertyWidth ps) a) where
+    pub read-refused : (a .number ≡ 0 → ⊥) → Exits (some (readLater s)) cs ps a cs ps
+    read-refused = exits-refused cs ps (readLater s) a (j (readLater s) has)
 
-  many-properties : length (properties (readLater s)) ≡ n .own + n .props
-  unfolding properties theirs
-  many-properties =
-      let l : length (map (propertyOf s) (objectGroup s .props)) ≡ length (objectGroup s .props) = simp length-map in
-      ap (λ r. length (properties r)) (later-is s h)
-      ∙ length-append (map (propertyOf s) (objectGroup s .props)) (theirs (map (controlOf s) (nodesBy s (treeOf s))))
-      ∙ ap₂ (λ a b. a + b) (l ∙ sym (c .own)) (theirs-many (controlOf s) (own-many s) (nodesBy s (treeOf s)) ∙ sym (c .props))
+    module _ (z : a .number ≡ 0) where
+      pub blob-ready : length s ≤ longest → BlobReady s (n .tree) cs ps
+      blob-ready small =
+          let qs = objectGroup s .props in
+          let r = roomy cs ps (readLater s) a (j (readLater s) has) z in
+          record {
+            long = h;
+            is = c .tree;
+            own = omega (arith, r .properties, has .properties-are, c .own);
+            small = small;
+            fits = made-fit (propertyOf s) (controlOf s) (own-many s) qs (nodesBy s (treeOf s)) cs ps _ (rw (later-is s h) at r) (properties-length (map (propertyOf s) qs) ps 0) (omega (arith, small, c .few, c .own, c .controls, c .props));
+          }
 
-  counted-is : (k : ℕ) → answer k (n .controls) (n .own + n .props) (n .own) ≡ counted k (readLater s)
-  counted-is k =
-      let a = sym many-controls in
-      let b = sym many-properties in
-      let d = sym many-own in
-      λ i. answer k (a i) (b i) (d i)
-
-  module _ (cs ps : List ℕ) where
-    pub ended-controls : room controlWidth cs < n .controls → (r : Answer) → r ≡ answer 6 (n .controls) (n .own + n .props) (n .own) → Ended s cs ps r cs ps
-    unfolding concat
-    ended-controls l r e =
-        let z : ltb (room controlWidth cs) (length (readLater s .controls)) ≡ true = lt-ltb (room controlWidth cs) (length (readLater s .controls)) (rw many-controls l) in
-        record { answer = e ∙ counted-is 6 ∙ rw z; controls = rw z; properties = rw z }
-
-    module _ (l : n .controls ≤ room controlWidth cs) where
-      fits : ltb (room controlWidth cs) (length (readLater s .controls)) ≡ false
-      fits = le-ltb (room controlWidth cs) (length (readLater s .controls)) (rw many-controls l)
-
-      pub ended-properties : room propertyWidth ps < n .own + n .props → (r : Answer) → r ≡ answer 7 (n .controls) (n .own + n .props) (n .own) → Ended s cs ps r cs ps
-      unfolding concat
-      ended-properties k r e =
-          let z : ltb (room propertyWidth ps) (length (properties (readLater s))) ≡ true = lt-ltb (room propertyWidth ps) (length (properties (readLater s))) (rw many-properties k) in
-          record { answer = e ∙ counted-is 7 ∙ rw (fits, z); controls = rw (fits, z); properties = rw (fits, z) }
-
-      module _ (k : n .own + n .props ≤ room propertyWidth ps) where
-        pub blob-ready : length s ≤ longest → BlobReady s (n .tree) cs ps
-        blob-ready small =
-            let m : length (map (controlOf s) (nodesBy s (treeOf s))) ≡ n .controls = simp length-map (sym (c .controls)) in
-            let q : length (theirs (map (controlOf s) (nodesBy s (treeOf s)))) ≡ n .props = theirs-many (controlOf s) (own-many s) (nodesBy s (treeOf s)) ∙ sym (c .props) in
-            record {
-              long = h;
-              is = c .tree;
-              own = omega (arith, c .own);
-              small = small;
-              fits = record {
-                room = record { controls = omega (arith, m); properties = omega (arith, c .own, q, properties-length (map (propertyOf s) (objectGroup s .props)) ps 0) };
-                few = omega (arith, c .own, c .few, m, q);
-              };
-            }
-
-        pub ended-read : (cs′ ps′ : List ℕ) → BlobDone s cs ps cs′ ps′ → (r : Answer) → r ≡ answer 0 (n .controls) (n .own + n .props) (n .own) → Ended s cs ps r cs′ ps′
-        ended-read cs′ ps′ d r e =
-            let z : ltb (room propertyWidth ps) (length (properties (readLater s))) ≡ false = le-ltb (room propertyWidth ps) (length (properties (readLater s))) (rw many-properties k) in
-            record { answer = e ∙ counted-is 0 ∙ rw (fits, z); controls = d .controls ∙ rw (fits, z); properties = d .properties ∙ rw (fits, z) }
+      pub read-done : (cs′ ps′ : List ℕ) → Written (readLater s) cs ps cs′ ps′ → Exits (some (readLater s)) cs ps a cs′ ps′
+      read-done = exits-read cs ps (readLater s) a (j (readLater s) has) z

@@ -8,13 +8,11 @@ use lib.Dec.{eqb}
 use lib.ListN.{length}
 use Rattle.rules.specs.Lists.{find}
 use Rattle.rules.specs.Answer.{longest}
-use Rattle.rules.specs.Rows.{controlWidth, propertyWidth, room, written}
-use Rattle.rules.specs.Reading.{Control, controlRows, propertyRows}
-use Rattle.rules.specs.Blob.{Outcome, fit, answerOf, exitBy}
-use Rattle.rules.specs.declared.Answer.{Answer}
+use Rattle.rules.specs.Rows.{propertyWidth}
+use Rattle.rules.specs.Reading.{Control}
 use Rattle.rules.specs.Tree.{node}
 use Rattle.rules.specs.Later.{Prop, lengthAt, groupAt, scanFrom, objectGroup, treeOf, nodesBy}
-use Rattle.rules.specs.ReadLater.{propertyOf, nameBy, nameOr, controlOf, readLater}
+use Rattle.rules.specs.ReadLater.{propertyOf, nameBy, nameOr, controlOf}
 use Rattle.rules.specs.declared.Property.{Property}
 use Rattle.rules.specs.declared.Name.{Name}
 use Rattle.rows.specs.Writing.{State, state, writeControls, writeProperties}
@@ -106,16 +104,3 @@ pub record BlobReady (s : List ℕ) (tree : Bool) (cs ps : List ℕ) : Type 0 wh
   pub own : length (objectGroup s .props) * propertyWidth ≤ length ps
   pub small : length s ≤ longest
   pub fits : Fit (map (controlOf s) (nodesBy s (treeOf s))) (started s cs ps)
-
-pub record BlobDone (s old-cs old-ps cs ps : List ℕ) : Type 0 where
-  pub controls : cs ≡ written (controlRows (readLater s)) old-cs
-  pub properties : ps ≡ written (propertyRows (readLater s)) old-ps
-
--- what a caller of `read` sees
-abbrev pub outcomeOf : List ℕ → List ℕ → List ℕ → Outcome
-outcomeOf s cs ps = fit (room controlWidth cs) (room propertyWidth ps) (some (readLater s))
-
-pub record Ended (s old-cs old-ps : List ℕ) (r : Answer) (cs ps : List ℕ) : Type 0 where
-  pub answer : r ≡ answerOf (outcomeOf s old-cs old-ps)
-  pub controls : cs ≡ exitBy (outcomeOf s old-cs old-ps) old-cs old-ps .controls
-  pub properties : ps ≡ exitBy (outcomeOf s old-cs old-ps) old-cs old-ps .properties

@@ -1,6 +1,5 @@
 // The later layout's reader: a stream counted, then written as rows.
 use countlater::Children;
-use countlater::Counts;
 use countlater::Item;
 use countlater::children_at;
 use countlater::count;
@@ -9,6 +8,8 @@ use countlater::parse_entry;
 use cursor::Cursor;
 use cursorlater::past;
 use cursorlater::reported;
+use judge::counted;
+use judge::judge;
 use leaf::u16_at;
 use leaf::u32_at;
 use matchlater::find_match;
@@ -26,14 +27,15 @@ ghost use mathlib.Core.Path.{_≡_};
 ghost use mathlib.Core.Option.{some};
 ghost use Prim.Native.Nat.{_+_, _≤_};
 ghost use lib.ListN.{length};
-ghost use Rattle.rules.specs.Answer.{answer, longest};
+ghost use Rattle.rules.specs.Answer.{longest};
 ghost use Rattle.rules.specs.Later.{propertyAt, nodesAt};
-ghost use Rattle.rules.specs.ReadLater.{propertyOf, nameBy};
+ghost use Rattle.rules.specs.ReadLater.{propertyOf, nameBy, readLater};
 ghost use Rattle.rules.specs.declared.Name.the-variants.{Numbered};
 ghost use Rattle.rows.specs.Writing.{state};
 ghost use Rattle.rows.specs.Acts.{topNodes, stood};
+ghost use Rattle.judge.specs.Judge.{Written, Exits};
 ghost use Rattle.countlater.specs.Count.{wholeTree};
-ghost use Rattle.later.specs.Write.{orName, firstName, PropertyInside, GroupReady, GroupDone, ControlReady, ControlDone, NodesReady, act, scanned, ScanReady, BlobReady, BlobDone, Ended};
+ghost use Rattle.later.specs.Write.{orName, firstName, PropertyInside, GroupReady, GroupDone, ControlReady, ControlDone, NodesReady, act, scanned, ScanReady, BlobReady};
 
 // A control's name, where a property has told it.
 pub enum Named {
@@ -284,7 +286,7 @@ fn write_tree(
 // Writes a stream of 14 bytes or more: the object's properties, then its controls.
 fn write_blob(s: &[u8], tree: bool, controls: &mut [u32], properties: &mut [u32])
     requires { ⌜ BlobReady (now s) tree (now controls) (now properties) ⌝ }
-    ensures { λ _. ⌜ BlobDone (now (s .entry)) (now (controls .entry)) (now (properties .entry)) (now (controls .exit)) (now (properties .exit)) ⌝ }
+    ensures { λ _. ⌜ Written (readLater (now (s .entry))) (now (controls .entry)) (now (properties .entry)) (now (controls .exit)) (now (properties .exit)) ⌝ }
 {
     let w = write_group(s, s.len(), 14, properties, 0);
     if tree {
@@ -294,38 +296,25 @@ fn write_blob(s: &[u8], tree: bool, controls: &mut [u32], properties: &mut [u32]
     }
 }
 
-fn counted(number: u32, n: Counts) -> Answer
-    requires { ⌜ n .own + n .controls + n .props ≤ longest ⌝ }
-    ensures { λ r. ⌜ r ≡ answer number (n .controls) (n .own + n .props) (n .own) ⌝ }
-{
-    Answer {
-        number,
-        first: n.controls as u32,
-        second: (n.own + n.props) as u32,
-        third: n.own as u32,
-    }
-}
-
 // Counts a stream, then writes its rows if there is room for them.
 pub fn read(stream: &[u8], controls: &mut [u32], properties: &mut [u32]) -> Answer
     requires { ⌜ length (now stream) ≤ longest ⌝ }
-    ensures { λ r. ⌜ Ended (now (stream .entry)) (now (controls .entry)) (now (properties .entry)) r (now (controls .exit)) (now (properties .exit)) ⌝ }
+    ensures { λ r. ⌜ Exits (some (readLater (now (stream .entry)))) (now (controls .entry)) (now (properties .entry)) r (now (controls .exit)) (now (properties .exit)) ⌝ }
 {
     if stream.len() < 14 {
-        return Answer {
-            number: 0,
-            first: 0,
-            second: 0,
-            third: 0,
-        };
+        return counted(0, 0, 0, 0);
     }
     let n = count(stream);
-    if controls.len() / CONTROL_WIDTH < n.controls {
-        return counted(6, n);
-    }
-    if properties.len() / PROPERTY_WIDTH < n.own + n.props {
-        return counted(7, n);
+    let a = judge(
+        n.controls,
+        n.own + n.props,
+        n.own,
+        controls.len() / CONTROL_WIDTH,
+        properties.len() / PROPERTY_WIDTH,
+    );
+    if a.number != 0 {
+        return a;
     }
     write_blob(stream, n.tree, controls, properties);
-    counted(0, n)
+    a
 }

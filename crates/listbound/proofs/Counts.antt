@@ -7,23 +7,22 @@ use mathlib.Core.Bool.{Bool, true, not}
 use mathlib.Core.List.{List, [], _∷_, map}
 use mathlib.Core.Option.{Option, none, some}
 use lib.Dec.{ltb, eqb}
-use lib.ListN.{length, length-append, length-map}
+use lib.ListN.{length, length-map}
 use borrow.Author.Tests.{eqb-true}
-use Rattle.rules.specs.Lists.{concat, keep}
+use Rattle.rules.specs.Lists.{keep}
 use Rattle.rules.specs.Tree.{Entries, Node, node, reported, nodesOf, levels}
 use Rattle.rules.specs.Access2000 as old
 use Rattle.rules.specs.Later as later
-use Rattle.rules.specs.Reading.{Reading, properties, propertiesOf}
+use Rattle.rules.specs.Reading.{Reading, properties}
 use Rattle.rules.specs.Read2000.{read2000}
 use Rattle.rules.specs.ReadLater.{propertyOf, controlOf, readLater}
 use Rattle.rules.proofs.ListLaws.{Every, every-if, every-then, every-when}
 use Rattle.rules.proofs.LaterLaws.{either}
-use Rattle.rules.proofs.Read2000Laws.{own-many}
 use Rattle.rows.specs.Counting.{size, props, propsIn}
-use Rattle.rows.specs.Writing.{theirs}
-use Rattle.rows.proofs.CountingLaws.{nodes, in-all, theirs-many}
+use Rattle.rows.proofs.CountingLaws.{nodes, in-all}
 use Rattle.rows.proofs.LevelLaws.{EntriesGrow, fewer}
-use Rattle.form2000.proofs.Whole.{controls-are, properties-are, few}
+use Rattle.judge.proofs.JudgeLaws.{made-counts}
+use Rattle.form2000.proofs.Whole.{counts, few}
 use Rattle.countlater.proofs.NodeLaws.{nodes-grow}
 
 -- ---- a reading's counts
@@ -35,11 +34,8 @@ pub record Few (n : ℕ) (r : Reading) : Type 0 where
 pub few-2000 : (t s : List ℕ) (x : List old.Prop × Entries old.Prop) → old.streamOf s ≡ some x → Few (length s) (read2000 t s x)
 few-2000 t s x e =
     let f = few t s x e in
-    record {
-      own = omega (arith, own-many t s x);
-      controls = omega (arith, controls-are t s x);
-      all = omega (arith, properties-are t s x);
-    }
+    let n = counts t s x in
+    record { own = omega (arith, n .own-are); controls = omega (arith, n .controls-are); all = omega (arith, n .properties-are) }
 
 -- ---- the later layout
 module _ (s : List ℕ) where
@@ -147,20 +143,8 @@ module _ (s : List ℕ) where
   same-many n = simp length-map
 
   pub few-later : Few (length s) (readLater s)
-  unfolding readLater properties theirs
+  unfolding readLater
   few-later =
       let h = later-few in
-      let own = later.laterOf s .0 in
-      let ns = later.laterOf s .1 in
-      record {
-        own = simp length-map (h .0);
-        controls = simp length-map (h .1 .0);
-        all = omega (
-          arith,
-          h .0,
-          h .1 .1,
-          length-append (map (propertyOf s) own) (concat (map propertiesOf (map (controlOf s) ns))),
-          length-map own (propertyOf s),
-          theirs-many (controlOf s) same-many ns,
-        );
-      }
+      let n = made-counts (propertyOf s) (controlOf s) same-many (later.laterOf s .0) (later.laterOf s .1) in
+      record { own = omega (arith, h .0, n .own-are); controls = omega (arith, h .1 .0, n .controls-are); all = omega (arith, h .0, h .1 .1, n .properties-are) }

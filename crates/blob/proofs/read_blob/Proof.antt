@@ -36,8 +36,7 @@ same-length-2 c = search needs
 returns-3 : tie.Need-returns-3
 returns-3 c =
     let a = c .before .before .before .before .before .before .before .before .before .before .before .before .before .before .before .before .args in
-    c .before .before .before .before .read-2000 .ensures
-    ∙ by-2000 (a .table .now) (a .stream .now) (a .controls .now) (a .properties .now) (omega arith) (sym (c .before .before .before .before .before .before .before .before .before .before .well-formed .ensures) ∙ not-false _ (c .before .before .before .before .before .before .before .before .before .if2 .left)) (sym (c .before .before .before .before .before .before .before .before .is-2000 .ensures) ∙ c .before .before .before .before .before .before .before .if3 .taken)
+    by-2000 (a .table .now) (a .stream .now) (a .controls .now) (a .properties .now) (omega arith) (sym (c .before .before .before .before .before .before .before .before .before .before .well-formed .ensures) ∙ not-false _ (c .before .before .before .before .before .before .before .before .before .if2 .left)) _ _ _ (sym (c .before .before .before .before .before .before .before .before .is-2000 .ensures) ∙ c .before .before .before .before .before .before .before .if3 .taken) (c .before .before .before .before .read-2000 .ensures)
 
 read-requires : tie.Need-read-requires
 read-requires c κs = search needs
@@ -51,7 +50,7 @@ same-length-4 c = search needs
 returns-4 : tie.Need-returns-4
 returns-4 c =
     let a = c .before .before .before .before .before .before .before .before .before .before .before .before .before .before .before .before .args in
-    by-later (a .table .now) (a .stream .now) (a .controls .now) (a .properties .now) (omega arith) (sym (c .before .before .before .before .before .before .before .before .before .before .well-formed .ensures) ∙ not-false _ (c .before .before .before .before .before .before .before .before .before .if2 .left)) (sym (c .before .before .before .before .before .before .before .before .is-2000 .ensures) ∙ c .before .before .before .before .before .before .before .if3 .left) _ _ _ (c .before .before .before .before .read .ensures)
+    by-later (a .table .now) (a .stream .now) (a .controls .now) (a .properties .now) (omega arith) (sym (c .before .before .before .before .before .before .before .before .before .before .well-formed .ensures) ∙ not-false _ (c .before .before .before .before .before .before .before .before .before .if2 .left)) _ _ _ (sym (c .before .before .before .before .before .before .before .before .is-2000 .ensures) ∙ c .before .before .before .before .before .before .before .if3 .left) (c .before .before .before .before .read .ensures)
 
 pub read-blob-spec : {M : Type 1} → statement M
 read-blob-spec =
