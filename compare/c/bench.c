@@ -7,7 +7,7 @@
 #include <string.h>
 #include <time.h>
 
-enum { RUNS = 21, MOST_CALLS = 1000 };
+enum { RUNS = 21, MOST_CALLS = 1000, CASES = 20000, SEED = 1 };
 
 /* What a run takes at least, where calls are short, and how long calls that need no rows are timed as one. */
 static const double RUN_SECONDS = 0.1, ONE_TIMING = 50e-6;
@@ -280,6 +280,8 @@ static int print_growths(void) {
 int main(int words, char **word) {
     task_t t;
     table = compare_table(&table_length);
+    if (!compare_timed(oskuramos_read_blob, oskuramos_read_type_info, CASES, SEED)) return 1;
+    putchar('\n');
     if (words < 2) {
         print_ratios();
         putchar('\n');

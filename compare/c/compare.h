@@ -30,9 +30,15 @@ const uint8_t *compare_table(size_t *length);
 void compare_jetdb(const compare_stream_t *stream, compare_reading_t *out);
 void compare_drop(compare_reading_t *reading);
 
+/* The library's two readers. */
+typedef oskuramos_answer compare_read_blob_t(const uint8_t *, size_t, const uint8_t *, size_t, uint32_t *, size_t, uint32_t *, size_t);
+typedef oskuramos_answer compare_read_type_info_t(const uint8_t *, size_t, uint32_t *, size_t);
+
 /* Compares long streams by the library's two readers; false where one differs. */
-bool compare_large(oskuramos_answer (*read_blob)(const uint8_t *, size_t, const uint8_t *, size_t, uint32_t *, size_t, uint32_t *, size_t),
-                   oskuramos_answer (*read_type_info)(const uint8_t *, size_t, uint32_t *, size_t));
+bool compare_large(compare_read_blob_t *read_blob, compare_read_type_info_t *read_type_info);
+
+/* Compares so many fresh cases of a seed, those of them that are streams, and every stream of compare_stream; false where one differs. */
+bool compare_timed(compare_read_blob_t *read_blob, compare_read_type_info_t *read_type_info, size_t count, uint64_t seed);
 
 /* Joins every telling pair of code tables and so many random ones of a seed by the library; false where one differs. */
 bool compare_join(oskuramos_answer (*join)(const uint8_t *, size_t, const uint8_t *, size_t, uint8_t *, size_t), size_t count, uint64_t seed);

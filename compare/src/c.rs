@@ -91,6 +91,12 @@ pub extern "C" fn compare_large(read_blob: large::ReadBlob, read_type_info: larg
     large::compare(&large::Library { read_blob, read_type_info })
 }
 
+/// Compares fresh cases and the streams that are timed through the library's functions; false where one differs.
+#[no_mangle]
+pub extern "C" fn compare_timed(read_blob: large::ReadBlob, read_type_info: large::ReadTypeInfo, count: usize, seed: u64) -> bool {
+    speed::compare(&large::Library { read_blob, read_type_info }, count, seed)
+}
+
 /// Joins random pairs of code tables by the library's function; false where one differs.
 #[no_mangle]
 pub extern "C" fn compare_join(join: pairs::Join, count: usize, seed: u64) -> bool {

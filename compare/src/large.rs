@@ -118,7 +118,7 @@ fn told(size: usize, name: &str, verdict: Result<Answer, String>) -> bool {
 }
 
 /// The stream with just enough rows, a part of a row more, a row too few of each kind, and under a table that isn't well formed.
-fn blob_agrees(library: &Library, judge: &Judge, stream: &[u8]) -> Result<Answer, String> {
+pub fn blob_agrees(library: &Library, judge: &Judge, stream: &[u8]) -> Result<Answer, String> {
     if stream.len() <= LONGEST {
         judge::blob(&judge.codes, stream)?;
     }
@@ -137,7 +137,8 @@ fn blob_agrees(library: &Library, judge: &Judge, stream: &[u8]) -> Result<Answer
     Ok(all)
 }
 
-fn blob_in(library: &Library, table: &[u8], stream: &[u8], room: [usize; 2]) -> Result<(), String> {
+/// The stream with so many words lent.
+pub fn blob_in(library: &Library, table: &[u8], stream: &[u8], room: [usize; 2]) -> Result<(), String> {
     let expected = plain::read_blob(table, stream, room[0], room[1]);
     let [mut controls, mut properties] = room.map(|words| vec![UNWRITTEN; words]);
     let answer = library.blob(table, stream, &mut controls, &mut properties);
@@ -146,19 +147,23 @@ fn blob_in(library: &Library, table: &[u8], stream: &[u8], room: [usize; 2]) -> 
     same_rows("property", &properties, expected.properties.as_flattened())
 }
 
-fn type_info_agrees(library: &Library, stream: &[u8]) -> Result<Answer, String> {
+pub fn type_info_agrees(library: &Library, stream: &[u8]) -> Result<Answer, String> {
     if stream.len() <= LONGEST {
         judge::type_info(stream)?.ok();
     }
     let all = plain::typeinfo::read_type_info(stream, usize::MAX).0;
     let words = 4 * all.counts[0] as usize;
     for room in [words, words + 3, words.saturating_sub(1)] {
-        let (answer, rows) = plain::typeinfo::read_type_info(stream, room);
-        let mut lent = vec![UNWRITTEN; room];
-        same(library.type_info(stream, &mut lent), answer, [room, 0])?;
-        same_rows("TypeInfo", &lent, rows.as_flattened())?;
+        type_info_in(library, stream, room)?;
     }
     Ok(all)
+}
+
+pub fn type_info_in(library: &Library, stream: &[u8], room: usize) -> Result<(), String> {
+    let (answer, rows) = plain::typeinfo::read_type_info(stream, room);
+    let mut lent = vec![UNWRITTEN; room];
+    same(library.type_info(stream, &mut lent), answer, [room, 0])?;
+    same_rows("TypeInfo", &lent, rows.as_flattened())
 }
 
 fn same(found: Answer, expected: Answer, room: [usize; 2]) -> Result<(), String> {

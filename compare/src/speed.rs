@@ -1,7 +1,11 @@
-//! The streams that `bench` times both readers on.
+//! The streams that `bench` times both readers on, and whether the library reads them as it must.
 
-use crate::cases::Kind;
+use crate::batch;
+use crate::cases::{Case, Kind};
+use crate::expect::Judge;
+use crate::large::{blob_agrees, blob_in, type_info_agrees, type_info_in, Library};
 use crate::long::*;
+use crate::plain::LONGEST;
 
 pub const MIB: usize = 1 << 20;
 
@@ -77,4 +81,95 @@ pub fn grown(n: usize, mib: usize) -> Option<Stream> {
         7 => blob("refused: a byte more", changed(filled(bytes - 1, form2000), |s| s.push(0))),
         _ => return None,
     })
+}
+
+// ---- whether what is timed is right
+
+/// Holds the library against jetdb and document 01 on fresh cases of a seed, those of them that are streams, and on every stream that is timed.
+/// Prints how many agree, or the first that doesn't.
+pub fn compare(library: &Library, count: usize, seed: u64) -> bool {
+    let judge = Judge::new();
+    let timed = || (0..).map_while(stream).try_for_each(|timed| timed_agrees(library, &judge, &timed));
+    let verdict = cases_agree(library, &judge, count, seed).and_then(|agreed| timed().map(|()| agreed));
+    match &verdict {
+        Ok(agreed) => println!("{agreed} cases of seed {seed} and the streams that are timed: no difference from jetdb and document 01"),
+        Err(why) => println!("seed {seed}: a difference\n{why}"),
+    }
+    verdict.is_ok()
+}
+
+fn cases_agree(library: &Library, judge: &Judge, count: usize, seed: u64) -> Result<usize, String> {
+    let mut agreed = 0;
+    batch::drawn(seed, count, LONGEST, &mut |case| {
+        if matches!(case.kind, Kind::Blob | Kind::TypeInfo) {
+            case_agrees(library, judge, &case).map_err(|why| format!("{why}\n{}", batch::shown(&case)))?;
+            agreed += 1;
+        }
+        Ok(())
+    })?;
+    Ok(agreed)
+}
+
+fn case_agrees(library: &Library, judge: &Judge, case: &Case) -> Result<(), String> {
+    let [first, second] = case.numbers.map(|words| words as usize);
+    judge.expected(case)?;
+    match case.kind {
+        Kind::TypeInfo => type_info_in(library, &case.bytes, first),
+        _ => blob_in(library, case.table.as_deref().unwrap_or(&judge.table), &case.bytes, [first, second]),
+    }
+}
+
+fn timed_agrees(library: &Library, judge: &Judge, timed: &Stream) -> Result<(), String> {
+    let verdict = match timed.kind {
+        Kind::TypeInfo => type_info_agrees(library, &timed.bytes),
+        _ => blob_agrees(library, judge, &timed.bytes),
+    };
+    verdict.map(|_| ()).map_err(|why| format!("{}: {why}", timed.name))
+}
+
+#[cfg(test)]
+mod tests {
+    use super::*;
+    use crate::large::CAnswer;
+    use crate::plain;
+    use std::slice::{from_raw_parts, from_raw_parts_mut};
+
+    /// What a library does that reads plainly, but for a slip in its last word.
+    unsafe fn write<const SLIP: u32>(rows: &[u32], out: *mut u32, room: usize) {
+        let written = &mut from_raw_parts_mut(out, room)[..rows.len()];
+        written.copy_from_slice(rows);
+        written.iter_mut().rev().take(1).for_each(|word| *word ^= SLIP);
+    }
+
+    type Words = *mut u32;
+
+    unsafe extern "C" fn blob<const SLIP: u32>(
+        t: *const u8,
+        n: usize,
+        s: *const u8,
+        m: usize,
+        c: Words,
+        i: usize,
+        p: Words,
+        k: usize,
+    ) -> CAnswer {
+        let found = plain::read_blob(from_raw_parts(t, n), from_raw_parts(s, m), i, k);
+        write::<0>(found.controls.as_flattened(), c, i);
+        write::<SLIP>(found.properties.as_flattened(), p, k);
+        CAnswer::of(found.answer)
+    }
+
+    unsafe extern "C" fn type_info<const SLIP: u32>(s: *const u8, m: usize, rows: Words, room: usize) -> CAnswer {
+        let (answer, found) = plain::typeinfo::read_type_info(from_raw_parts(s, m), room);
+        write::<SLIP>(found.as_flattened(), rows, room);
+        CAnswer::of(answer)
+    }
+
+    #[test]
+    fn slips_of_a_library_are_seen() {
+        let agrees = |read_blob, read_type_info| cases_agree(&Library { read_blob, read_type_info }, &Judge::new(), 2_000, 3).is_ok();
+        assert!(agrees(blob::<0>, type_info::<0>));
+        assert!(!agrees(blob::<1>, type_info::<0>));
+        assert!(!agrees(blob::<0>, type_info::<1>));
+    }
 }
