@@ -31,11 +31,7 @@ find_launch() {
     tools=$(dirname "$(dirname "$(rt doc)")")/on/$(uname -m)/toolchain
     [ -e "$tools/lib/ld-linux-x86-64.so.2" ] || die "the kit has no loader in $tools/lib"
     launch=("$tools/lib/ld-linux-x86-64.so.2" --library-path "$tools/lib")
-    emulated=
-    if [ -x "$tools/bin/qemu-x86_64" ]; then
-        emulated=yes
-        launch=("$tools/bin/qemu-x86_64" "${launch[@]}")
-    fi
+    if [ -x "$tools/bin/qemu-x86_64" ]; then launch=("$tools/bin/qemu-x86_64" "${launch[@]}"); fi
 }
 
 # Proves and builds `replay` where it is missing or older than a source.
@@ -47,28 +43,45 @@ ready_replay() {
     fi
 }
 
-# Links c/NAME.c, the library's archive and compare, built in a profile, into a program for x86-64: `linked` is that program.
+# Links c/NAME.c, an archive of the library and compare, built in a profile, into a program: `linked` is that program.
+#   link_by CC FOLDER ARCHIVE NAME PROFILE [WORDS..]     FOLDER is where cargo builds; the words go to the C compiler
+link_by() {
+    local include=${OSKURAMOS_INCLUDE:-include}
+    [ -f "$3" ] || die "no $3"
+    [ -f "$include/oskuramos.h" ] || die "no $include/oskuramos.h"
+    command -v "$1" >/dev/null || die "no $1 here"
+    build_compare "$5"
+    linked=$2/$5/$4
+    "$1" -O2 -Wall -Wextra -Icompare/c -I"$include" "compare/c/$4.c" "$3" "${@:6}" "$2/$5/libcompare.a" -lpthread -ldl -lm -o "$linked" ||
+        die "compare/c/$4.c could not be linked"
+}
+
+# Links NAME PROFILE [WORDS..] for x86-64.
 # On another processor this takes Debian's gcc-x86-64-linux-gnu, and a rustc (RUSTC) with the standard library for x86-64.
 link_c() {
     local target=x86_64-unknown-linux-gnu cc=${CC:-cc} folder=${CARGO_TARGET_DIR:-compare/target}
-    local archive=${OSKURAMOS_ARCHIVE:-target/staticlib/liboskuramos.a} include=${OSKURAMOS_INCLUDE:-include}
     [ -n "${OSKURAMOS_ARCHIVE-}" ] || rt staticlib oskuramos >&2 || die "the library could not be built"
-    [ -f "$archive" ] || die "no $archive"
-    [ -f "$include/oskuramos.h" ] || die "no $include/oskuramos.h"
     if [ "$(uname -m)" != x86_64 ]; then
         cc=x86_64-linux-gnu-gcc
         [ -d "$("${RUSTC:-rustc}" --print target-libdir --target $target)" ] || die "${RUSTC:-rustc} has no standard library for x86-64 (set RUSTC)"
         export CARGO_BUILD_TARGET=$target
         folder=$folder/$target
     fi
-    command -v "$cc" >/dev/null || die "no $cc here"
-    build_compare "$2"
-    linked=$folder/$2/$1
-    "$cc" -O2 -Wall -Wextra -Icompare/c -I"$include" "compare/c/$1.c" "$archive" "$folder/$2/libcompare.a" -lpthread -ldl -lm -o "$linked" ||
-        die "compare/c/$1.c could not be linked"
+    link_by "$cc" "$folder" "${OSKURAMOS_ARCHIVE:-target/staticlib/liboskuramos.a}" "$@"
 }
 
-# Runs the program that was linked: with this machine's C library, or with the kit's where it is emulated.
+# Links NAME PROFILE [WORDS..] for this machine's own processor. On Arm all functions stand at multiples of 64 bytes, those of jetdb and of the library.
+link_own() {
+    if [ "$(uname -m)" = x86_64 ]; then
+        link_c "$@"
+    else
+        [ -n "${OSKURAMOS_ARCHIVE-}" ] || compare/native || exit
+        export RUSTFLAGS="-C llvm-args=-align-all-functions=6"
+        link_by "${CC:-cc}" "${CARGO_TARGET_DIR:-compare/target}" "${OSKURAMOS_ARCHIVE:-target/native/liboskuramos.a}" "$@"
+    fi
+}
+
+# Runs the program that was linked for x86-64: with this machine's C library, or with the kit's where it is emulated.
 run_linked() {
     find_launch
     if [ "$(uname -m)" = x86_64 ]; then "$linked" "$@"; else "${launch[@]}" "$linked" "$@"; fi
