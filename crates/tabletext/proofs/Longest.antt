@@ -1,26 +1,26 @@
 -- The text of a well-formed table has at most 731,386 bytes: 10 for the layout, 12 for each of 4 header codes, 42 for each of 64 scopes, and 45 for each
--- of its rows. A scope has at most 253 of these, since their ids ascend up to 0xFC. The table itself has at most 65,100.
-use mathlib.Core.Path.{_≡_, refl, ap}
-use mathlib.Core.Bool.{Bool, true, false, _&&_, _||_}
-use mathlib.Core.List.{List, [], _∷_, _++_, map}
-use Prim.Native.Nat.{ℕ, zero, suc, _+_, _*_, _/_, _≤_}
+-- of its rows, of which a scope has at most 253.
+use mathlib.Core.Path.{_≡_, refl}
+use mathlib.Core.Bool.{Bool, true, false}
+use mathlib.Core.List.{List, [], _∷_, _++_}
+use Prim.Native.Nat.{ℕ, zero, suc, _*_, _≤_}
 use native.Mathlib.Omega.{arith}
-use borrow.Author.Tests.{leb-true, ltb-true, ltb-false}
-use lib.Dec.{leb, ltb, eqb}
-use lib.ListN.{length, take, length-append}
-use Rattle.rules.specs.Lists.{all, ascends}
+use borrow.Author.Tests.{ltb-true, ltb-false}
+use lib.Dec.{ltb}
+use lib.ListN.{length, length-append}
+use Rattle.rules.specs.Lists.{all}
 use Rattle.rules.specs.Digits.{hex}
 use Rattle.rules.specs.NameTables.{textNames, numberNames, bytesNames, controlTypeNames}
 use Rattle.rules.specs.Names.{nameIn, namesFor}
 use Rattle.rules.specs.Listing.{orDash}
-use Rattle.rules.specs.CodeTable.{Tie, Scope, idOf, layout, headerCount, scopeCount, contentsAt, bodiesAt, header, scopes, codesAt, scopesAt, tieOk, tiesOk, scopeOk, rowCount, wellFormed}
+use Rattle.rules.specs.CodeTable.{Tie, Scope, layout, headerCount, scopeCount, contentsAt, bodiesAt, header, scopes, codesAt, scopeOk, wellFormed}
 use Rattle.rules.proofs.ListLaws.{and-l, and-r}
 use Rattle.rules.proofs.CodeTableLaws.{formed}
+use Rattle.joinlaws.proofs.TableBytesLaws.{length-codesAt, length-scopesAt}
+use Rattle.joinlaws.proofs.JoinLaws.{scope-ok}
 use Rattle.listing.specs.Bound.{longestIn, longestType, longestName}
-use Rattle.listing.proofs.Placed.{held}
 use Rattle.listing.proofs.Longest.{hex-length, value-name-short}
 use Rattle.listing.proofs.Longest as listed
-use Rattle.text.specs.Writer.{Wrote}
 use Rattle.tabletext.proofs.Lines.{plain-scope, entry-scope}
 use Rattle.tabletext.specs.Text.{remark, kindWord, markOf, rowLine, rowLines, scopeName, typeRemark, scopeLine, scopeLines, headerLine, headerLines, tableText}
 
@@ -86,20 +86,6 @@ unfolding headerLines headerLine
 headers-short [] = omega arith
 headers-short (c ∷ cs) = simp length-append (omega (arith, hex-length 4 c, headers-short cs))
 
--- ---- how many there are
-few-rows : (least : ℕ) (rs : List Tie) → least ≤ 253 → ascends least (map idOf rs) ≡ true → all tieOk rs ≡ true → least + length rs ≤ 253
-unfolding ascends all
-few-rows least [] h a o = omega arith
-few-rows least (r ∷ rs) h a o =
-    let up : least ≤ r .id = leb-true _ _ (and-l (leb least (r .id)) _ a) in
-    let ok : tieOk r ≡ true = and-l (tieOk r) (all tieOk rs) o in
-    let top : r .id ≤ 0xFC = search (and-l, leb-true) in
-    omega (arith, few-rows (r .id + 1) rs (omega arith) (and-r (leb least (r .id)) _ a) (and-r (tieOk r) (all tieOk rs) o))
-
-scope-rows : (s : Scope) → scopeOk s ≡ true → length (s .rows) ≤ 253
-unfolding tiesOk
-scope-rows s e = omega (arith, few-rows 0 (s .rows) (omega arith) (search (and-l, and-r)) (search (and-l, and-r)))
-
 scopes-short : (ss : List Scope) → all scopeOk ss ≡ true → length (scopeLines ss) ≤ 11427 * length ss
 unfolding scopeLines all
 scopes-short [] o = omega arith
@@ -109,26 +95,14 @@ scopes-short (s ∷ ss) o =
       arith,
       scope-short (s .kind) (s .code),
       rows-short (s .rows),
-      scope-rows s (and-l (scopeOk s) (all scopeOk ss) o),
+      scope-ok s (and-l (scopeOk s) (all scopeOk ss) o) .few-rows,
       scopes-short ss (and-r (scopeOk s) (all scopeOk ss) o),
     ))
 
-rows-few : (ss : List Scope) → all scopeOk ss ≡ true → rowCount ss ≤ 253 * length ss
-unfolding rowCount all
-rows-few [] o = omega arith
-rows-few (s ∷ ss) o = omega (arith, scope-rows s (and-l (scopeOk s) (all scopeOk ss) o), rows-few ss (and-r (scopeOk s) (all scopeOk ss) o))
-
-pub length-codes : (t : List ℕ) (at n : ℕ) → length (codesAt t at n) ≡ n
-unfolding codesAt
-length-codes t at zero = refl
-length-codes t at (suc n) = ap suc (length-codes t (at + 2) n)
-
-length-scopes : (t : List ℕ) (at body n : ℕ) → length (scopesAt t at body n) ≡ n
-unfolding scopesAt
-length-scopes t at body zero = refl
-length-scopes t at body (suc n) = ap suc (length-scopes t (at + 5) _ n)
-
 -- ---- the table
+pub length-codes : (t : List ℕ) (at n : ℕ) → length (codesAt t at n) ≡ n
+length-codes = length-codesAt
+
 module _ (t : List ℕ) (w : wellFormed t ≡ true) where
   pub longest-table : length (tableText t) ≤ 731386
   unfolding tableText
@@ -141,19 +115,7 @@ module _ (t : List ℕ) (w : wellFormed t ≡ true) where
         arith,
         hex-length 2 (layout t),
         headers-short (header t),
-        length-codes t 4 (headerCount t),
+        length-codesAt t 4 (headerCount t),
         scopes-short (scopes t) (F .scopes-ok),
-        length-scopes t (contentsAt t) (bodiesAt t) (scopeCount t),
+        length-scopesAt t (contentsAt t) (bodiesAt t) (scopeCount t),
       ))
-
-  pub table-short : length t ≤ 65100
-  table-short =
-      let F = formed t w in
-      let few : headerCount t ≤ 4 = F .few-headers in
-      let many : scopeCount t ≤ 64 = F .few-scopes in
-      let end : bodiesAt t + 4 * rowCount (scopes t) ≡ length t = F .ends in
-      omega (arith, rows-few (scopes t) (F .scopes-ok), length-scopes t (contentsAt t) (bodiesAt t) (scopeCount t))
-
-  -- a buffer of that size holds it whole
-  pub whole-table : {o new : List ℕ} {e : ℕ} → Wrote o 0 (tableText t) new e → 731386 ≤ length o → take e new ≡ tableText t
-  whole-table l h = held l (omega (arith, longest-table))

@@ -5,6 +5,3 @@ use lib.ListN.{length, replicate, length-replicate}
 
 pub room : (n : ℕ) → n ≤ length {A = ℕ} (replicate n 0)
 room n = omega (arith, length-replicate {A = ℕ} n 0)
-
-pub no-more : (n : ℕ) → length {A = ℕ} (replicate n 0) ≤ n
-no-more n = omega (arith, length-replicate {A = ℕ} n 0)

@@ -10,7 +10,8 @@ use Rattle.text.specs.Writer.{Wrote}
 use Rattle.listing.proofs.Placed.{held}
 use Rattle.tabletext.specs.Text.{tableText}
 use Rattle.tabletext.specs.Input.{Began, whole, filled}
-use Rattle.tabletext.proofs.Longest.{table-short, longest-table}
+use Rattle.joinlaws.proofs.JoinedLaws.{at-most}
+use Rattle.tabletext.proofs.Longest.{longest-table}
 use Rattle.tablebreak.specs.declared.Break.{Break}
 use Rattle.tablebreak.specs.Rules.{longest, breakOf}
 use Rattle.tablewords.specs.Words.{breakText}
@@ -29,7 +30,7 @@ broken-shown t e = rw e
 
 -- ---- a table longer than any that is well formed
 long-broken : (t : List ℕ) → longest < length t → (w : Bool) → wellFormed t ≡ w → wellFormed t ≡ false
-long-broken t h true e = absurd (omega (arith, table-short t e))
+long-broken t h true e = absurd (omega (arith, at-most t e))
 long-broken t h false e = e
 
 long-shown : (t u : List ℕ) → longest < length t → longest < length u → shownText t ≡ shownText u
