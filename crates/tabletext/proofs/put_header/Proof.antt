@@ -6,7 +6,10 @@ use Rattle.tabletext.proofs.put_header.Tie as tie
 
 returns : tie.Need-returns
 unfolding headerLine
-returns c = c .before .before .before .before .before .before .before .before .before .before .put-text .ensures ⨟ c .before .before .before .before .before .before .put-hex .ensures ⨟ c .before .before .put-byte .ensures
+returns c =
+    let after-put-hex : tie.After-put-hex = search in
+    let after-put-text : tie.After-put-text = search in
+    after-put-text .put-text .ensures ⨟ after-put-hex .put-hex .ensures ⨟ c .before .before .put-byte .ensures
 
 pub put-header-spec : {M : Type 1} → statement M
 put-header-spec =

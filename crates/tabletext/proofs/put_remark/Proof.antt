@@ -14,14 +14,17 @@ returns c = let a = c .before .before .before .args in rw (no-remark (a .size) (
 
 slice-aggregate-put-text-2 : tie.Need-slice-aggregate-put-text-2
 slice-aggregate-put-text-2 c =
-    let a = c .before .before .before .before .before .before .before .before .before .before .args in
-    let h : a .size ≤ length (a .row .now) = c .before .before .before .before .before .before .before .before .before .before .pre in
+    let start : tie.Start = search in
+    let a = start .args in
+    let h : a .size ≤ length (a .row .now) = start .pre in
     sym (length-take-le (a .size) (a .row .now) h)
 
 returns-2 : tie.Need-returns-2
 returns-2 c =
-    let a = c .before .before .before .before .before .before .before .before .before .before .before .before .before .args in
-    rw (a-remark (a .size) (a .row .now) (λ e. omega arith) (c .before .before .before .before .before .before .before .before .before .before .before .before .before .pre)) (c .before .before .before .before .before .before .before .put-text .ensures ⨟ c .before .before .put-text2 .ensures)
+    let after-put-text : tie.After-put-text = search in
+    let start : tie.Start = search in
+    let a = start .args in
+    rw (a-remark (a .size) (a .row .now) (λ e. omega arith) (start .pre)) (after-put-text .put-text .ensures ⨟ c .before .before .put-text2 .ensures)
 
 pub put-remark-spec : {M : Type 1} → statement M
 put-remark-spec =

@@ -7,12 +7,19 @@ use Rattle.tabletext.proofs.put_row.Tie as tie
 returns : tie.Need-returns
 unfolding rowLine
 returns c =
-    c .before .before .before .before .before .before .before .before .before .before .before .before .before .before .before .before .before .before .before .before .before .before .before .before .before .before .before .put-hex .ensures
-    ⨟ c .before .before .before .before .before .before .before .before .before .before .before .before .before .before .before .before .before .before .before .before .before .before .before .put-byte .ensures
-    ⨟ c .before .before .before .before .before .before .before .before .before .before .before .before .before .before .before .before .before .before .before .put-hex2 .ensures
-    ⨟ c .before .before .before .before .before .before .before .before .before .before .before .before .before .before .before .put-byte2 .ensures
-    ⨟ c .before .before .before .before .before .before .before .before .before .before .before .put-kind .ensures
-    ⨟ rw (c .before .before .before .before .before .before .before .mark-of .ensures) at (c .before .before .before .before .before .before .put-target-name .ensures)
+    let after-put-target-name : tie.After-put-target-name = search in
+    let after-mark-of : tie.After-mark-of = search in
+    let after-put-kind : tie.After-put-kind = search in
+    let after-put-byte2 : tie.After-put-byte2 = search in
+    let after-put-hex2 : tie.After-put-hex2 = search in
+    let after-put-byte : tie.After-put-byte = search in
+    let after-put-hex : tie.After-put-hex = search in
+    after-put-hex .put-hex .ensures
+    ⨟ after-put-byte .put-byte .ensures
+    ⨟ after-put-hex2 .put-hex2 .ensures
+    ⨟ after-put-byte2 .put-byte2 .ensures
+    ⨟ after-put-kind .put-kind .ensures
+    ⨟ rw (after-mark-of .mark-of .ensures) at (after-put-target-name .put-target-name .ensures)
     ⨟ c .before .before .put-byte3 .ensures
 
 pub put-row-spec : {M : Type 1} → statement M

@@ -6,7 +6,11 @@ use Rattle.tabletext.proofs.put_scope.Tie as tie
 
 returns : tie.Need-returns
 unfolding scopeLine
-returns c = c .before .before .before .before .before .before .before .before .before .before .before .before .before .before .put-byte .ensures ⨟ c .before .before .before .before .before .before .before .before .before .before .put-scope-name .ensures ⨟ c .before .before .before .before .before .before .put-type-remark .ensures ⨟ c .before .before .put-byte2 .ensures
+returns c =
+    let after-put-type-remark : tie.After-put-type-remark = search in
+    let after-put-scope-name : tie.After-put-scope-name = search in
+    let after-put-byte : tie.After-put-byte = search in
+    after-put-byte .put-byte .ensures ⨟ after-put-scope-name .put-scope-name .ensures ⨟ after-put-type-remark .put-type-remark .ensures ⨟ c .before .before .put-byte2 .ensures
 
 pub put-scope-spec : {M : Type 1} → statement M
 put-scope-spec =

@@ -8,16 +8,23 @@ use Rattle.tabletext.proofs.put_scope_name.Tie as tie
 
 returns : tie.Need-returns
 unfolding scopeName
-returns c = rw (c .before .before .before .before .before .match .keys1) (c .before .before .put-text .ensures)
+returns c =
+    let at-match-keys1 : tie.At-match-keys1 = search in
+    rw (at-match-keys1 .match .keys1) (c .before .before .put-text .ensures)
 
 returns-2 : tie.Need-returns-2
 unfolding scopeName
-returns-2 c = rw (c .before .before .before .before .before .match .keys2) (c .before .before .put-text2 .ensures)
+returns-2 c =
+    let at-match-keys2 : tie.At-match-keys2 = search in
+    rw (at-match-keys2 .match .keys2) (c .before .before .put-text2 .ensures)
 
 returns-3 : tie.Need-returns-3
 returns-3 c =
-    let a = c .before .before .before .before .before .before .before .before .before .before .before .args in
-    rw (entry-name (a .kind) (a .code) (past 2 _ (c .before .before .before .before .before .before .before .before .before .match .rest))) (c .before .before .before .before .before .before .put-text3 .ensures ⨟ c .before .before .put-hex .ensures)
+    let after-put-text3 : tie.After-put-text3 = search in
+    let at-match-rest : tie.At-match-rest = search in
+    let start : tie.Start = search in
+    let a = start .args in
+    rw (entry-name (a .kind) (a .code) (past 2 _ (at-match-rest .match .rest))) (after-put-text3 .put-text3 .ensures ⨟ c .before .before .put-hex .ensures)
 
 pub put-scope-name-spec : {M : Type 1} → statement M
 put-scope-name-spec =

@@ -1,5 +1,6 @@
 use mathlib.Core.Path.{refl}
-use Prim.Native.Nat.{_+_, _*_, _<_, _^_}
+use Prim.Native.Nat.{ℕ, _+_, _*_, _<_, _^_}
+use mathlib.Core.List.{List}
 use native.Mathlib.Omega.{arith}
 use borrow.Author.Needs.{needs}
 use Rattle.text.proofs.Chain.{same}
@@ -10,29 +11,39 @@ use Rattle.tabletext.proofs.Lines.{scopes-read, scopes-done}
 use Rattle.tabletext.proofs.put_scopes.Statement.{statement}
 use Rattle.tabletext.proofs.put_scopes.Tie as tie
 
+record Left (old : List ℕ) (at : ℕ) (table : List ℕ) (start bodies n : ℕ) (now : List ℕ) (p place body left : ℕ) : Type 0 where
+  rest : Remains old at (scopeLines (scopesAt table start bodies n)) now p (scopeLines (scopesAt table place body left))
+  near : place + 5 * left < 2 ^ 32
+  body-near : body + 262144 * left < 2 ^ 58
+
 abbrev Inv-loop : tie.InvT-loop
-Inv-loop out₀ at table start bodies n p₀ place₀ body₀ left₀ out p place body left =
-    Remains out₀ at (scopeLines (scopesAt table start bodies n)) out p (scopeLines (scopesAt table place body left))
-    × (place + 5 * left < 2 ^ 32)
-    × (body + 262144 * left < 2 ^ 58)
+Inv-loop out₀ at table start bodies n p₀ place₀ body₀ left₀ out p place body left = Left out₀ at table start bodies n out p place body left
 
 abbrev μ-loop : tie.MeasureT-loop
 μ-loop out₀ at table start bodies n p₀ place₀ body₀ left₀ out p place body left = left
 
 loop-holds : tie.Need-loop-holds Inv-loop μ-loop
-loop-holds c = (all-remains, omega arith, omega arith)
+loop-holds c = record { rest = all-remains; near = omega arith; body-near = omega arith }
 
 put-scope-requires : tie.Need-put-scope-requires Inv-loop μ-loop
 put-scope-requires c κs = (c .before .before .before .byte .ensures .small, c .before .before .word .ensures .small)
 
 loop-again : tie.Need-loop-again Inv-loop μ-loop
 loop-again c =
-    let l = c .before .before .before .before .before .before .before .before .before .before .before .before in
-    let e = scopes-read (l .before .before .before .args .table .now) (l .loop .place) (l .loop .body) (l .loop .left) (omega arith) (c .before .before .before .before .before .before .before .before .before .before .byte .ensures .is) (c .before .before .before .before .before .before .before .before .before .word .ensures .is) (c .before .before .before .before .before .before .before .before .word2 .ensures .is) in
-    (on (on (l .loop .inv .0) e (c .before .before .before .before .before .before .put-scope .ensures)) refl (c .before .before .put-rows .ensures), omega arith, omega arith)
+    let after-put-scope : tie.After-put-scope Inv-loop μ-loop = search in
+    let after-word2 : tie.After-word2 Inv-loop μ-loop = search in
+    let after-word : tie.After-word Inv-loop μ-loop = search in
+    let after-byte : tie.After-byte Inv-loop μ-loop = search in
+    let l : tie.At-loop Inv-loop μ-loop = search in
+    let e = scopes-read (l .before .before .before .args .table .now) (l .loop .place) (l .loop .body) (l .loop .left) (omega arith) (after-byte .byte .ensures .is) (after-word .word .ensures .is) (after-word2 .word2 .ensures .is) in
+    record {
+      rest = on (on (l .loop .inv .rest) e (after-put-scope .put-scope .ensures)) refl (c .before .before .put-rows .ensures);
+      near = omega arith;
+      body-near = omega arith;
+    }
 
 returns : tie.Need-returns Inv-loop μ-loop
-returns c = let l = c .before in done (l .loop .inv .0) (scopes-done (l .before .before .before .args .table .now) (l .loop .place) (l .loop .body) (l .loop .left) (omega arith))
+returns c = let l = c .before in done (l .loop .inv .rest) (scopes-done (l .before .before .before .args .table .now) (l .loop .place) (l .loop .body) (l .loop .left) (omega arith))
 
 same-length : tie.Need-same-length Inv-loop μ-loop
 same-length c = same (returns c)

@@ -8,7 +8,11 @@ returns : tie.Need-returns
 returns c = let a = c .before .before .args in rw (plain-scope (a .kind) (a .code) (c .if1 .taken)) nothing
 
 returns-2 : tie.Need-returns-2
-returns-2 c = let a = c .before .before .before .before .before .before .args in rw (entry-scope (a .kind) (a .code) (c .before .before .before .before .if1 .left)) (c .before .before .put-type-name .ensures)
+returns-2 c =
+    let else1 : tie.Else1 = search in
+    let start : tie.Start = search in
+    let a = start .args in
+    rw (entry-scope (a .kind) (a .code) (else1 .if1 .left)) (c .before .before .put-type-name .ensures)
 
 pub put-type-remark-spec : {M : Type 1} → statement M
 put-type-remark-spec =

@@ -7,11 +7,19 @@ use Rattle.tabletext.proofs.table_text.Tie as tie
 
 returns : tie.Need-returns
 returns c =
-    rw (table-lines (c .before .before .before .before .before .before .before .before .before .before .before .before .before .before .before .before .before .before .before .before .before .before .before .before .before .before .args .table .now) (c .before .before .before .before .before .before .before .before .before .before .before .before .before .before .before .byte2 .ensures .is) (c .before .before .before .before .before .before .before .before .before .before .before .before .before .before .before .before .before .before .before .before .before .before .before .byte .ensures .is) (c .before .before .before .before .before .before .before .before .before .before .before .before .before .before .before .before .before .before .before .before .before .before .word .ensures .is))
-    (c .before .before .before .before .before .before .before .before .before .before .before .before .before .before .before .before .before .before .before .put-text .ensures
-    ⨟ c .before .before .before .before .before .before .before .before .before .before .before .before .before .before .put-hex .ensures
-    ⨟ c .before .before .before .before .before .before .before .before .before .before .put-byte .ensures
-    ⨟ c .before .before .before .before .before .before .put-headers .ensures
+    let after-put-headers : tie.After-put-headers = search in
+    let after-put-byte : tie.After-put-byte = search in
+    let after-put-hex : tie.After-put-hex = search in
+    let after-byte2 : tie.After-byte2 = search in
+    let after-put-text : tie.After-put-text = search in
+    let after-word : tie.After-word = search in
+    let after-byte : tie.After-byte = search in
+    let start : tie.Start = search in
+    rw (table-lines (start .args .table .now) (after-byte2 .byte2 .ensures .is) (after-byte .byte .ensures .is) (after-word .word .ensures .is))
+    (after-put-text .put-text .ensures
+    ⨟ after-put-hex .put-hex .ensures
+    ⨟ after-put-byte .put-byte .ensures
+    ⨟ after-put-headers .put-headers .ensures
     ⨟ c .before .before .put-scopes .ensures)
 
 same-length : tie.Need-same-length
