@@ -1,19 +1,20 @@
 -- One turn of each search, by the numbers that the code has read.
 use mathlib.Core.Path.{_≡_, refl, sym, ap, _∙_}
-use mathlib.Core.Bool.{true, false}
+use mathlib.Core.Bool.{true, false, cond}
 use mathlib.Core.List.{List}
 use Prim.Native.Nat.{ℕ, zero, suc, _+_, _*_, _-_, _/_, _%_, _≤_, _<_}
 use native.Mathlib.Nat.{not-suc-le-zero}
 use native.Mathlib.Numerals.{sub-one}
 use native.Mathlib.Omega.{arith}
 use borrow.Author.Tests.{lt-ltb, le-ltb, eq-eqb, ne-eqb}
+use lib.Dec.{ltb}
 use lib.ListN.{length}
 use Rattle.rules.specs.Bytes.{byte, u16}
 use Rattle.rules.specs.CodeTable.{keyOf, headerCount, scopeCount, contentsAt, bodiesAt, tiesAt, scopesAt, rowCount, wellFormed}
 use Rattle.codetable.specs.Reads.{ReadsRow}
 use Rattle.codetable.specs.declared.RowRead.{RowRead}
 use Rattle.tablebreak.specs.declared.Break.{Break}
-use Rattle.tablebreak.specs.Rules.{manyHeaders, manyScopes, headerOrder, scopeKind, scopeCode, scopeOrder, idOrder, idHigh, targetHigh, rowKind, tooShort, tooLong, overLongest, longest, broken, unbroken, placed, orElse, headerBreak, orderRule, scopeRule, scopeBreak, rowRule, rowBreak, rowsBreak, endOf, bodyBreak, searched, breakOf}
+use Rattle.tablebreak.specs.Rules.{manyHeaders, manyScopes, headerOrder, scopeKind, scopeCode, scopeOrder, idOrder, idHigh, targetHigh, rowKind, tooShort, tooLong, overLongest, longest, broken, unbroken, placed, orElse, headerBreak, orderRule, scopeRule, scopeBreak, rowRule, rowBreak, rowsBreak, endOf, bodyBreak, searched, breakOf, BodyReady}
 
 -- ---- the first of two
 pub here : (a b : Break) → (a .rule ≡ 0 → ⊥) → orElse a b ≡ a
@@ -25,15 +26,23 @@ unfolding orElse
 later a b h = rw (eq-eqb (a .rule) 0 h)
 
 -- ---- header codes
-pub headers-fail : (t : List ℕ) (at least left : ℕ) {x : ℕ} → 0 < left → x ≡ u16 t at → x < least → headerBreak t at least left ≡ broken headerOrder at x (least - 1)
-unfolding headerBreak
-headers-fail t at least zero h e g = absurd (not-suc-le-zero h)
-headers-fail t at least (suc n) {x} h e g = rw (← e, lt-ltb x least g)
+-- one is read
+pub record HeaderRead (t : List ℕ) (at left x : ℕ) : Type 0 where
+  pub more : 0 < left
+  pub code-is : x ≡ u16 t at
 
-pub headers-step : (t : List ℕ) (at least left : ℕ) {x : ℕ} → 0 < left → x ≡ u16 t at → least ≤ x → headerBreak t at least left ≡ headerBreak t (at + 2) (x + 1) (left - 1)
+headers-next : (t : List ℕ) (at least left : ℕ) {x : ℕ} → 0 < left → x ≡ u16 t at
+    → headerBreak t at least left ≡ cond (ltb x least) (broken headerOrder at x (least - 1)) (headerBreak t (at + 2) (x + 1) (left - 1))
 unfolding headerBreak
-headers-step t at least zero h e g = absurd (not-suc-le-zero h)
-headers-step t at least (suc n) {x} h e g = rw (← e, le-ltb x least g, sub-one)
+headers-next t at least zero h e = absurd (not-suc-le-zero h)
+headers-next t at least (suc n) h e = rw (e, sub-one (suc n))
+
+module _ {t : List ℕ} {at left x : ℕ} (R : HeaderRead t at left x) (least : ℕ) where
+  pub headers-fail : x < least → headerBreak t at least left ≡ broken headerOrder at x (least - 1)
+  headers-fail g = rw (headers-next t at least left (R .more) (R .code-is), lt-ltb x least g)
+
+  pub headers-step : least ≤ x → headerBreak t at least left ≡ headerBreak t (at + 2) (x + 1) (left - 1)
+  headers-step g = rw (headers-next t at least left (R .more) (R .code-is), le-ltb x least g)
 
 pub headers-done : (t : List ℕ) (at least left : ℕ) → left ≤ 0 → headerBreak t at least left ≡ unbroken
 unfolding headerBreak
@@ -74,10 +83,16 @@ unfolding scopeBreak
 scopes-next t at least number zero h ek ec = absurd (not-suc-le-zero h)
 scopes-next t at least number (suc n) h ek ec = rw (ek, ec, sub-one)
 
-module _ (t : List ℕ) (at least number left : ℕ) {k c : ℕ} {f : Break} (more : 0 < left) (ek : k ≡ byte t at) (ec : c ≡ u16 t (at + 1)) (ef : f ≡ scopeRule at k c least) where
+-- the kind and the code of one are read
+pub record ScopeRead (t : List ℕ) (at left k c : ℕ) : Type 0 where
+  pub more : 0 < left
+  pub kind-is : k ≡ byte t at
+  pub code-is : c ≡ u16 t (at + 1)
+
+module _ {t : List ℕ} {at left k c : ℕ} (R : ScopeRead t at left k c) (least number : ℕ) {f : Break} (ef : f ≡ scopeRule at k c least) where
   next : scopeBreak t at least number left ≡ orElse (placed f number k c 0) (scopeBreak t (at + 5) (keyOf k c + 1) (number + 1) (left - 1))
   next =
-      scopes-next t at least number left more ek ec
+      scopes-next t at least number left (R .more) (R .kind-is) (R .code-is)
       ∙ ap (λ (x : Break). orElse (placed x number k c 0) (scopeBreak t (at + 5) (keyOf k c + 1) (number + 1) (left - 1))) (sym ef)
 
   pub scopes-fail : (f .rule ≡ 0 → ⊥) → scopeBreak t at least number left ≡ placed f number k c 0
@@ -122,21 +137,21 @@ unfolding rowBreak
 rows-next t at least s k c number zero h ei ex ey = absurd (not-suc-le-zero h)
 rows-next t at least s k c number (suc n) h ei ex ey = rw (ei, ex, ey, sub-one)
 
-module _ (t : List ℕ) (at least s k c number left : ℕ) (r : RowRead) {f : Break} (more : 0 < left) (R : ReadsRow t at r)
+module _ {t : List ℕ} {at left : ℕ} {r : RowRead} (more : 0 < left) (R : ReadsRow t at r) (least s k c number : ℕ) {f : Break}
     (ef : f ≡ rowRule at (r .id) (r .target) (r .kind) least) where
-  abbrev behind : Break
-  behind = rowBreak t (at + 4) (r .id + 1) s k c (number + 1) (left - 1)
+  abbrev rest : Break
+  rest = rowBreak t (at + 4) (r .id + 1) s k c (number + 1) (left - 1)
 
-  row-next : rowBreak t at least s k c number left ≡ orElse (placed f s k c number) behind
+  row-next : rowBreak t at least s k c number left ≡ orElse (placed f s k c number) rest
   row-next =
       rows-next t at least s k c number left more (R .id .is) (R .target .is) (R .kind .is)
-      ∙ ap (λ (x : Break). orElse (placed x s k c number) behind) (sym ef)
+      ∙ ap (λ (x : Break). orElse (placed x s k c number) rest) (sym ef)
 
   pub rows-fail : (f .rule ≡ 0 → ⊥) → rowBreak t at least s k c number left ≡ placed f s k c number
-  rows-fail n = row-next ∙ here (placed f s k c number) behind n
+  rows-fail n = row-next ∙ here (placed f s k c number) rest n
 
-  pub rows-step : f .rule ≡ 0 → rowBreak t at least s k c number left ≡ behind
-  rows-step e = row-next ∙ later (placed f s k c number) behind e
+  pub rows-step : f .rule ≡ 0 → rowBreak t at least s k c number left ≡ rest
+  rows-step e = row-next ∙ later (placed f s k c number) rest e
 
 pub rows-done : (t : List ℕ) (at least s k c number left : ℕ) → left ≤ 0 → rowBreak t at least s k c number left ≡ unbroken
 unfolding rowBreak
@@ -150,11 +165,17 @@ unfolding rowsBreak
 bodies-next t at body number zero h ek ec en = absurd (not-suc-le-zero h)
 bodies-next t at body number (suc m) h ek ec en = rw (ek, ec, en, sub-one)
 
-module _ (t : List ℕ) (at body number left : ℕ) {k c n : ℕ} {f : Break} (more : 0 < left) (ek : k ≡ byte t at) (ec : c ≡ u16 t (at + 1)) (en : n ≡ u16 t (at + 3))
-    (ef : f ≡ rowBreak t body 0 number k c 1 n) where
+-- a scope and the number of its rows are read
+pub record BodyRead (t : List ℕ) (at left k c n : ℕ) : Type 0 where
+  pub more : 0 < left
+  pub kind-is : k ≡ byte t at
+  pub code-is : c ≡ u16 t (at + 1)
+  pub count-is : n ≡ u16 t (at + 3)
+
+module _ {t : List ℕ} {at left k c n : ℕ} (R : BodyRead t at left k c n) (body number : ℕ) {f : Break} (ef : f ≡ rowBreak t body 0 number k c 1 n) where
   body-next : rowsBreak t at body number left ≡ orElse f (rowsBreak t (at + 5) (body + 4 * n) (number + 1) (left - 1))
   body-next =
-      bodies-next t at body number left more ek ec en
+      bodies-next t at body number left (R .more) (R .kind-is) (R .code-is) (R .count-is)
       ∙ ap (λ (x : Break). orElse x (rowsBreak t (at + 5) (body + 4 * n) (number + 1) (left - 1))) (sym ef)
 
   pub bodies-fail : (f .rule ≡ 0 → ⊥) → rowsBreak t at body number left ≡ f
@@ -186,12 +207,12 @@ ends-done t at end zero h = omega arith
 ends-done t at end (suc n) h = absurd (not-suc-le-zero h)
 
 -- ---- the bodies
-module _ (t : List ℕ) {contents bodies n : ℕ} (ec : contents ≡ contentsAt t) (eb : bodies ≡ bodiesAt t) (en : n ≡ scopeCount t) where
+module _ {t : List ℕ} {contents bodies n : ℕ} (B : BodyReady t contents bodies n) where
   pub ends-at : bodies + 4 * rowCount (scopesAt t contents bodies n) ≡ endOf t
-  ends-at = rw (ec, eb, en)
+  ends-at = rw (B .contents-are, B .bodies-are, B .scopes-are)
 
   pub rows-at : rowsBreak t contents bodies 1 n ≡ rowsBreak t (contentsAt t) (bodiesAt t) 1 (scopeCount t)
-  rows-at = rw (ec, eb, en)
+  rows-at = rw (B .contents-are, B .bodies-are, B .scopes-are)
 
 module _ (t : List ℕ) {e : ℕ} (is : e ≡ endOf t) where
   pub body-short : length t < e → bodyBreak t ≡ broken tooShort (length t) (e - length t) 0

@@ -1,11 +1,12 @@
 -- Where a table first breaks a rule: its counts, that its contents are there, its header codes, its scopes, its length, its rows are looked at in this order.
-use Prim.Native.Nat.{ℕ, zero, suc, _+_, _*_, _-_, _/_, _%_}
+use Prim.Native.Nat.{ℕ, zero, suc, _+_, _*_, _-_, _/_, _%_, _^_, _≤_, _<_}
+use mathlib.Core.Path.{_≡_}
 use mathlib.Core.Bool.{_&&_, cond}
 use mathlib.Core.List.{List}
 use lib.Dec.{ltb, eqb}
 use lib.ListN.{length}
 use Rattle.rules.specs.Bytes.{byte, u16}
-use Rattle.rules.specs.CodeTable.{keyOf, headerCount, scopeCount, contentsAt, bodiesAt, scopes, rowCount, wellFormed}
+use Rattle.rules.specs.CodeTable.{keyOf, headerCount, scopeCount, contentsAt, bodiesAt, scopes, scopesAt, rowCount, wellFormed}
 use Rattle.tablebreak.specs.declared.Break.{Break}
 
 -- ---- the rules by number, 0 for none
@@ -145,3 +146,54 @@ searched t =
 
 unfoldable pub breakOf : List ℕ → Break
 breakOf t = cond (wellFormed t) unbroken (cond (ltb longest (length t)) (broken overLongest longest 0 0) (searched t))
+
+-- ---- what the code asks and hands on
+-- the numbers of a break have 32 bits, and those of its place
+pub record BreakFits (at found before : ℕ) : Type 0 where
+  pub at-fits : at < 2 ^ 32
+  pub found-fits : found < 2 ^ 32
+  pub before-fits : before < 2 ^ 32
+
+pub record PlaceFits (scope kind code row : ℕ) : Type 0 where
+  pub scope-fits : scope < 2 ^ 32
+  pub kind-fits : kind < 2 ^ 32
+  pub code-fits : code < 2 ^ 32
+  pub row-fits : row < 2 ^ 32
+
+-- a scope of the contents was read, and so was a row
+pub record ScopeFits (at kind code least : ℕ) : Type 0 where
+  pub near : at + 1 < 2 ^ 32
+  pub kind-fits : kind < 256
+  pub code-fits : code < 65536
+  pub least-fits : least < 2 ^ 32
+
+pub record RowFits (at id target kind least : ℕ) : Type 0 where
+  pub near : at + 3 < 2 ^ 32
+  pub id-fits : id < 256
+  pub target-fits : target < 65536
+  pub kind-fits : kind < 256
+  pub least-fits : least < 2 ^ 32
+
+-- the n rows of a scope are in reach
+pub record RowsReady (start n scope kind code : ℕ) : Type 0 where
+  pub near : start + 4 * n + 4 < 2 ^ 32
+  pub place : PlaceFits scope kind code 0
+
+-- n scopes and their bodies are in reach
+pub record ScopesReady (start bodies n : ℕ) : Type 0 where
+  pub near : start + 5 * n + 2 < 2 ^ 32
+  pub bodies-near : bodies + 262144 * n + 4 < 2 ^ 32
+
+-- the contents were read, and are there
+pub record BodyReady (t : List ℕ) (contents bodies n : ℕ) : Type 0 where
+  pub contents-are : contents ≡ contentsAt t
+  pub bodies-are : bodies ≡ bodiesAt t
+  pub scopes-are : n ≡ scopeCount t
+  pub few : n ≤ 64
+  pub there : bodies ≤ length t
+  pub short : length t ≤ longest
+
+-- where the bodies of n scopes end
+pub record BodiesEnd (t : List ℕ) (start bodies n r : ℕ) : Type 0 where
+  pub is : r ≡ bodies + 4 * rowCount (scopesAt t start bodies n)
+  pub small : r < 2 ^ 32

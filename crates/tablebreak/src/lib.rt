@@ -1,11 +1,10 @@
-// Where a code table breaks which of document 01's rules. specs/Rules.antt has the rules by number.
+// Where a code table first breaks one of document 01's rules, and which: specs/Rules.antt has them by number.
 use codetable::byte;
 use codetable::read_row;
 use codetable::word;
 ghost use mathlib.Core.Path.{_≡_};
 ghost use Prim.Native.Nat.{_+_, _*_, _≤_, _<_, _^_};
 ghost use lib.ListN.{length};
-ghost use Rattle.rules.specs.CodeTable.{scopeCount, contentsAt, bodiesAt, scopesAt, rowCount};
 ghost use Rattle.tablebreak.specs.Rules as law;
 
 const MANY_HEADERS: u32 = 1;
@@ -36,8 +35,34 @@ const OVER_LONGEST: u32 = 13;
 
 const LONGEST: usize = 65100;
 
+// Where the header codes stand; how many bytes one has, a scope of the contents, a row.
+const HEADER_AT: usize = 4;
+
+const CODE_SIZE: usize = 2;
+
+const SCOPE_SIZE: usize = 5;
+
+const ROW_SIZE: usize = 4;
+
+// The limits of document 01.
+const MOST_HEADERS: usize = 4;
+
+const MOST_SCOPES: usize = 64;
+
+const LAST_ID: usize = 0xFC;
+
+const LAST_TARGET: usize = 0x7FFF;
+
+// The last kind of a scope, which alone has codes, and the last kind of a row.
+const SCOPE_ENTRY: usize = 2;
+
+const KIND_BYTES: usize = 4;
+
+// A scope's kind and code are one number, kind * CODES + code: they ascend as it does.
+const CODES: usize = 65536;
+
 // A rule broken at a byte, 0 for none. Scopes and rows are counted from 1, and 0 where the rule is of none; kind and code are the scope's.
-// `found` is what stands there, `before` what stands in front of it.
+// `found` is what stands there, `before` what stands before it.
 pub struct Break {
     pub rule: u32,
     pub at: u32,
@@ -67,7 +92,7 @@ fn unbroken() -> Break
 
 // A rule of the table as a whole.
 fn broken(rule: u32, at: usize, found: usize, before: usize) -> Break
-    requires { ⌜ (at < 2 ^ 32) × (found < 2 ^ 32) × (before < 2 ^ 32) ⌝ }
+    requires { ⌜ law.BreakFits at found before ⌝ }
     ensures { λ r. ⌜ r ≡ law.broken rule at found before ⌝ }
 {
     Break {
@@ -84,7 +109,7 @@ fn broken(rule: u32, at: usize, found: usize, before: usize) -> Break
 
 // A rule of a scope, or of one of its rows.
 fn placed(found: Break, scope: usize, kind: usize, code: usize, row: usize) -> Break
-    requires { ⌜ (scope < 2 ^ 32) × (kind < 2 ^ 32) × (code < 2 ^ 32) × (row < 2 ^ 32) ⌝ }
+    requires { ⌜ law.PlaceFits scope kind code row ⌝ }
     ensures { λ r. ⌜ r ≡ law.placed found scope kind code row ⌝ }
 {
     Break {
@@ -100,12 +125,12 @@ fn placed(found: Break, scope: usize, kind: usize, code: usize, row: usize) -> B
 }
 
 // ---- where it is
-// The n header codes at 4.
+// The n header codes.
 fn header_break(table: &[u8], n: usize) -> Break
     requires { ⌜ 4 + 2 * n < 2 ^ 32 ⌝ }
     ensures { λ r. ⌜ r ≡ law.headerBreak (now (table .entry)) 4 0 n ⌝ }
 {
-    let mut at = 4;
+    let mut at = HEADER_AT;
     let mut left = n;
     let mut least = 0;
     while 0 < left {
@@ -114,33 +139,33 @@ fn header_break(table: &[u8], n: usize) -> Break
             return broken(HEADER_ORDER, at, code, least - 1);
         }
         least = code + 1;
-        at += 2;
+        at += CODE_SIZE;
         left -= 1;
     }
     unbroken()
 }
 
-// A scope of the contents; the one in front of it has the key least - 1.
+// A scope of the contents; the one before it has the key least - 1.
 fn order_rule(at: usize, key: usize, least: usize) -> Break
     requires { ⌜ (at < 2 ^ 32) × (least < 2 ^ 32) ⌝ }
     ensures { λ r. ⌜ r ≡ law.orderRule at key least ⌝ }
 {
     if key < least {
         let last = least - 1;
-        return broken(SCOPE_ORDER, at, last / 65536, last % 65536);
+        return broken(SCOPE_ORDER, at, last / CODES, last % CODES);
     }
     unbroken()
 }
 
 fn scope_rule(at: usize, kind: usize, code: usize, least: usize) -> Break
-    requires { ⌜ (at + 1 < 2 ^ 32) × (kind < 256) × (code < 65536) × (least < 2 ^ 32) ⌝ }
+    requires { ⌜ law.ScopeFits at kind code least ⌝ }
     ensures { λ r. ⌜ r ≡ law.scopeRule at kind code least ⌝ }
 {
-    if 2 < kind {
+    if SCOPE_ENTRY < kind {
         return broken(SCOPE_KIND, at, kind, 0);
     }
-    let key = kind * 65536 + code;
-    if kind == 2 {
+    let key = kind * CODES + code;
+    if kind == SCOPE_ENTRY {
         return order_rule(at, key, least);
     }
     if 0 < code {
@@ -165,8 +190,8 @@ fn scope_break(table: &[u8], start: usize, n: usize) -> Break
         if found.rule != 0 {
             return placed(found, number, kind, code, 0);
         }
-        least = kind * 65536 + code + 1;
-        at += 5;
+        least = kind * CODES + code + 1;
+        at += SCOPE_SIZE;
         number += 1;
         left -= 1;
     }
@@ -175,35 +200,35 @@ fn scope_break(table: &[u8], start: usize, n: usize) -> Break
 
 // Where the bodies of n scopes end; they start at bodies.
 fn bodies_end(table: &[u8], start: usize, bodies: usize, n: usize) -> usize
-    requires { ⌜ (start + 5 * n < 2 ^ 32) × (bodies + 262144 * n < 2 ^ 32) ⌝ }
-    ensures { λ r. ⌜ (r ≡ bodies + 4 * rowCount (scopesAt (now (table .entry)) start bodies n)) × (r < 2 ^ 32) ⌝ }
+    requires { ⌜ law.ScopesReady start bodies n ⌝ }
+    ensures { λ r. ⌜ law.BodiesEnd (now (table .entry)) start bodies n r ⌝ }
 {
     let mut at = start;
     let mut end = bodies;
     let mut left = n;
     while 0 < left {
-        end += 4 * word(table, at + 3);
-        at += 5;
+        end += ROW_SIZE * word(table, at + 3);
+        at += SCOPE_SIZE;
         left -= 1;
     }
     end
 }
 
-// A row; the one in front of it has the id least - 1.
+// A row; the one before it has the id least - 1.
 fn row_rule(at: usize, id: usize, target: usize, kind: usize, least: usize) -> Break
-    requires { ⌜ (at + 3 < 2 ^ 32) × (id < 256) × (target < 65536) × (kind < 256) × (least < 2 ^ 32) ⌝ }
+    requires { ⌜ law.RowFits at id target kind least ⌝ }
     ensures { λ r. ⌜ r ≡ law.rowRule at id target kind least ⌝ }
 {
     if id < least {
         return broken(ID_ORDER, at, id, least - 1);
     }
-    if 0xFC < id {
+    if LAST_ID < id {
         return broken(ID_HIGH, at, id, 0);
     }
-    if 0x7FFF < target {
+    if LAST_TARGET < target {
         return broken(TARGET_HIGH, at + 1, target, 0);
     }
-    if 4 < kind {
+    if KIND_BYTES < kind {
         return broken(ROW_KIND, at + 3, kind, 0);
     }
     unbroken()
@@ -211,7 +236,7 @@ fn row_rule(at: usize, id: usize, target: usize, kind: usize, least: usize) -> B
 
 // The n rows from start on, of one scope.
 fn row_break(table: &[u8], start: usize, n: usize, scope: usize, kind: usize, code: usize) -> Break
-    requires { ⌜ (start + 4 * n + 4 < 2 ^ 32) × (scope < 2 ^ 32) × (kind < 2 ^ 32) × (code < 2 ^ 32) ⌝ }
+    requires { ⌜ law.RowsReady start n scope kind code ⌝ }
     ensures { λ r. ⌜ r ≡ law.rowBreak (now (table .entry)) start 0 scope kind code 1 n ⌝ }
 {
     let mut at = start;
@@ -225,7 +250,7 @@ fn row_break(table: &[u8], start: usize, n: usize, scope: usize, kind: usize, co
             return placed(found, scope, kind, code, number);
         }
         least = r.id + 1;
-        at += 4;
+        at += ROW_SIZE;
         number += 1;
         left -= 1;
     }
@@ -234,7 +259,7 @@ fn row_break(table: &[u8], start: usize, n: usize, scope: usize, kind: usize, co
 
 // The rows of n scopes.
 fn rows_break(table: &[u8], start: usize, bodies: usize, n: usize) -> Break
-    requires { ⌜ (start + 5 * n + 2 < 2 ^ 32) × (bodies + 262144 * n + 4 < 2 ^ 32) ⌝ }
+    requires { ⌜ law.ScopesReady start bodies n ⌝ }
     ensures { λ r. ⌜ r ≡ law.rowsBreak (now (table .entry)) start bodies 1 n ⌝ }
 {
     let mut at = start;
@@ -249,8 +274,8 @@ fn rows_break(table: &[u8], start: usize, bodies: usize, n: usize) -> Break
         if found.rule != 0 {
             return found;
         }
-        at += 5;
-        body += 4 * count;
+        at += SCOPE_SIZE;
+        body += ROW_SIZE * count;
         number += 1;
         left -= 1;
     }
@@ -259,8 +284,7 @@ fn rows_break(table: &[u8], start: usize, bodies: usize, n: usize) -> Break
 
 // The length against the contents, and then the rows.
 fn body_break(table: &[u8], contents: usize, bodies: usize, scopes: usize) -> Break
-    requires { ⌜ (contents ≡ contentsAt (now table)) × (bodies ≡ bodiesAt (now table)) × (scopes ≡ scopeCount (now table)) ⌝ }
-    requires { ⌜ (scopes ≤ 64) × (bodies ≤ length (now table)) × (length (now table) ≤ law.longest) ⌝ }
+    requires { ⌜ law.BodyReady (now table) contents bodies scopes ⌝ }
     ensures { λ r. ⌜ r ≡ law.bodyBreak (now (table .entry)) ⌝ }
 {
     let size = table.len();
@@ -280,19 +304,19 @@ fn search(table: &[u8]) -> Break
     ensures { λ r. ⌜ r ≡ law.searched (now (table .entry)) ⌝ }
 {
     let size = table.len();
-    if size < 4 {
-        return broken(TOO_SHORT, size, 4 - size, 0);
+    if size < HEADER_AT {
+        return broken(TOO_SHORT, size, HEADER_AT - size, 0);
     }
     let headers = byte(table, 1);
-    if 4 < headers {
+    if MOST_HEADERS < headers {
         return broken(MANY_HEADERS, 1, headers, 0);
     }
     let scopes = word(table, 2);
-    if 64 < scopes {
+    if MOST_SCOPES < scopes {
         return broken(MANY_SCOPES, 2, scopes, 0);
     }
-    let contents = 4 + 2 * headers;
-    let bodies = contents + 5 * scopes;
+    let contents = HEADER_AT + CODE_SIZE * headers;
+    let bodies = contents + SCOPE_SIZE * scopes;
     if size < bodies {
         return broken(TOO_SHORT, size, bodies - size, 0);
     }

@@ -1,8 +1,7 @@
-use mathlib.Core.Path.{_≡_, refl, sym, _∙_}
-use Prim.Native.Nat.{_+_, _*_, _≤_, _<_, _^_}
+use mathlib.Core.Path.{sym, _∙_}
+use Rattle.tablebreak.proofs.Turns.{order-fails, order-holds}
 use native.Mathlib.Omega.{arith}
 use borrow.Author.Needs.{needs}
-use Rattle.tablebreak.proofs.Turns.{order-fails, order-holds}
 use Rattle.tablebreak.proofs.order_rule.Statement.{statement}
 use Rattle.tablebreak.proofs.order_rule.Tie as tie
 
@@ -17,7 +16,7 @@ order-rule-spec =
     tie.close
     (tie.spec
     (λ c. omega arith)
-    (λ c κs. (omega arith, omega arith, omega arith))
+    (λ c κs. omega arith)
     returns
     (λ c κs. search needs)
     returns-2)
