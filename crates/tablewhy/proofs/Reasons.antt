@@ -4,11 +4,12 @@ use mathlib.Core.Bool.{Bool, true, false}
 use mathlib.Core.List.{List, [], _∷_, _++_}
 use Prim.Native.Nat.{ℕ, zero, suc, _-_, _≤_, _<_}
 use native.Mathlib.Omega.{arith}
-use borrow.Author.Tests.{lt-ltb, le-ltb, ltb-true, ltb-false, eq-eqb, ne-eqb, eqb-true, eqb-false}
-use lib.Dec.{ltb, eqb}
+use borrow.Author.Tests.{leb-true, lt-ltb, le-ltb, ltb-true, ltb-false, eq-eqb, ne-eqb, eqb-true, eqb-false}
+use lib.Dec.{leb, ltb, eqb}
 use lib.ListN.{length, getD, take, length-append, List·getD-eq-default}
-use Rattle.rules.specs.Lists.{text}
+use Rattle.rules.specs.Lists.{all, text}
 use Rattle.rules.specs.Digits.{decimal}
+use Rattle.rules.proofs.ListLaws.{and-l, and-r}
 use Rattle.text.specs.Writer.{Wrote}
 use Rattle.listing.proofs.Placed.{held}
 use Rattle.listing.proofs.Longest.{Word32, decimal-short}
@@ -50,33 +51,21 @@ line-short : (n : ℕ) → Word32 n → (b : Bool) → eqb n 0 ≡ b → length 
 line-short n h true e = rw (no-line n (eqb-true n 0 e)) (omega arith)
 line-short n h false e = rw (a-line n (eqb-false n 0 e)) (simp length-append (omega (arith, decimal-short n h)))
 
-words-short : (e : ℕ) → length (wordsWhy e) ≤ 75
-unfolding wordsWhy
-words-short zero = omega arith
-words-short (suc zero) = omega arith
-words-short (suc (suc zero)) = omega arith
-words-short (suc (suc (suc zero))) = omega arith
-words-short (suc (suc (suc (suc zero)))) = omega arith
-words-short (suc (suc (suc (suc (suc zero))))) = omega arith
-words-short (suc (suc (suc (suc (suc (suc zero)))))) = omega arith
-words-short (suc (suc (suc (suc (suc (suc (suc zero))))))) = omega arith
-words-short (suc (suc (suc (suc (suc (suc (suc (suc k)))))))) = omega arith
+-- each of a list of texts, and the one for every number past it
+texts-short : (n : ℕ) (xs : List (List ℕ)) (other : List ℕ) → length other ≤ n → all (λ (t : List ℕ). leb (length t) n) xs ≡ true → (k : ℕ) → length (getD xs k other) ≤ n
+unfolding all
+texts-short n [] other h e zero = h
+texts-short n [] other h e (suc k) = h
+texts-short n (x ∷ xs) other h e zero = leb-true (length x) n (and-l (leb (length x) n) _ e)
+texts-short n (x ∷ xs) other h e (suc k) = texts-short n xs other h (and-r (leb (length x) n) _ e) k
 
-texts-short : (k : ℕ) → length (getD ruleTexts k (text "there is no room for its table")) ≤ 75
-texts-short zero = omega arith
-texts-short (suc zero) = omega arith
-texts-short (suc (suc zero)) = omega arith
-texts-short (suc (suc (suc zero))) = omega arith
-texts-short (suc (suc (suc (suc zero)))) = omega arith
-texts-short (suc (suc (suc (suc (suc zero))))) = omega arith
-texts-short (suc (suc (suc (suc (suc (suc zero)))))) = omega arith
-texts-short (suc (suc (suc (suc (suc (suc (suc zero))))))) = omega arith
-texts-short (suc (suc (suc (suc (suc (suc (suc (suc zero)))))))) = omega arith
-texts-short (suc (suc (suc (suc (suc (suc (suc (suc (suc zero))))))))) = omega arith
-texts-short (suc (suc (suc (suc (suc (suc (suc (suc (suc (suc k)))))))))) = omega arith
+words-short : (e : ℕ) → length (wordsWhy e) ≤ 75
+unfolding wordsWhy all
+words-short e = texts-short 75 wordTexts (text "header lines stand before the first scope") (omega arith) refl e
 
 rules-short : (e : ℕ) → length (rulesWhy e) ≤ 75
-rules-short e = rw (rule-at e (e - 9) refl) (texts-short (e - 9))
+unfolding rulesWhy all
+rules-short e = texts-short 75 ruleTexts (text "there is no room for its table") (omega arith) refl (e - 9)
 
 why-short : (e : ℕ) → (b : Bool) → ltb e 9 ≡ b → length (why e) ≤ 75
 why-short e true q = rw (of-words e (ltb-true e 9 q)) (words-short e)

@@ -11,7 +11,7 @@ use Rattle.rules.specs.Digits.{decimal}
 unfoldable pub linePlace : ℕ → List ℕ
 linePlace line = cond (eqb line 0) [] (text "line " ++ (decimal line ++ text ": "))
 
--- of the words of a line, 0 to 8
+-- of the lines together and of their words, 0 to 8
 abbrev pub wordTexts : List (List ℕ)
 wordTexts =
     text "nothing is wrong"
@@ -27,7 +27,7 @@ wordTexts =
 unfoldable pub wordsWhy : ℕ → List ℕ
 wordsWhy error = getD wordTexts error (text "header lines stand before the first scope")
 
--- of a table's rules, 9 to 17, and of the text as a whole, from 18 on
+-- of a table's rules, 9 to 16, of the word for a kind, 17, and of the text as a whole, from 18 on
 abbrev pub ruleTexts : List (List ℕ)
 ruleTexts =
     text "header codes must ascend; this one doesn't"
@@ -51,6 +51,6 @@ why error = cond (ltb error 9) (wordsWhy error) (rulesWhy error)
 unfoldable pub whyText : ℕ → ℕ → List ℕ
 whyText error line = linePlace line ++ (why error ++ text "\n")
 
--- what stands in front of the table's bytes
+-- what stands before the table's bytes
 unfoldable pub sizeText : ℕ → List ℕ
 sizeText size = text "table " ++ (decimal size ++ text "\n")

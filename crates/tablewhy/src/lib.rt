@@ -1,10 +1,14 @@
-// The words for a text that can't be taken: the line, what is wrong and what to write; and the line in front of a table.
+// The words for a text that makes no table: the line, what is wrong there and what to write. `tablelines::faults` has the numbers.
+// Beside them the line that stands before the bytes of a table that was made.
 use text::put_byte;
 use text::put_decimal;
 use text::put_text;
 ghost use Prim.Native.Nat.{_≤_};
 ghost use Rattle.text.specs.Writer.{Wrote};
 ghost use Rattle.tablewhy.specs.Why as w;
+
+// From this number on an error is told in the words of `put_rules_why`.
+const FIRST_RULE: u32 = 9;
 
 fn put_line(out: &mut [u8], at: usize, line: u32) -> usize
     ensures { λ r. ⌜ Wrote (now (out .entry)) at (w.linePlace line) (now (out .exit)) r ⌝ }
@@ -17,6 +21,7 @@ fn put_line(out: &mut [u8], at: usize, line: u32) -> usize
     put_text(out, p, b": ")
 }
 
+// Of the lines together and of their words, up to FIRST_RULE.
 fn put_words_why(out: &mut [u8], at: usize, error: u32) -> usize
     ensures { λ r. ⌜ Wrote (now (out .entry)) at (w.wordsWhy error) (now (out .exit)) r ⌝ }
 {
@@ -37,6 +42,7 @@ fn put_words_why(out: &mut [u8], at: usize, error: u32) -> usize
     }
 }
 
+// Of a table's rules, of the word for a kind (17), and of the text as a whole.
 fn put_rules_why(out: &mut [u8], at: usize, error: u32) -> usize
     requires { ⌜ 9 ≤ error ⌝ }
     ensures { λ r. ⌜ Wrote (now (out .entry)) at (w.rulesWhy error) (now (out .exit)) r ⌝ }
@@ -63,7 +69,7 @@ fn put_rules_why(out: &mut [u8], at: usize, error: u32) -> usize
 fn put_why(out: &mut [u8], at: usize, error: u32) -> usize
     ensures { λ r. ⌜ Wrote (now (out .entry)) at (w.why error) (now (out .exit)) r ⌝ }
 {
-    if error < 9 {
+    if error < FIRST_RULE {
         put_words_why(out, at, error)
     } else {
         put_rules_why(out, at, error)
@@ -79,7 +85,7 @@ pub fn why_line(error: u32, line: u32, out: &mut [u8]) -> usize
     put_byte(out, p, b'\n')
 }
 
-// The line in front of a table.
+// The line before a table.
 pub fn size_line(size: u32, out: &mut [u8]) -> usize
     ensures { λ r. ⌜ Wrote (now (out .entry)) 0 (w.sizeText size) (now (out .exit)) r ⌝ }
 {

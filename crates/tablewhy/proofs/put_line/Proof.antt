@@ -10,8 +10,12 @@ returns c = rw (no-line (c .before .before .args .line) (omega (arith, c .if1 .t
 
 returns-2 : tie.Need-returns-2
 returns-2 c =
-    rw (a-line (c .before .before .before .before .before .before .before .before .before .before .before .before .before .before .before .before .args .line) (c .before .before .before .before .before .before .before .before .before .before .before .before .before .before .if1 .left))
-    (c .before .before .before .before .before .before .before .before .before .before .before .put-text .ensures ⨟ c .before .before .before .before .before .before .before .put-decimal .ensures ⨟ c .before .before .put-text2 .ensures)
+    let after-put-decimal : tie.After-put-decimal = search in
+    let after-put-text : tie.After-put-text = search in
+    let else1 : tie.Else1 = search in
+    let start : tie.Start = search in
+    rw (a-line (start .args .line) (else1 .if1 .left))
+    (after-put-text .put-text .ensures ⨟ after-put-decimal .put-decimal .ensures ⨟ c .before .before .put-text2 .ensures)
 
 pub put-line-spec : {M : Type 1} → statement M
 put-line-spec =

@@ -6,7 +6,10 @@ use Rattle.tablewhy.proofs.size_line.Tie as tie
 
 returns : tie.Need-returns
 unfolding sizeText
-returns c = c .before .before .before .before .before .before .before .before .before .before .put-text .ensures ⨟ c .before .before .before .before .before .before .put-decimal .ensures ⨟ c .before .before .put-byte .ensures
+returns c =
+    let after-put-decimal : tie.After-put-decimal = search in
+    let after-put-text : tie.After-put-text = search in
+    after-put-text .put-text .ensures ⨟ after-put-decimal .put-decimal .ensures ⨟ c .before .before .put-byte .ensures
 
 same-length : tie.Need-same-length
 same-length c = same (returns c)

@@ -6,7 +6,10 @@ use Rattle.tablewhy.proofs.why_line.Tie as tie
 
 returns : tie.Need-returns
 unfolding whyText
-returns c = c .before .before .before .before .before .before .before .before .before .before .put-line .ensures ⨟ c .before .before .before .before .before .before .put-why .ensures ⨟ c .before .before .put-byte .ensures
+returns c =
+    let after-put-why : tie.After-put-why = search in
+    let after-put-line : tie.After-put-line = search in
+    after-put-line .put-line .ensures ⨟ after-put-why .put-why .ensures ⨟ c .before .before .put-byte .ensures
 
 same-length : tie.Need-same-length
 same-length c = same (returns c)
