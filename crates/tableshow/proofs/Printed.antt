@@ -6,7 +6,6 @@ use Prim.Native.Nat.{ℕ, _+_, _≤_, _<_}
 use native.Mathlib.Omega.{arith}
 use lib.ListN.{length, take, length-append}
 use Rattle.rules.specs.CodeTable.{wellFormed}
-use Rattle.text.specs.Writer.{Wrote}
 use Rattle.listing.proofs.Placed.{held}
 use Rattle.tabletext.specs.Text.{tableText}
 use Rattle.tabletext.specs.Input.{Began, whole, filled}
@@ -14,11 +13,11 @@ use Rattle.joinlaws.proofs.JoinedLaws.{at-most}
 use Rattle.tabletext.proofs.Longest.{longest-table}
 use Rattle.tablebreak.specs.declared.Break.{Break}
 use Rattle.tablebreak.specs.Rules.{longest, breakOf}
 use Rattle.tablewords.specs.Words.{breakText}
-use Rattle.tablewords.specs.Shown.{shownText, longestShown}
+use Rattle.tableshow.specs.Shown.{shownText, longestShown, ShownIn, ShowReady}
 use Rattle.tablebreak.proofs.Turns.{over}
 use Rattle.tablebreak.proofs.Found.{named, unnamed}
 use Rattle.tablewords.proofs.Longest.{Words32, longest-break}
 
 formed-shown : (t : List ℕ) → wellFormed t ≡ true → shownText t ≡ tableText t
 unfolding shownText
@@ -45,9 +44,8 @@ all-shown r whole = refl
 all-shown r (filled {read} h rest) = long-shown read (read ++ rest) (omega arith) (omega (arith, length-append read rest))
 
 -- what is written into a buffer that has room is what is shown of all
-pub printed : {t o new : List ℕ} {e room : ℕ} → longest < room → Wrote o 0 (shownText t) new e → length (shownText t) ≤ longestShown → longestShown ≤ length o
-    → (all : List ℕ) → Began room t all → take e new ≡ shownText all
-printed r w h g all b = held w (omega arith) ∙ all-shown r b
+pub printed : {t o new input : List ℕ} {e : ℕ} → ShowReady input o → ShownIn o t new e → (all : List ℕ) → Began (length input) t all → take e new ≡ shownText all
+printed ready shown all b = held (shown .wrote) (omega (arith, shown .short, ready .room)) ∙ all-shown (ready .all-read) b
 
 -- ---- what the code has found
 module _ (t : List ℕ) {b : Break} (is : b ≡ breakOf t) where

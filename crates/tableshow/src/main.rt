@@ -3,11 +3,26 @@ use libc::STDIN_FILENO;
 use libc::STDOUT_FILENO;
 ghost use mathlib.Core.Path.{_≡_};
 ghost use mathlib.Core.List.{List};
-ghost use Prim.Native.Nat.{ℕ, _≤_, _<_};
-ghost use lib.ListN.{length};
+ghost use Prim.Native.Nat.{ℕ};
 ghost use Rattle.tabletext.specs.Input.{Began};
-ghost use Rattle.tablebreak.specs.Rules.{longest};
-ghost use Rattle.tablewords.specs.Shown.{shownText, longestShown};
+ghost use Rattle.tableshow.specs.Shown.{shownText, ShownIn, ShowReady};
+
+// A table has at most 65,100 bytes: one more is read, so that a longer one is told.
+const INPUT_ROOM: usize = 65101;
+
+// What is shown of a table has no more bytes than this.
+const SHOWN_ROOM: usize = 731386;
+
+// The text of a table, or the line that says where it breaks which rule, from the buffer's start on.
+fn show_table(table: &[u8], out: &mut [u8]) -> usize
+    ensures { λ r. ⌜ ShownIn (now (out .entry)) (now (table .entry)) (now (out .exit)) r ⌝ }
+{
+    let found = tablebreak::first_break(table);
+    if found.rule == 0 {
+        return tabletext::table_text(table, out);
+    }
+    tablewords::break_line(found, out)
+}
 
 // Prints what is shown of all that standard input has, of which `table` was read into room for `room` bytes.
 fn print(table: &[u8], room: usize, shown: &[u8])
@@ -17,18 +32,17 @@ fn print(table: &[u8], room: usize, shown: &[u8])
 }
 
 fn show(input: &mut [u8], out: &mut [u8])
-    requires { ⌜ (longest < length (now input)) × (longestShown ≤ length (now out)) ⌝ }
+    requires { ⌜ ShowReady (now input) (now out) ⌝ }
 {
     let room = input.len();
     let size = io::read_full(STDIN_FILENO, input);
     let table = &input[..size];
-    let end = tablewords::show_table(table, out);
+    let end = show_table(table, out);
     print(table, room, &out[..end]);
 }
 
-// A table has at most 65,100 bytes: one more is read, so that a longer one is told.
 fn main() {
-    let mut input = [0; 65101];
-    let mut out = [0; 731386];
+    let mut input = [0; INPUT_ROOM];
+    let mut out = [0; SHOWN_ROOM];
     show(&mut input, &mut out);
 }

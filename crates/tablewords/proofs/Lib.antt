@@ -1,4 +1,3 @@
 -- Laws of the line that says which rule is broken.
 pub mod Sentences
 pub mod Longest
-pub mod Printed

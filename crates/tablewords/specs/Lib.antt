@@ -1,3 +1,2 @@
--- How it is said where a code table breaks a rule, and what is shown of a table.
+-- How it is said where a code table breaks a rule.
 pub mod Words
-pub mod Shown

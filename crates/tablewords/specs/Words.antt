@@ -22,13 +22,13 @@ within b = cond (eqb (b .row) 0) (scopePlace (b .scope)) (rowPlace (b .row) (b .
 
 -- ---- the rule
 abbrev pub counted : List ℕ → ℕ → List ℕ → List ℕ
-counted before n behind = before ++ (decimal n ++ behind)
+counted before n after = before ++ (decimal n ++ after)
 
 abbrev pub coded : List ℕ → ℕ → ℕ → List ℕ → List ℕ
-coded before k n behind = before ++ (hex k n ++ behind)
+coded before digits n after = before ++ (hex digits n ++ after)
 
 abbrev pub ordered : List ℕ → ℕ → ℕ → ℕ → List ℕ → List ℕ
-ordered before k n other behind = before ++ (hex k n ++ (text " stands behind " ++ (hex k other ++ behind)))
+ordered before digits n other after = before ++ (hex digits n ++ (text " stands behind " ++ (hex digits other ++ after)))
 
 unfoldable pub scopesOrder : Break → List ℕ
 scopesOrder b =

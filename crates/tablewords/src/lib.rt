@@ -1,4 +1,4 @@
-// What is shown of a code table: its text, or the line that says where it breaks which rule.
+// The words for a code table that isn't well formed: one line with the place and the rule that it breaks there.
 use tablebreak::Break;
 use tabletext::put_scope_name;
 use text::put_byte;
@@ -6,12 +6,12 @@ use text::put_decimal;
 use text::put_hex;
 use text::put_text;
 ghost use Prim.Native.Nat.{_≤_};
-ghost use lib.ListN.{length};
 ghost use Rattle.text.specs.Writer.{Wrote};
 ghost use Rattle.tablewords.specs.Words as w;
-ghost use Rattle.tablewords.specs.Shown.{shownText, longestShown};
 
-// ---- the line
+// The rules before it are of the contents, those from it on of rows and of the length.
+const FIRST_BODY_RULE: u32 = 7;
+
 fn put_scope_place(out: &mut [u8], at: usize, scope: u32) -> usize
     ensures { λ r. ⌜ Wrote (now (out .entry)) at (w.scopePlace scope) (now (out .exit)) r ⌝ }
 {
@@ -41,38 +41,38 @@ fn put_within(out: &mut [u8], at: usize, b: Break) -> usize
 }
 
 // A text with a number in decimal, or in hex, or with two numbers in hex.
-fn put_counted(out: &mut [u8], at: usize, before: &[u8], n: u32, behind: &[u8]) -> usize
-    ensures { λ r. ⌜ Wrote (now (out .entry)) at (w.counted (now (before .entry)) n (now (behind .entry))) (now (out .exit)) r ⌝ }
+fn put_counted(out: &mut [u8], at: usize, before: &[u8], n: u32, after: &[u8]) -> usize
+    ensures { λ r. ⌜ Wrote (now (out .entry)) at (w.counted (now (before .entry)) n (now (after .entry))) (now (out .exit)) r ⌝ }
 {
     let p = put_text(out, at, before);
     let p = put_decimal(out, p, n);
-    put_text(out, p, behind)
+    put_text(out, p, after)
 }
 
-fn put_coded(out: &mut [u8], at: usize, before: &[u8], k: u32, n: u32, behind: &[u8]) -> usize
-    ensures { λ r. ⌜ Wrote (now (out .entry)) at (w.coded (now (before .entry)) k n (now (behind .entry))) (now (out .exit)) r ⌝ }
+fn put_coded(out: &mut [u8], at: usize, before: &[u8], digits: u32, n: u32, after: &[u8]) -> usize
+    ensures { λ r. ⌜ Wrote (now (out .entry)) at (w.coded (now (before .entry)) digits n (now (after .entry))) (now (out .exit)) r ⌝ }
 {
     let p = put_text(out, at, before);
-    let p = put_hex(out, p, k, n);
-    put_text(out, p, behind)
+    let p = put_hex(out, p, digits, n);
+    put_text(out, p, after)
 }
 
 fn put_ordered(
     out: &mut [u8],
     at: usize,
     before: &[u8],
-    k: u32,
+    digits: u32,
     n: u32,
     other: u32,
-    behind: &[u8],
+    after: &[u8],
 ) -> usize
-    ensures { λ r. ⌜ Wrote (now (out .entry)) at (w.ordered (now (before .entry)) k n other (now (behind .entry))) (now (out .exit)) r ⌝ }
+    ensures { λ r. ⌜ Wrote (now (out .entry)) at (w.ordered (now (before .entry)) digits n other (now (after .entry))) (now (out .exit)) r ⌝ }
 {
     let p = put_text(out, at, before);
-    let p = put_hex(out, p, k, n);
+    let p = put_hex(out, p, digits, n);
     let p = put_text(out, p, b" stands behind ");
-    let p = put_hex(out, p, k, other);
-    put_text(out, p, behind)
+    let p = put_hex(out, p, digits, other);
+    put_text(out, p, after)
 }
 
 fn put_scopes_order(out: &mut [u8], at: usize, b: Break) -> usize
@@ -135,7 +135,7 @@ fn put_body_rule(out: &mut [u8], at: usize, b: Break) -> usize
 fn put_rule(out: &mut [u8], at: usize, b: Break) -> usize
     ensures { λ r. ⌜ Wrote (now (out .entry)) at (w.ruleText b) (now (out .exit)) r ⌝ }
 {
-    if b.rule < 7 {
+    if b.rule < FIRST_BODY_RULE {
         put_contents_rule(out, at, b)
     } else {
         put_body_rule(out, at, b)
@@ -143,7 +143,7 @@ fn put_rule(out: &mut [u8], at: usize, b: Break) -> usize
 }
 
 // The line of a break, from the buffer's start on.
-fn break_line(b: Break, out: &mut [u8]) -> usize
+pub fn break_line(b: Break, out: &mut [u8]) -> usize
     ensures { λ r. ⌜ Wrote (now (out .entry)) 0 (w.breakText b) (now (out .exit)) r ⌝ }
 {
     let p = put_text(out, 0, b"byte ");
@@ -152,17 +152,4 @@ fn break_line(b: Break, out: &mut [u8]) -> usize
     let p = put_text(out, p, b": ");
     let p = put_rule(out, p, b);
     put_byte(out, p, b'\n')
-}
-
-// ---- the table
-// The text of a table, or the line that says where it breaks which rule, from the buffer's start on.
-pub fn show_table(table: &[u8], out: &mut [u8]) -> usize
-    ensures { λ r. ⌜ Wrote (now (out .entry)) 0 (shownText (now (table .entry))) (now (out .exit)) r ⌝ }
-    ensures { λ r. ⌜ length (shownText (now (table .entry))) ≤ longestShown ⌝ }
-{
-    let found = tablebreak::first_break(table);
-    if found.rule == 0 {
-        return tabletext::table_text(table, out);
-    }
-    break_line(found, out)
 }

@@ -3,18 +3,20 @@ use native.Mathlib.Omega.{arith}
 use borrow.Author.Needs.{needs}
 use lib.Seq.{length-take-le}
 use Rattle.listing.proofs.Placed.{within}
-use Rattle.tablewords.proofs.Printed.{printed}
+use Rattle.tableshow.proofs.Printed.{printed}
 use Rattle.tableshow.proofs.show.Statement.{statement}
 use Rattle.tableshow.proofs.show.Tie as tie
 
 slice-reshare-prefix-print : tie.Need-slice-reshare-prefix-print
-slice-reshare-prefix-print c = within (c .before .before .show-table .ensures .0)
+slice-reshare-prefix-print c = within (c .before .before .show-table .ensures .wrote)
 
 slice-aggregate-print : tie.Need-slice-aggregate-print
-slice-aggregate-print c = let w = c .before .before .before .show-table in sym (length-take-le (w .result) _ (within (w .ensures .0)))
+slice-aggregate-print c = let w = c .before .before .before .show-table in sym (length-take-le (w .result) _ (within (w .ensures .wrote)))
 
 print-requires : tie.Need-print-requires
-print-requires c κs = let w = c .before .before .before .show-table in let p = c .before .before .before .before .before .before .before .before .before .before .before .before .pre in printed (p .0) (w .ensures .0) (w .ensures .1) (p .1)
+print-requires c κs =
+    let start : tie.Start = search in
+    printed (start .pre) (c .before .before .before .show-table .ensures)
 
 pub show-spec : {M : Type 1} → statement M
 show-spec =

@@ -7,11 +7,16 @@ use Rattle.tablewords.proofs.break_line.Tie as tie
 returns : tie.Need-returns
 unfolding breakText
 returns c =
-    c .before .before .before .before .before .before .before .before .before .before .before .before .before .before .before .before .before .before .before .before .before .before .before .put-text .ensures
-    ⨟ c .before .before .before .before .before .before .before .before .before .before .before .before .before .before .before .before .before .before .before .put-decimal .ensures
-    ⨟ c .before .before .before .before .before .before .before .before .before .before .before .before .before .before .before .put-within .ensures
-    ⨟ c .before .before .before .before .before .before .before .before .before .before .put-text2 .ensures
-    ⨟ c .before .before .before .before .before .before .put-rule .ensures
+    let after-put-rule : tie.After-put-rule = search in
+    let after-put-text2 : tie.After-put-text2 = search in
+    let after-put-within : tie.After-put-within = search in
+    let after-put-decimal : tie.After-put-decimal = search in
+    let after-put-text : tie.After-put-text = search in
+    after-put-text .put-text .ensures
+    ⨟ after-put-decimal .put-decimal .ensures
+    ⨟ after-put-within .put-within .ensures
+    ⨟ after-put-text2 .put-text2 .ensures
+    ⨟ after-put-rule .put-rule .ensures
     ⨟ c .before .before .put-byte .ensures
 
 same-length : tie.Need-same-length

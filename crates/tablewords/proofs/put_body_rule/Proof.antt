@@ -7,30 +7,51 @@ use Rattle.tablewords.proofs.put_body_rule.Tie as tie
 
 returns : tie.Need-returns
 unfolding bodyWords
-returns c = rw (body-rule (c .before .before .before .before .before .before .before .before .args .b) 7 (c .before .before .before .before .before .before .match .keys1)) (c .before .before .put-ordered .ensures)
+returns c =
+    let at-match-keys1 : tie.At-match-keys1 = search in
+    let start : tie.Start = search in
+    rw (body-rule (start .args .b) 7 (at-match-keys1 .match .keys1)) (c .before .before .put-ordered .ensures)
 
 returns-2 : tie.Need-returns-2
 unfolding bodyWords
-returns-2 c = rw (body-rule (c .before .before .before .before .before .before .before .before .args .b) 8 (c .before .before .before .before .before .before .match .keys2)) (c .before .before .put-coded .ensures)
+returns-2 c =
+    let at-match-keys2 : tie.At-match-keys2 = search in
+    let start : tie.Start = search in
+    rw (body-rule (start .args .b) 8 (at-match-keys2 .match .keys2)) (c .before .before .put-coded .ensures)
 
 returns-3 : tie.Need-returns-3
 unfolding bodyWords
-returns-3 c = rw (body-rule (c .before .before .before .before .before .before .before .before .args .b) 9 (c .before .before .before .before .before .before .match .keys3)) (c .before .before .put-coded2 .ensures)
+returns-3 c =
+    let at-match-keys3 : tie.At-match-keys3 = search in
+    let start : tie.Start = search in
+    rw (body-rule (start .args .b) 9 (at-match-keys3 .match .keys3)) (c .before .before .put-coded2 .ensures)
 
 returns-4 : tie.Need-returns-4
 unfolding bodyWords
-returns-4 c = rw (body-rule (c .before .before .before .before .before .before .before .before .args .b) 10 (c .before .before .before .before .before .before .match .keys4)) (c .before .before .put-counted .ensures)
+returns-4 c =
+    let at-match-keys4 : tie.At-match-keys4 = search in
+    let start : tie.Start = search in
+    rw (body-rule (start .args .b) 10 (at-match-keys4 .match .keys4)) (c .before .before .put-counted .ensures)
 
 returns-5 : tie.Need-returns-5
 unfolding bodyWords
-returns-5 c = rw (body-rule (c .before .before .before .before .before .before .before .before .args .b) 11 (c .before .before .before .before .before .before .match .keys5)) (c .before .before .put-counted2 .ensures)
+returns-5 c =
+    let at-match-keys5 : tie.At-match-keys5 = search in
+    let start : tie.Start = search in
+    rw (body-rule (start .args .b) 11 (at-match-keys5 .match .keys5)) (c .before .before .put-counted2 .ensures)
 
 returns-6 : tie.Need-returns-6
 unfolding bodyWords
-returns-6 c = rw (body-rule (c .before .before .before .before .before .before .before .before .args .b) 12 (c .before .before .before .before .before .before .match .keys6)) (c .before .before .put-counted3 .ensures)
+returns-6 c =
+    let at-match-keys6 : tie.At-match-keys6 = search in
+    let start : tie.Start = search in
+    rw (body-rule (start .args .b) 12 (at-match-keys6 .match .keys6)) (c .before .before .put-counted3 .ensures)
 
 returns-7 : tie.Need-returns-7
-returns-7 c = rw (other-rule (c .before .before .before .before .before .before .before .args .b) (above 7 6 _ (c .before .before .before .before .before .before .before .pre) (c .before .before .before .before .before .match .rest))) (c .before .before .put-text .ensures)
+returns-7 c =
+    let at-match-rest : tie.At-match-rest = search in
+    let start : tie.Start = search in
+    rw (other-rule (start .args .b) (above 7 6 _ (start .pre) (at-match-rest .match .rest))) (c .before .before .put-text .ensures)
 
 pub put-body-rule-spec : {M : Type 1} → statement M
 put-body-rule-spec =

@@ -4,7 +4,10 @@ use Rattle.tablewords.proofs.put_coded.Statement.{statement}
 use Rattle.tablewords.proofs.put_coded.Tie as tie
 
 returns : tie.Need-returns
-returns c = c .before .before .before .before .before .before .before .before .before .before .put-text .ensures ⨟ c .before .before .before .before .before .before .put-hex .ensures ⨟ c .before .before .put-text2 .ensures
+returns c =
+    let after-put-hex : tie.After-put-hex = search in
+    let after-put-text : tie.After-put-text = search in
+    after-put-text .put-text .ensures ⨟ after-put-hex .put-hex .ensures ⨟ c .before .before .put-text2 .ensures
 
 pub put-coded-spec : {M : Type 1} → statement M
 put-coded-spec =

@@ -4,7 +4,10 @@ use Rattle.tablewords.proofs.put_counted.Statement.{statement}
 use Rattle.tablewords.proofs.put_counted.Tie as tie
 
 returns : tie.Need-returns
-returns c = c .before .before .before .before .before .before .before .before .before .before .put-text .ensures ⨟ c .before .before .before .before .before .before .put-decimal .ensures ⨟ c .before .before .put-text2 .ensures
+returns c =
+    let after-put-decimal : tie.After-put-decimal = search in
+    let after-put-text : tie.After-put-text = search in
+    after-put-text .put-text .ensures ⨟ after-put-decimal .put-decimal .ensures ⨟ c .before .before .put-text2 .ensures
 
 pub put-counted-spec : {M : Type 1} → statement M
 put-counted-spec =

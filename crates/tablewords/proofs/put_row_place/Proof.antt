@@ -6,7 +6,11 @@ use Rattle.tablewords.proofs.put_row_place.Tie as tie
 
 returns : tie.Need-returns
 unfolding rowPlace
-returns c = c .before .before .before .before .before .before .before .before .before .before .before .before .before .before .before .put-text .ensures ⨟ c .before .before .before .before .before .before .before .before .before .before .before .put-decimal .ensures ⨟ c .before .before .before .before .before .before .put-text2 .ensures ⨟ c .before .before .put-scope-name .ensures
+returns c =
+    let after-put-text2 : tie.After-put-text2 = search in
+    let after-put-decimal : tie.After-put-decimal = search in
+    let after-put-text : tie.After-put-text = search in
+    after-put-text .put-text .ensures ⨟ after-put-decimal .put-decimal .ensures ⨟ after-put-text2 .put-text2 .ensures ⨟ c .before .before .put-scope-name .ensures
 
 pub put-row-place-spec : {M : Type 1} → statement M
 put-row-place-spec =

@@ -9,7 +9,11 @@ returns : tie.Need-returns
 returns c = rw (no-scope (c .before .before .args .scope) (c .if1 .taken)) nothing
 
 returns-2 : tie.Need-returns-2
-returns-2 c = rw (a-scope (c .before .before .before .before .before .before .before .before .before .before .before .args .scope) (c .before .before .before .before .before .before .before .before .before .if1 .left)) (c .before .before .before .before .before .before .put-text .ensures ⨟ c .before .before .put-decimal .ensures)
+returns-2 c =
+    let after-put-text : tie.After-put-text = search in
+    let else1 : tie.Else1 = search in
+    let start : tie.Start = search in
+    rw (a-scope (start .args .scope) (else1 .if1 .left)) (after-put-text .put-text .ensures ⨟ c .before .before .put-decimal .ensures)
 
 pub put-scope-place-spec : {M : Type 1} → statement M
 put-scope-place-spec =

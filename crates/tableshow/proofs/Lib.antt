@@ -1,0 +1,2 @@
+-- Laws of what is shown of a table.
+pub mod Printed
