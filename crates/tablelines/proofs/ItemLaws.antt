@@ -1,90 +1,95 @@
 -- The item of a line's words, one test at a time.
 use Prim.Native.Nat.{ℕ, _≤_, _<_}
-use mathlib.Core.Path.{_≡_, refl, sym, ap, _∙_}
-use mathlib.Core.Bool.{Bool, true, false}
+use native.Mathlib.Omega.{arith}
+use mathlib.Core.Path.{_≡_, refl, sym, _∙_}
+use mathlib.Core.Bool.{Bool, true, false, cond}
 use mathlib.Core.List.{List}
-use borrow.Author.Tests.{lt-ltb, le-ltb, eq-eqb, ne-eqb}
+use borrow.Author.Tests.{lt-ltb, le-ltb, ltb-false, eq-eqb, ne-eqb}
+use lib.Dec.{ltb}
 use lib.ListN.{length}
 use Rattle.rules.specs.Lists.{text, same}
-use Rattle.tablelines.specs.Words.{twoOf, fourOf, kindOf}
-use Rattle.tablelines.specs.Items.{unknownWord, twoDigits, fourDigits, manyWords, unknownKind, layoutItem, headerItem, formItem, entryItem, rowItem, itemBy}
-use Rattle.tablelines.specs.declared.Item.the-variants.{Nothing, Layout, Header, Scope, Row, Bad}
+use Rattle.tablelines.specs.Faults.{unknownWord, fourDigits, manyWords, unknownKind}
+use Rattle.tablelines.specs.Words.{twoOf, fourOf, rowKindOf}
+use Rattle.tablelines.specs.Items.{numberFault, unless, layoutItem, headerItem, entryItem, plainScopeItem, rowItem, itemBy}
+use Rattle.tablelines.specs.declared.Item.{Item}
+use Rattle.tablelines.specs.declared.Item.the-variants.{Nothing, Scope, Row, Bad}
+
+-- what a test was told of its answer
+pub told : {answer wanted known : Bool} → answer ≡ wanted → answer ≡ known → wanted ≡ known
+told e q = sym e ∙ q
 
 -- ---- kinds
 module _ (w : List ℕ) where
-  pub a-number : same w (text "number") ≡ true → kindOf w ≡ 0
-  unfolding kindOf
+  pub a-number : same w (text "number") ≡ true → rowKindOf w ≡ 0
+  unfolding rowKindOf
   a-number e = rw e
 
   module _ (n : same w (text "number") ≡ false) where
-    pub a-text : same w (text "text") ≡ true → kindOf w ≡ 1
-    unfolding kindOf
+    pub a-text : same w (text "text") ≡ true → rowKindOf w ≡ 1
+    unfolding rowKindOf
     a-text e = rw (n, e)
 
     module _ (t : same w (text "text") ≡ false) where
-      pub a-guid : same w (text "guid") ≡ true → kindOf w ≡ 2
-      unfolding kindOf
+      pub a-guid : same w (text "guid") ≡ true → rowKindOf w ≡ 2
+      unfolding rowKindOf
       a-guid e = rw (n, t, e)
 
       module _ (g : same w (text "guid") ≡ false) where
-        pub a-double : same w (text "double") ≡ true → kindOf w ≡ 3
-        unfolding kindOf
+        pub a-double : same w (text "double") ≡ true → rowKindOf w ≡ 3
+        unfolding rowKindOf
         a-double e = rw (n, t, g, e)
 
-        pub some-bytes : same w (text "double") ≡ false → same w (text "bytes") ≡ true → kindOf w ≡ 4
-        unfolding kindOf
+        pub some-bytes : same w (text "double") ≡ false → same w (text "bytes") ≡ true → rowKindOf w ≡ 4
+        unfolding rowKindOf
         some-bytes d e = rw (n, t, g, d, e)
 
-        pub no-kind : same w (text "double") ≡ false → same w (text "bytes") ≡ false → kindOf w ≡ 5
-        unfolding kindOf
+        pub no-kind : same w (text "double") ≡ false → same w (text "bytes") ≡ false → rowKindOf w ≡ 5
+        unfolding rowKindOf
         no-kind d e = rw (n, t, g, d, e)
 
--- ---- a layout, a header code, a scope
-module _ (second third : List ℕ) where
-  pub layout-more : 0 < length third → layoutItem second third ≡ Bad manyWords
-  unfolding layoutItem
-  layout-more h = rw (lt-ltb 0 (length third) h)
-
-  pub header-more : 0 < length third → headerItem second third ≡ Bad manyWords
-  unfolding headerItem
-  header-more h = rw (lt-ltb 0 (length third) h)
-
-  pub entry-more : 0 < length third → entryItem second third ≡ Bad manyWords
-  unfolding entryItem
-  entry-more h = rw (lt-ltb 0 (length third) h)
+-- ---- a line of one number
+module _ (number most digits : ℕ) (third : List ℕ) where
+  pub number-more : 0 < length third → numberFault number most digits third ≡ manyWords
+  unfolding numberFault
+  number-more h = rw (lt-ltb 0 (length third) h)
 
   module _ (h : length third ≤ 0) where
-    pub layout-digits : 255 < twoOf second → layoutItem second third ≡ Bad twoDigits
-    unfolding layoutItem
-    layout-digits g = rw (le-ltb 0 (length third) h, lt-ltb 255 (twoOf second) g)
+    pub number-high : most < number → numberFault number most digits third ≡ digits
+    unfolding numberFault
+    number-high g = rw (le-ltb 0 (length third) h, lt-ltb most number g)
 
-    pub a-layout : twoOf second ≤ 255 → layoutItem second third ≡ Layout (twoOf second)
-    unfolding layoutItem
-    a-layout g = rw (le-ltb 0 (length third) h, le-ltb 255 (twoOf second) g)
+    pub number-taken : number ≤ most → numberFault number most digits third ≡ 0
+    unfolding numberFault
+    number-taken g = rw (le-ltb 0 (length third) h, le-ltb most number g)
 
-    pub header-digits : 65535 < fourOf second → headerItem second third ≡ Bad fourDigits
-    unfolding headerItem
-    header-digits g = rw (le-ltb 0 (length third) h, lt-ltb 65535 (fourOf second) g)
+  -- a number without a fault isn't above the most
+  fits-by : (a b : Bool) → ltb most number ≡ b → (digits ≡ 0 → ⊥) → cond a manyWords (cond b digits 0) ≡ 0 → number ≤ most
+  fits-by true b q d e = absurd (omega arith)
+  fits-by false true q d e = absurd (d e)
+  fits-by false false q d e = ltb-false most number q
 
-    pub a-header : fourOf second ≤ 65535 → headerItem second third ≡ Header (fourOf second)
-    unfolding headerItem
-    a-header g = rw (le-ltb 0 (length third) h, le-ltb 65535 (fourOf second) g)
+  pub number-fits : (digits ≡ 0 → ⊥) → numberFault number most digits third ≡ 0 → number ≤ most
+  unfolding numberFault
+  number-fits d e = fits-by (ltb 0 (length third)) (ltb most number) refl d e
 
-    pub entry-digits : 65535 < fourOf second → entryItem second third ≡ Bad fourDigits
-    unfolding entryItem
-    entry-digits g = rw (le-ltb 0 (length third) h, lt-ltb 65535 (fourOf second) g)
+-- the item that the code makes of the number that it has read, or the fault that it has found
+module _ (make : ℕ → Item) (most digits : ℕ) (third : List ℕ) {number read fault : ℕ} (is : read ≡ number) (found : fault ≡ numberFault read most digits third) where
+  pub number-bad : (fault ≡ 0 → ⊥) → unless (numberFault number most digits third) (make number) ≡ Bad fault
+  unfolding unless
+  number-bad h = rw (← is, ← found, ne-eqb fault 0 h)
 
-    pub an-entry : fourOf second ≤ 65535 → entryItem second third ≡ Scope 2 (fourOf second)
-    unfolding entryItem
-    an-entry g = rw (le-ltb 0 (length third) h, le-ltb 65535 (fourOf second) g)
+  pub number-made : fault ≡ 0 → unless (numberFault number most digits third) (make number) ≡ make read
+  unfolding unless
+  number-made h = rw (← is, ← found, eq-eqb fault 0 h)
 
-pub form-more : (kind : ℕ) (second : List ℕ) → 0 < length second → formItem kind second ≡ Bad manyWords
-unfolding formItem
-form-more kind second h = rw (lt-ltb 0 (length second) h)
+-- ---- a form, a report
+pub scope-more : (kind : ℕ) (second : List ℕ) → 0 < length second → plainScopeItem kind second ≡ Bad manyWords
+unfolding plainScopeItem
+scope-more kind second h = rw (lt-ltb 0 (length second) h)
 
-pub a-form : (kind : ℕ) (second : List ℕ) → length second ≤ 0 → formItem kind second ≡ Scope kind 0
-unfolding formItem
-a-form kind second h = rw (le-ltb 0 (length second) h)
+pub a-scope : (kind : ℕ) (second : List ℕ) → length second ≤ 0 → plainScopeItem kind second ≡ Scope kind 0
+unfolding plainScopeItem
+a-scope kind second h = rw (le-ltb 0 (length second) h)
 
 -- ---- a row
 module _ (first second third : List ℕ) (more : Bool) where
@@ -103,13 +108,13 @@ module _ (first second third : List ℕ) (more : Bool) where
       no-target g = rw (le-ltb 255 (twoOf first) h, e, lt-ltb 65535 (fourOf second) g)
 
       module _ (g : fourOf second ≤ 65535) where
-        pub row-kind : 4 < kindOf third → rowItem first second third more ≡ Bad unknownKind
+        pub row-kind : 4 < rowKindOf third → rowItem first second third more ≡ Bad unknownKind
         unfolding rowItem
-        row-kind k = rw (le-ltb 255 (twoOf first) h, e, le-ltb 65535 (fourOf second) g, lt-ltb 4 (kindOf third) k)
+        row-kind k = rw (le-ltb 255 (twoOf first) h, e, le-ltb 65535 (fourOf second) g, lt-ltb 4 (rowKindOf third) k)
 
-        pub a-row : kindOf third ≤ 4 → rowItem first second third more ≡ Row (twoOf first) (fourOf second) (kindOf third)
+        pub a-row : rowKindOf third ≤ 4 → rowItem first second third more ≡ Row (twoOf first) (fourOf second) (rowKindOf third)
         unfolding rowItem
-        a-row k = rw (le-ltb 255 (twoOf first) h, e, le-ltb 65535 (fourOf second) g, le-ltb 4 (kindOf third) k)
+        a-row k = rw (le-ltb 255 (twoOf first) h, e, le-ltb 65535 (fourOf second) g, le-ltb 4 (rowKindOf third) k)
 
 -- ---- what a line is
 module _ (first second third : List ℕ) (more : Bool) where
@@ -128,12 +133,12 @@ module _ (first second third : List ℕ) (more : Bool) where
       of-header e = rw (ne-eqb (length first) 0 n, l, e)
 
       module _ (h : same first (text "header") ≡ false) where
-        pub of-form : same first (text "form") ≡ true → itemBy first second third more ≡ formItem 0 second
+        pub of-form : same first (text "form") ≡ true → itemBy first second third more ≡ plainScopeItem 0 second
         unfolding itemBy
         of-form e = rw (ne-eqb (length first) 0 n, l, h, e)
 
         module _ (f : same first (text "form") ≡ false) where
-          pub of-report : same first (text "report") ≡ true → itemBy first second third more ≡ formItem 1 second
+          pub of-report : same first (text "report") ≡ true → itemBy first second third more ≡ plainScopeItem 1 second
           unfolding itemBy
           of-report e = rw (ne-eqb (length first) 0 n, l, h, f, e)
 

@@ -10,8 +10,8 @@ use lib.Dec.{ltb, eqb}
 use lib.ListN.{length, getD, take, drop, drop-of-length-le}
 use lib.Seq.{drop-cons}
 use Rattle.rules.specs.Lists.{same}
-use Rattle.tablelines.specs.Words.{lineEnd, sign, letter, blank, isBlank, stops, before, onward, word, behind, digitOf, pairOf, wideOf, twoOf, fourOf}
-use Rattle.tablelines.specs.Items.{part, Until, WordAt}
+use Rattle.tablelines.specs.Words.{lineEnd, sign, letter, blank, isBlank, stops, before, onward, word, afterWord, digitOf, byteOf, codeOf, twoOf, fourOf}
+use Rattle.tablelines.specs.Items.{between, Digit, Until, WordAt}
 use Rattle.tablelines.specs.declared.Word.{Word}
 
 -- ---- what a byte stops
@@ -44,27 +44,27 @@ module _ (search b : ℕ) where
   unfolding stops
   at-blank n m k = rw (ne-eqb search 0 n, ne-eqb search 1 m, ne-eqb search 2 k)
 
--- ---- a part of a list
-pub part-empty : (s : List ℕ) (r : ℕ) → part s r r ≡ []
-part-empty s r = let e : r - r ≡ 0 = omega arith in rw e
+-- ---- the bytes between two places
+pub between-empty : (s : List ℕ) (r : ℕ) → between s r r ≡ []
+between-empty s r = let e : r - r ≡ 0 = omega arith in rw e
 
-pub part-cons : (s : List ℕ) (at r : ℕ) → at < r → r ≤ length s → part s at r ≡ getD s at 0 ∷ part s (suc at) r
-part-cons s at r l h = let e : r - at ≡ suc (r - suc at) = omega arith in rw (e, drop-cons s at 0 (omega arith))
+pub between-cons : (s : List ℕ) (at r : ℕ) → at < r → r ≤ length s → between s at r ≡ getD s at 0 ∷ between s (suc at) r
+between-cons s at r l h = let e : r - at ≡ suc (r - suc at) = omega arith in rw (e, drop-cons s at 0 (omega arith))
 
 -- ---- a search
 -- no byte from `at` up to p stops it
-abbrev pub Passed : ℕ → List ℕ → ℕ → ℕ → Type 0
-Passed search s at p = (i : ℕ) → at ≤ i → i < p → stops search (getD s i 0) ≡ false
+abbrev pub Skipped : ℕ → List ℕ → ℕ → ℕ → Type 0
+Skipped search s at p = (i : ℕ) → at ≤ i → i < p → stops search (getD s i 0) ≡ false
 
-pub none-passed : (search : ℕ) (s : List ℕ) (at : ℕ) → Passed search s at at
-none-passed search s at i h l = absurd (omega arith)
+pub none-skipped : (search : ℕ) (s : List ℕ) (at : ℕ) → Skipped search s at at
+none-skipped search s at i h l = absurd (omega arith)
 
-passed-by : (search : ℕ) (s : List ℕ) (at p i : ℕ) (t : Bool) → eqb i p ≡ t → Passed search s at p → stops search (getD s p 0) ≡ false → at ≤ i → i < p + 1 → stops search (getD s i 0) ≡ false
-passed-by search s at p i true e h z a l = ap (λ (k : ℕ). stops search (getD s k 0)) (eqb-true i p e) ∙ z
-passed-by search s at p i false e h z a l = let n = eqb-false i p e in h i a (omega arith)
+skipped-by : (search : ℕ) (s : List ℕ) (at p i : ℕ) (t : Bool) → eqb i p ≡ t → Skipped search s at p → stops search (getD s p 0) ≡ false → at ≤ i → i < p + 1 → stops search (getD s i 0) ≡ false
+skipped-by search s at p i true e h z a l = ap (λ (k : ℕ). stops search (getD s k 0)) (eqb-true i p e) ∙ z
+skipped-by search s at p i false e h z a l = let n = eqb-false i p e in h i a (omega arith)
 
-pub one-passed : (search : ℕ) (s : List ℕ) (at p : ℕ) → Passed search s at p → stops search (getD s p 0) ≡ false → Passed search s at (p + 1)
-one-passed search s at p h z i a l = passed-by search s at p i (eqb i p) refl h z a l
+pub one-skipped : (search : ℕ) (s : List ℕ) (at p : ℕ) → Skipped search s at p → stops search (getD s p 0) ≡ false → Skipped search s at (p + 1)
+one-skipped search s at p h z i a l = skipped-by search s at p i (eqb i p) refl h z a l
 
 module _ (search : ℕ) (s : List ℕ) (r : ℕ) (inside : r ≤ length s) (stop : r < length s → stops search (getD s r 0) ≡ true) where
   -- what the search finds from r on
@@ -73,12 +73,12 @@ module _ (search : ℕ) (s : List ℕ) (r : ℕ) (inside : r ≤ length s) (stop
   here-by true e = let l : r < length s = ltb-true r (length s) e in let d = drop-cons s r 0 l in let z = stop l in (rw (d, z), rw (d, z))
   here-by false e = let d : drop r s ≡ [] = drop-of-length-le s (ltb-false r (length s) e) in (rw d, rw d)
 
-  found-by : (n at : ℕ) → at + n ≡ r → Passed search s at r → (before search (drop at s) ≡ part s at r) × (onward search (drop at s) ≡ drop r s)
+  found-by : (n at : ℕ) → at + n ≡ r → Skipped search s at r → (before search (drop at s) ≡ between s at r) × (onward search (drop at s) ≡ drop r s)
   unfolding before onward
   found-by zero at e h =
       let q : at ≡ r = omega arith in
       let z = here-by (ltb r (length s)) refl in
-      rw q (z .0 ∙ sym (part-empty s r), z .1)
+      rw q (z .0 ∙ sym (between-empty s r), z .1)
   found-by (suc n) at e h =
       let l : at < r = omega arith in
       let d = drop-cons s at 0 (omega arith) in
@@ -86,18 +86,18 @@ module _ (search : ℕ) (s : List ℕ) (r : ℕ) (inside : r ≤ length s) (stop
       let k = found-by n (suc at) (omega arith) (λ i a b. h i (omega arith) b) in
       let front : before search (drop at s) ≡ getD s at 0 ∷ before search (drop (suc at) s) = rw (d, z) in
       let back : onward search (drop at s) ≡ onward search (drop (suc at) s) = rw (d, z) in
-      (front ∙ ap (λ (x : List ℕ). getD s at 0 ∷ x) (k .0) ∙ sym (part-cons s at r l inside), back ∙ k .1)
+      (front ∙ ap (λ (x : List ℕ). getD s at 0 ∷ x) (k .0) ∙ sym (between-cons s at r l inside), back ∙ k .1)
 
-  pub found : (at : ℕ) → at ≤ r → Passed search s at r → Until search s at r
+  pub found : (at : ℕ) → at ≤ r → Skipped search s at r → Until search s at r
   found at a h =
       let n : at + (r - at) ≡ r = omega arith in
       let k = found-by (r - at) at n h in
       record { from = a; to = inside; front = k .0; back = k .1 }
 
 -- ---- a word
-pub word-found : (s : List ℕ) (at from to : ℕ) → Until letter s at from → Until blank s from to → WordAt s at (record { from = from; to = to })
-unfolding word behind
-word-found s at from to a b = record {
+pub word-found : {s : List ℕ} {at from to : ℕ} → Until letter s at from → Until blank s from to → WordAt s at (record { from = from; to = to })
+unfolding word afterWord
+word-found a b = record {
   order = b .from;
   inside = b .to;
   is = ap (before blank) (a .back) ∙ b .front;
@@ -155,38 +155,38 @@ module _ (b : ℕ) where
   unfolding digitOf
   a-letter h g = rw (le-leb 48 b (omega arith), lt-leb b 57 (omega arith), le-leb 65 b (omega arith), lt-leb b 70 (omega arith), le-leb 97 b h, le-leb b 102 g)
 
-  pub behind-letters : 102 < b → digitOf b ≡ 16
+  pub after-letters : 102 < b → digitOf b ≡ 16
   unfolding digitOf
-  behind-letters h = rw (le-leb 48 b (omega arith), lt-leb b 57 (omega arith), le-leb 65 b (omega arith), lt-leb b 70 (omega arith), le-leb 97 b (omega arith), lt-leb b 102 h)
+  after-letters h = rw (le-leb 48 b (omega arith), lt-leb b 57 (omega arith), le-leb 65 b (omega arith), lt-leb b 70 (omega arith), le-leb 97 b (omega arith), lt-leb b 102 h)
 
 -- ---- numbers, by the numbers that were read of their digits
-module _ (a b high low : ℕ) (e : high ≡ digitOf a) (f : low ≡ digitOf b) where
-  pub no-high : 15 < high → pairOf a b ≡ 256
-  unfolding pairOf
-  no-high h = rw (← e, le-ltb high 16 h)
+module _ {a b high low : ℕ} (h : Digit a high) (l : Digit b low) where
+  pub no-high : high ≡ 16 → byteOf a b ≡ 256
+  unfolding byteOf
+  no-high e = rw (← (h .is), le-ltb high 16 (omega arith))
 
-  pub no-low : high ≤ 15 → 15 < low → pairOf a b ≡ 256
-  unfolding pairOf
-  no-low g h = rw (← e, ← f, lt-ltb high 16 (omega arith), le-ltb low 16 h)
+  pub no-low : (high ≡ 16 → ⊥) → low ≡ 16 → byteOf a b ≡ 256
+  unfolding byteOf
+  no-low n e = let s = h .small in rw (← (h .is), ← (l .is), lt-ltb high 16 (omega arith), le-ltb low 16 (omega arith))
 
-  pub a-pair : high ≤ 15 → low ≤ 15 → pairOf a b ≡ 16 * high + low
-  unfolding pairOf
-  a-pair g h = rw (← e, ← f, lt-ltb high 16 (omega arith), lt-ltb low 16 (omega arith))
+  pub a-byte : (high ≡ 16 → ⊥) → (low ≡ 16 → ⊥) → byteOf a b ≡ 16 * high + low
+  unfolding byteOf
+  a-byte n m = let s = h .small in let t = l .small in rw (← (h .is), ← (l .is), lt-ltb high 16 (omega arith), lt-ltb low 16 (omega arith))
 
 module _ (high low : ℕ) where
-  pub no-wide-high : 255 < high → wideOf high low ≡ 65536
-  unfolding wideOf
-  no-wide-high h = rw (le-ltb high 256 h)
+  pub no-high-byte : 256 ≤ high → codeOf high low ≡ 65536
+  unfolding codeOf
+  no-high-byte h = rw (le-ltb high 256 h)
 
-  pub no-wide-low : high ≤ 255 → 255 < low → wideOf high low ≡ 65536
-  unfolding wideOf
-  no-wide-low g h = rw (lt-ltb high 256 (omega arith), le-ltb low 256 h)
+  pub no-low-byte : high < 256 → 256 ≤ low → codeOf high low ≡ 65536
+  unfolding codeOf
+  no-low-byte g h = rw (lt-ltb high 256 g, le-ltb low 256 h)
 
-  pub a-wide : high ≤ 255 → low ≤ 255 → wideOf high low ≡ 256 * high + low
-  unfolding wideOf
-  a-wide g h = rw (lt-ltb high 256 (omega arith), lt-ltb low 256 (omega arith))
+  pub a-code : high < 256 → low < 256 → codeOf high low ≡ 256 * high + low
+  unfolding codeOf
+  a-code g h = rw (lt-ltb high 256 g, lt-ltb low 256 h)
 
-pub two-digits : (w : List ℕ) → length w ≡ 2 → twoOf w ≡ pairOf (getD w 0 0) (getD w 1 0)
+pub two-digits : (w : List ℕ) → length w ≡ 2 → twoOf w ≡ byteOf (getD w 0 0) (getD w 1 0)
 unfolding twoOf
 two-digits w e = rw (eq-eqb (length w) 2 e)
 
@@ -194,7 +194,7 @@ pub not-two : (w : List ℕ) → (length w ≡ 2 → ⊥) → twoOf w ≡ 256
 unfolding twoOf
 not-two w n = rw (ne-eqb (length w) 2 n)
 
-pub four-digits : (w : List ℕ) → length w ≡ 4 → fourOf w ≡ wideOf (pairOf (getD w 0 0) (getD w 1 0)) (pairOf (getD w 2 0) (getD w 3 0))
+pub four-digits : (w : List ℕ) → length w ≡ 4 → fourOf w ≡ codeOf (byteOf (getD w 0 0) (getD w 1 0)) (byteOf (getD w 2 0) (getD w 3 0))
 unfolding fourOf
 four-digits w e = rw (eq-eqb (length w) 4 e)
 

@@ -51,12 +51,12 @@ unfoldable pub onward : ℕ → List ℕ → List ℕ
 onward search [] = []
 onward search (b ∷ s) = cond (stops search b) (b ∷ s) (onward search s)
 
--- the first word, without a letter where there is none; and what stands behind it
+-- the first word, without a letter where there is none; and what stands after it
 unfoldable pub word : List ℕ → List ℕ
 word s = before blank (onward letter s)
 
-unfoldable pub behind : List ℕ → List ℕ
-behind s = onward blank (onward letter s)
+unfoldable pub afterWord : List ℕ → List ℕ
+afterWord s = onward blank (onward letter s)
 
 -- ---- numbers
 -- the number of a hex digit, in capitals or small letters, or 16
@@ -68,24 +68,24 @@ digitOf b =
     16))
 
 -- the number of two hex digits, or 256
-unfoldable pub pairOf : ℕ → ℕ → ℕ
-pairOf a b = cond (ltb (digitOf a) 16 && ltb (digitOf b) 16) (16 * digitOf a + digitOf b) 256
+unfoldable pub byteOf : ℕ → ℕ → ℕ
+byteOf a b = cond (ltb (digitOf a) 16 && ltb (digitOf b) 16) (16 * digitOf a + digitOf b) 256
 
 -- the number of a word of two hex digits, or 256
 unfoldable pub twoOf : List ℕ → ℕ
-twoOf w = cond (eqb (length w) 2) (pairOf (getD w 0 0) (getD w 1 0)) 256
+twoOf w = cond (eqb (length w) 2) (byteOf (getD w 0 0) (getD w 1 0)) 256
 
--- the number of two pairs, or 65536
-unfoldable pub wideOf : ℕ → ℕ → ℕ
-wideOf high low = cond (ltb high 256 && ltb low 256) (256 * high + low) 65536
+-- the number of two bytes, the high one first, or 65536
+unfoldable pub codeOf : ℕ → ℕ → ℕ
+codeOf high low = cond (ltb high 256 && ltb low 256) (256 * high + low) 65536
 
 -- the number of a word of four hex digits, or 65536
 unfoldable pub fourOf : List ℕ → ℕ
-fourOf w = cond (eqb (length w) 4) (wideOf (pairOf (getD w 0 0) (getD w 1 0)) (pairOf (getD w 2 0) (getD w 3 0))) 65536
+fourOf w = cond (eqb (length w) 4) (codeOf (byteOf (getD w 0 0) (getD w 1 0)) (byteOf (getD w 2 0) (getD w 3 0))) 65536
 
--- the number of a kind's word, or 5
-unfoldable pub kindOf : List ℕ → ℕ
-kindOf w =
+-- the number of the word for a row's kind, or 5
+unfoldable pub rowKindOf : List ℕ → ℕ
+rowKindOf w =
     cond (same w (text "number")) 0
     (cond (same w (text "text")) 1
     (cond (same w (text "guid")) 2

@@ -1,4 +1,11 @@
-// Reads the text of a code table line by line: what each line says, or why it can't be taken. specs/Words.antt and specs/Items.antt say what is read.
+// What a line of a code table's text says, or why it can't be taken: its words (specs/Words.antt), and the item that they make (specs/Items.antt).
+pub mod faults; // faults.rt: why a text makes no table
+
+use faults::FOUR_DIGITS;
+use faults::MANY_WORDS;
+use faults::TWO_DIGITS;
+use faults::UNKNOWN_KIND;
+use faults::UNKNOWN_WORD;
 ghost use mathlib.Core.Path.{_≡_};
 ghost use Prim.Native.Nat.{_≤_, _<_};
 ghost use lib.ListN.{length, getD, drop};
@@ -7,16 +14,30 @@ ghost use Rattle.tablelines.specs.Words as w;
 ghost use Rattle.tablelines.specs.Items as i;
 ghost use Rattle.tablelines.specs.declared.Item.the-variants.{Bad as badItem};
 
-// Why a line's words can't be taken; `tablewhy` has the words for it.
-pub const UNKNOWN_WORD: u32 = 4;
+// What a search stops at: the end of a line, the sign of a remark, a letter of a word, a blank.
+const LINE_END: u32 = 0;
 
-pub const TWO_DIGITS: u32 = 5;
+const SIGN: u32 = 1;
 
-pub const FOUR_DIGITS: u32 = 6;
+const LETTER: u32 = 2;
 
-pub const MANY_WORDS: u32 = 7;
+const BLANK: u32 = 3;
 
-pub const UNKNOWN_KIND: u32 = 17;
+// What stands in the place of a number where there is none: no hex digit, no byte, no two bytes, no kind of a row.
+const NO_DIGIT: u32 = 16;
+
+const NO_BYTE: u32 = 256;
+
+const NO_CODE: u32 = 65536;
+
+const NO_ROW_KIND: u32 = 5;
+
+// The kinds of a scope.
+const SCOPE_FORM: u8 = 0;
+
+const SCOPE_REPORT: u8 = 1;
+
+const SCOPE_ENTRY: u8 = 2;
 
 // What a line says.
 pub enum Item {
@@ -28,7 +49,7 @@ pub enum Item {
     Bad { error: u32 },
 }
 
-// A word, from its first byte to the place behind it.
+// A word: its first byte, and the place after it.
 pub struct Word {
     pub from: usize,
     pub to: usize,
@@ -47,17 +68,16 @@ fn is_blank(b: u8) -> bool
     b == b' ' || (b == b'\t' || b == b'\r')
 }
 
-// What a search stops at: 0 the end of a line, 1 a remark, 2 a word, 3 a blank.
 fn stops(search: u32, b: u8) -> bool
     ensures { λ r. ⌜ r ≡ w.stops search b ⌝ }
 {
-    if search == 0 {
+    if search == LINE_END {
         return b == b'\n';
     }
-    if search == 1 {
+    if search == SIGN {
         return b == b'#';
     }
-    if search == 2 {
+    if search == LETTER {
         return !is_blank(b);
     }
     is_blank(b)
@@ -82,8 +102,8 @@ fn word_at(s: &[u8], at: usize) -> Word
     requires { ⌜ at ≤ length (now s) ⌝ }
     ensures { λ r. ⌜ i.WordAt (now (s .entry)) at r ⌝ }
 {
-    let from = until(s, at, 2);
-    let to = until(s, from, 3);
+    let from = until(s, at, LETTER);
+    let to = until(s, from, BLANK);
     Word { from, to }
 }
 
@@ -105,78 +125,78 @@ fn same_word(a: &[u8], b: &[u8]) -> bool
 
 // ---- numbers
 fn digit_of(b: u8) -> u32
-    ensures { λ r. ⌜ (r ≡ w.digitOf b) × (r ≤ 16) ⌝ }
+    ensures { λ r. ⌜ i.Digit b r ⌝ }
 {
-    if b < 48 {
-        return 16;
+    if b < b'0' {
+        return NO_DIGIT;
     }
-    if b <= 57 {
+    if b <= b'9' {
         return (b - 48) as u32;
     }
-    if b < 65 {
-        return 16;
+    if b < b'A' {
+        return NO_DIGIT;
     }
-    if b <= 70 {
+    if b <= b'F' {
         return (b - 55) as u32;
     }
-    if b < 97 {
-        return 16;
+    if b < b'a' {
+        return NO_DIGIT;
     }
-    if b <= 102 {
+    if b <= b'f' {
         return (b - 87) as u32;
     }
-    16
+    NO_DIGIT
 }
 
-fn pair_of(a: u8, b: u8) -> u32
-    ensures { λ r. ⌜ r ≡ w.pairOf a b ⌝ }
+fn byte_of(a: u8, b: u8) -> u32
+    ensures { λ r. ⌜ r ≡ w.byteOf a b ⌝ }
 {
     let high = digit_of(a);
     let low = digit_of(b);
-    if 15 < high {
-        return 256;
+    if high == NO_DIGIT {
+        return NO_BYTE;
     }
-    if 15 < low {
-        return 256;
+    if low == NO_DIGIT {
+        return NO_BYTE;
     }
     16 * high + low
 }
 
-// The number of a word of two hex digits, or 256.
+// The number of a word of two hex digits.
 fn two_of(word: &[u8]) -> u32
     ensures { λ r. ⌜ r ≡ w.twoOf (now (word .entry)) ⌝ }
 {
     if word.len() == 2 {
-        return pair_of(word[0], word[1]);
+        return byte_of(word[0], word[1]);
     }
-    256
+    NO_BYTE
 }
 
-fn wide_of(high: u32, low: u32) -> u32
-    ensures { λ r. ⌜ r ≡ w.wideOf high low ⌝ }
+fn code_of(high: u32, low: u32) -> u32
+    ensures { λ r. ⌜ r ≡ w.codeOf high low ⌝ }
 {
-    if 255 < high {
-        return 65536;
+    if NO_BYTE <= high {
+        return NO_CODE;
     }
-    if 255 < low {
-        return 65536;
+    if NO_BYTE <= low {
+        return NO_CODE;
     }
     256 * high + low
 }
 
-// The number of a word of four hex digits, or 65536.
+// The number of a word of four hex digits.
 fn four_of(word: &[u8]) -> u32
     ensures { λ r. ⌜ r ≡ w.fourOf (now (word .entry)) ⌝ }
 {
     if word.len() == 4 {
-        return wide_of(pair_of(word[0], word[1]), pair_of(word[2], word[3]));
+        return code_of(byte_of(word[0], word[1]), byte_of(word[2], word[3]));
     }
-    65536
+    NO_CODE
 }
 
-// The number of a kind's word, or 5.
-fn kind_of(word: &[u8]) -> u32
-    ensures { λ r. ⌜ r ≡ w.kindOf (now (word .entry)) ⌝ }
+// The number of the word for a row's kind.
+fn row_kind_of(word: &[u8]) -> u32
+    ensures { λ r. ⌜ r ≡ w.rowKindOf (now (word .entry)) ⌝ }
 {
     if same_word(word, b"number") {
         return 0;
@@ -193,7 +213,7 @@ fn kind_of(word: &[u8]) -> u32
     if same_word(word, b"bytes") {
         return 4;
     }
-    5
+    NO_ROW_KIND
 }
 
 // ---- items
@@ -203,15 +223,26 @@ fn bad(error: u32) -> Item
     Item::Bad { error }
 }
 
+// Why a line of one number can't be taken, 0 where it can: it has a third word, or the second isn't a number up to `most`.
+fn number_fault(number: u32, most: u32, digits: u32, third: &[u8]) -> u32
+    ensures { λ r. ⌜ r ≡ i.numberFault number most digits (now (third .entry)) ⌝ }
+{
+    if 0 < third.len() {
+        return MANY_WORDS;
+    }
+    if most < number {
+        return digits;
+    }
+    0
+}
+
 fn layout_item(second: &[u8], third: &[u8]) -> Item
     ensures { λ r. ⌜ r ≡ i.layoutItem (now (second .entry)) (now (third .entry)) ⌝ }
 {
-    if 0 < third.len() {
-        return bad(MANY_WORDS);
-    }
     let byte = two_of(second);
-    if 255 < byte {
-        return bad(TWO_DIGITS);
+    let fault = number_fault(byte, 255, TWO_DIGITS, third);
+    if fault != 0 {
+        return bad(fault);
     }
     Item::Layout { byte: byte as u8 }
 }
@@ -219,18 +250,31 @@ fn layout_item(second: &[u8], third: &[u8]) -> Item
 fn header_item(second: &[u8], third: &[u8]) -> Item
     ensures { λ r. ⌜ r ≡ i.headerItem (now (second .entry)) (now (third .entry)) ⌝ }
 {
-    if 0 < third.len() {
-        return bad(MANY_WORDS);
-    }
     let code = four_of(second);
-    if 65535 < code {
-        return bad(FOUR_DIGITS);
+    let fault = number_fault(code, 65535, FOUR_DIGITS, third);
+    if fault != 0 {
+        return bad(fault);
     }
     Item::Header { code: code as u16 }
 }
 
-fn form_item(kind: u8, second: &[u8]) -> Item
-    ensures { λ r. ⌜ r ≡ i.formItem kind (now (second .entry)) ⌝ }
+fn entry_item(second: &[u8], third: &[u8]) -> Item
+    ensures { λ r. ⌜ r ≡ i.entryItem (now (second .entry)) (now (third .entry)) ⌝ }
+{
+    let code = four_of(second);
+    let fault = number_fault(code, 65535, FOUR_DIGITS, third);
+    if fault != 0 {
+        return bad(fault);
+    }
+    Item::Scope {
+        kind: SCOPE_ENTRY,
+        code: code as u16,
+    }
+}
+
+// A form or a report.
+fn plain_scope_item(kind: u8, second: &[u8]) -> Item
+    ensures { λ r. ⌜ r ≡ i.plainScopeItem kind (now (second .entry)) ⌝ }
 {
     if 0 < second.len() {
         return bad(MANY_WORDS);
@@ -238,38 +282,22 @@ fn form_item(kind: u8, second: &[u8]) -> Item
     Item::Scope { kind, code: 0 }
 }
 
-fn entry_item(second: &[u8], third: &[u8]) -> Item
-    ensures { λ r. ⌜ r ≡ i.entryItem (now (second .entry)) (now (third .entry)) ⌝ }
-{
-    if 0 < third.len() {
-        return bad(MANY_WORDS);
-    }
-    let code = four_of(second);
-    if 65535 < code {
-        return bad(FOUR_DIGITS);
-    }
-    Item::Scope {
-        kind: 2,
-        code: code as u16,
-    }
-}
-
 fn row_item(first: &[u8], second: &[u8], third: &[u8], more: bool) -> Item
     ensures { λ r. ⌜ r ≡ i.rowItem (now (first .entry)) (now (second .entry)) (now (third .entry)) more ⌝ }
 {
     let id = two_of(first);
-    if 255 < id {
+    if NO_BYTE <= id {
         return bad(UNKNOWN_WORD);
     }
     if more {
         return bad(MANY_WORDS);
     }
     let target = four_of(second);
-    if 65535 < target {
+    if NO_CODE <= target {
         return bad(FOUR_DIGITS);
     }
-    let kind = kind_of(third);
-    if 4 < kind {
+    let kind = row_kind_of(third);
+    if NO_ROW_KIND <= kind {
         return bad(UNKNOWN_KIND);
     }
     Item::Row {
@@ -292,10 +320,10 @@ fn item_by(first: &[u8], second: &[u8], third: &[u8], more: bool) -> Item
         return header_item(second, third);
     }
     if same_word(first, b"form") {
-        return form_item(0, second);
+        return plain_scope_item(SCOPE_FORM, second);
     }
     if same_word(first, b"report") {
-        return form_item(1, second);
+        return plain_scope_item(SCOPE_REPORT, second);
     }
     if same_word(first, b"entry") {
         return entry_item(second, third);
@@ -329,9 +357,9 @@ pub fn line_at(text: &[u8], at: usize) -> Line
     requires { ⌜ at < length (now text) ⌝ }
     ensures { λ r. ⌜ i.LineAt (now (text .entry)) at r ⌝ }
 {
-    let end = until(text, at, 0);
+    let end = until(text, at, LINE_END);
     let line = &text[at..end];
-    let said = until(line, 0, 1);
+    let said = until(line, 0, SIGN);
     let item = item_in(&line[..said]);
     Line {
         item,

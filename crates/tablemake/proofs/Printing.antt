@@ -10,7 +10,8 @@ use lib.ListN.{length, take, drop, length-append}
 use lib.Seq.{take-at}
 use Rattle.tabletext.specs.Input.{Began, whole, filled}
 use Rattle.tablemaking.specs.Judged.{judged}
-use Rattle.tablemaking.specs.Made.{tableSaid, longestText, longText, MadeExit, MadeAs, makeExit, written}
+use Rattle.tablelines.specs.Faults.{longText}
+use Rattle.tablemaking.specs.Made.{tableSaid, longestText, MadeExit, MadeAs, makeExit, written}
 use Rattle.tablemaking.specs.declared.Made.{Made}
 use Rattle.tablemaking.proofs.Formed.{said-short}
 use Rattle.tablemaking.proofs.Making.{too-long, bad-line, with-room}
@@ -42,7 +43,7 @@ pub record Makes (s new : List ℕ) (r : Made) : Type 0 where
   pub table : r .error ≡ 0 → (first : List ℕ) → first ≡ sizeText (r .size) → first ++ take (r .size) new ≡ printed s
   pub line : (r .error ≡ 0 → ⊥) → whyText (r .error) (r .line) ≡ printed s
 
-module _ (s out new : List ℕ) (r : Made) (m : MadeAs (makeExit s out) r new) (room : length out ≡ 65100) where
+module _ (s out : List ℕ) {new : List ℕ} {r : Made} (m : MadeAs (makeExit s out) r new) (room : length out ≡ 65100) where
   abbrev is : {x : MadeExit} → makeExit s out ≡ x → r ≡ x .made
   is e = m .made ∙ ap (λ (x : MadeExit). x .made) e
 

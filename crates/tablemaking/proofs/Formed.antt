@@ -13,12 +13,14 @@ use Rattle.rules.proofs.ListLaws.{and-l, and-r, all-there}
 use Rattle.joinlaws.proofs.TableBytesLaws.{Fits, length-table, table-formed}
 use Rattle.joinlaws.proofs.JoinLaws.{codeFits, Good, good-fits}
 use Rattle.joinlaws.proofs.JoinedLaws.{at-most}
-use Rattle.tablelines.specs.Words.{before, sign, word, behind, linesOf, twoOf, fourOf, kindOf}
-use Rattle.tablelines.specs.Items.{unknownWord, twoDigits, fourDigits, manyWords, unknownKind, layoutItem, headerItem, formItem, entryItem, rowItem, itemBy, itemIn, itemOf, itemsOf}
+use Rattle.tablelines.specs.Faults.{unknownWord, twoDigits, fourDigits, manyWords, unknownKind, noLayout, layoutFirst, headerLate, headerOrder, manyHeaders, scopeOrder, manyScopes, rowEarly, idOrder, idHigh, targetHigh}
+use Rattle.tablelines.specs.Words.{before, sign, word, afterWord, linesOf, twoOf, fourOf, rowKindOf}
+use Rattle.tablelines.specs.Items.{numberFault, unless, layoutItem, headerItem, plainScopeItem, entryItem, rowItem, itemBy, itemIn, itemOf, itemsOf}
+use Rattle.tablelines.proofs.ItemLaws.{number-fits}
 use Rattle.tablelines.specs.declared.Item.{Item}
 use Rattle.tablelines.specs.declared.Item.the-variants.{Nothing, Layout, Header, Scope as ScopeLine, Row, Bad}
-use Rattle.tablemaking.specs.Judged.{noLayout, layoutFirst, headerLate, headerOrder, manyHeaders, scopeOrder, manyScopes, rowEarly, idOrder, idHigh, targetHigh, unnamed, nothingSeen, withLayout, withHeader, withScope, withRow, after, headerFault, scopeFault, rowFault, belowLayout, faultOf, broken, kept, judgeEnd, judgeFrom, judged}
-use Rattle.tablemaking.specs.Made.{headersOf, rowsOf, scopesOf, tableSaid}
+use Rattle.tablemaking.specs.Judged.{unnamed, nothingSeen, withLayout, withHeader, withScope, withRow, after, headerFault, scopeFault, rowFault, belowLayout, faultOf, broken, kept, judgeEnd, judgeFrom, judged}
+use Rattle.tablemaking.specs.Made.{byPart, headersOf, rowsOf, scopesOf, tableSaid}
 use Rattle.tablemaking.specs.declared.Seen.{Seen}
 use Rattle.tablemaking.specs.declared.Judged.{Judged}
 
@@ -31,37 +33,46 @@ small (ScopeLine kind code) = leb kind 2 && (eqb kind 2 || eqb code 0) && ltb co
 small (Row id target kind) = leb kind 4
 small (Bad error) = true
 
--- a number that isn't above a limit is below the next
-under : (limit n : ℕ) → ltb limit n ≡ false → ltb n (suc limit) ≡ true
-under limit n e = lt-ltb n (suc limit) (omega (arith, ltb-false limit n e))
-
--- an item behind two tests that it passes
+-- an item after two tests that it passes
 passed-small : (a b : Bool) (error error′ : ℕ) (item : Item) → (b ≡ false → small item ≡ true) → small (cond a (Bad error) (cond b (Bad error′) item)) ≡ true
 unfolding small
 passed-small true b error error′ item h = refl
 passed-small false true error error′ item h = refl
 passed-small false false error error′ item h = h refl
 
+-- a line of one number, whatever is made of it
+number-small : (make : ℕ → Item) (number most digits : ℕ) (third : List ℕ) → (digits ≡ 0 → ⊥) → (number ≤ most → small (make number) ≡ true)
+    → small (unless (numberFault number most digits third) (make number)) ≡ true
+unfolding unless small
+number-small make number most digits third d h = go (eqb fault 0) refl
+  where
+    fault : ℕ
+    fault = numberFault number most digits third
+
+    go : (b : Bool) → eqb fault 0 ≡ b → small (cond b (make number) (Bad fault)) ≡ true
+    go true q = h (number-fits number most digits third d (eqb-true fault 0 q))
+    go false q = refl
+
 layout-small : (second third : List ℕ) → small (layoutItem second third) ≡ true
 unfolding layoutItem small
-layout-small second third = passed-small (ltb 0 (length third)) (ltb 255 (twoOf second)) manyWords twoDigits (Layout (twoOf second)) (under 255 (twoOf second))
+layout-small second third = number-small Layout (twoOf second) 255 twoDigits third (λ z. omega arith) (λ l. lt-ltb (twoOf second) 256 (omega arith))
 
 header-small : (second third : List ℕ) → small (headerItem second third) ≡ true
 unfolding headerItem small
-header-small second third = passed-small (ltb 0 (length third)) (ltb 65535 (fourOf second)) manyWords fourDigits (Header (fourOf second)) (under 65535 (fourOf second))
+header-small second third = number-small Header (fourOf second) 65535 fourDigits third (λ z. omega arith) (λ l. lt-ltb (fourOf second) 65536 (omega arith))
 
 entry-small : (second third : List ℕ) → small (entryItem second third) ≡ true
 unfolding entryItem small
-entry-small second third = passed-small (ltb 0 (length third)) (ltb 65535 (fourOf second)) manyWords fourDigits (ScopeLine 2 (fourOf second)) (under 65535 (fourOf second))
+entry-small second third = number-small (ScopeLine 2) (fourOf second) 65535 fourDigits third (λ z. omega arith) (λ l. lt-ltb (fourOf second) 65536 (omega arith))
 
 row-small : (first second third : List ℕ) (more : Bool) → small (rowItem first second third more) ≡ true
 unfolding rowItem small
 row-small first second third more = go (ltb 255 (twoOf first)) more
   where
-    rest : small (cond (ltb 65535 (fourOf second)) (Bad fourDigits) (cond (ltb 4 (kindOf third)) (Bad unknownKind) (Row (twoOf first) (fourOf second) (kindOf third)))) ≡ true
-    rest = passed-small (ltb 65535 (fourOf second)) (ltb 4 (kindOf third)) fourDigits unknownKind (Row (twoOf first) (fourOf second) (kindOf third)) (λ e. le-leb (kindOf third) 4 (ltb-false 4 (kindOf third) e))
+    rest : small (cond (ltb 65535 (fourOf second)) (Bad fourDigits) (cond (ltb 4 (rowKindOf third)) (Bad unknownKind) (Row (twoOf first) (fourOf second) (rowKindOf third)))) ≡ true
+    rest = passed-small (ltb 65535 (fourOf second)) (ltb 4 (rowKindOf third)) fourDigits unknownKind (Row (twoOf first) (fourOf second) (rowKindOf third)) (λ e. le-leb (rowKindOf third) 4 (ltb-false 4 (rowKindOf third) e))
 
-    go : (a b : Bool) → small (cond a (Bad unknownWord) (cond b (Bad manyWords) (cond (ltb 65535 (fourOf second)) (Bad fourDigits) (cond (ltb 4 (kindOf third)) (Bad unknownKind) (Row (twoOf first) (fourOf second) (kindOf third)))))) ≡ true
+    go : (a b : Bool) → small (cond a (Bad unknownWord) (cond b (Bad manyWords) (cond (ltb 65535 (fourOf second)) (Bad fourDigits) (cond (ltb 4 (rowKindOf third)) (Bad unknownKind) (Row (twoOf first) (fourOf second) (rowKindOf third)))))) ≡ true
     go true b = refl
     go false true = refl
     go false false = rest
@@ -70,8 +81,8 @@ either-small : (b : Bool) (x y : Item) → small x ≡ true → small y ≡ true
 either-small true x y f g = f
 either-small false x y f g = g
 
-form-small : (kind : ℕ) (second : List ℕ) → small (ScopeLine kind 0) ≡ true → small (formItem kind second) ≡ true
-unfolding formItem small
+form-small : (kind : ℕ) (second : List ℕ) → small (ScopeLine kind 0) ≡ true → small (plainScopeItem kind second) ≡ true
+unfolding plainScopeItem small
 form-small kind second h = either-small (ltb 0 (length second)) (Bad manyWords) (ScopeLine kind 0) refl h
 
 by-small : (first second third : List ℕ) (more : Bool) → small (itemBy first second third more) ≡ true
@@ -80,7 +91,7 @@ by-small first second third more =
     go (eqb (length first) 0) (same first (text "layout")) (same first (text "header")) (same first (text "form")) (same first (text "report")) (same first (text "entry"))
   where
     go : (a b c d e f : Bool)
-        → small (cond a Nothing (cond b (layoutItem second third) (cond c (headerItem second third) (cond d (formItem 0 second) (cond e (formItem 1 second) (cond f (entryItem second third) (rowItem first second third more))))))) ≡ true
+        → small (cond a Nothing (cond b (layoutItem second third) (cond c (headerItem second third) (cond d (plainScopeItem 0 second) (cond e (plainScopeItem 1 second) (cond f (entryItem second third) (rowItem first second third more))))))) ≡ true
     go true b c d e f = refl
     go false true c d e f = layout-small second third
     go false false true d e f = header-small second third
@@ -94,7 +105,7 @@ unfolding itemOf itemIn all
 lines-small [] = refl
 lines-small (line ∷ lines) =
     let s : List ℕ = before sign line in
-    rw (by-small (word s) (word (behind s)) (word (behind (behind s))) (ltb 0 (length (word (behind (behind (behind s))))))) (lines-small lines)
+    rw (by-small (word s) (word (afterWord s)) (word (afterWord (afterWord s))) (ltb 0 (length (word (afterWord (afterWord (afterWord s))))))) (lines-small lines)
 
 pub items-small : (s : List ℕ) → all small (itemsOf s) ≡ true
 unfolding itemsOf
@@ -154,22 +165,33 @@ row-kept seen id target e =
     record { in-scope = eqb-false (seen .scopes) 0 (a .0); low = ltb-false 0xFC id (b .0); ascend = ltb-false id (seen .«least_id») (c .0); low-target = omega arith }
 
 -- ---- what is judged is what the lines say
--- below what was seen, there are these header codes, rows and scopes, in order and in their limits
+-- header codes below n others, scopes, rows, and how many there are together: in order, and in their limits
+pub record HeadersKept (n least : ℕ) (hs : List ℕ) (total : ℕ) : Type 0 where
+  pub counted : total ≡ n + length hs
+  pub few : n ≤ 4 → total ≤ 4
+  pub ascend : ascends least hs ≡ true
+  pub fit : all (λ (c : ℕ). ltb c 65536) hs ≡ true
+
+pub record ScopesKept (n least : ℕ) (ss : List Scope) (total : ℕ) : Type 0 where
+  pub counted : total ≡ n + length ss
+  pub few : n ≤ 64 → total ≤ 64
+  pub ascend : ascends least (map key ss) ≡ true
+  pub ok : all scopeOk ss ≡ true
+  pub fit : all codeFits ss ≡ true
+
+-- rows of the scope above, if there is one, and of those that follow
+pub record RowsKept (scopes n least : ℕ) (rs : List Tie) (ss : List Scope) (total : ℕ) : Type 0 where
+  pub counted : total ≡ n + length rs + rowCount ss
+  pub none : scopes ≡ 0 → length rs ≡ 0
+  pub ascend : ascends least (map idOf rs) ≡ true
+  pub ok : all tieOk rs ≡ true
+
+-- what follows below what was seen
 pub record Kept (seen : Seen) (hs : List ℕ) (rs : List Tie) (ss : List Scope) (j : Judged) : Type 0 where
-  pub headers : j .headers ≡ seen .headers + length hs
-  pub scopes : j .scopes ≡ seen .scopes + length ss
-  pub rows : j .rows ≡ seen .rows + length rs + rowCount ss
-  pub no-rows : seen .scopes ≡ 0 → length rs ≡ 0
-  pub small-layout : seen .layout ≤ 256 → j .layout < 256
-  pub few-headers : seen .headers ≤ 4 → j .headers ≤ 4
-  pub few-scopes : seen .scopes ≤ 64 → j .scopes ≤ 64
-  pub headers-ascend : ascends (seen .«least_header») hs ≡ true
-  pub headers-fit : all (λ (c : ℕ). ltb c 65536) hs ≡ true
-  pub keys-ascend : ascends (seen .«least_key») (map key ss) ≡ true
-  pub scopes-ok : all scopeOk ss ≡ true
-  pub codes-fit : all codeFits ss ≡ true
-  pub ids-ascend : ascends (seen .«least_id») (map idOf rs) ≡ true
-  pub rows-ok : all tieOk rs ≡ true
+  pub headers : HeadersKept (seen .headers) (seen .«least_header») hs (j .headers)
+  pub scopes : ScopesKept (seen .scopes) (seen .«least_key») ss (j .scopes)
+  pub rows : RowsKept (seen .scopes) (seen .rows) (seen .«least_id») rs ss (j .rows)
+  pub layout : seen .layout ≤ 256 → j .layout < 256
 
 abbrev pub KeptLines : Seen → List Item → Judged → Type 0
 KeptLines seen items j = Kept seen (headersOf items) (rowsOf items) (scopesOf items) j
@@ -181,111 +203,84 @@ kept-end seen lines = go (eqb (seen .layout) unnamed) refl
     go : (b : Bool) → eqb (seen .layout) unnamed ≡ b → cond b (broken noLayout (lines + 1)) (kept seen) .error ≡ 0 → KeptLines seen [] (cond b (broken noLayout (lines + 1)) (kept seen))
     go true q e = absurd (omega arith)
     go false q e = record {
-      headers = omega arith;
-      scopes = omega arith;
-      rows = omega arith;
-      no-rows = λ z. refl;
-      small-layout = λ h. let n = eqb-false (seen .layout) unnamed q in omega arith;
-      few-headers = λ h. h;
-      few-scopes = λ h. h;
-      headers-ascend = refl;
-      headers-fit = refl;
-      keys-ascend = refl;
-      scopes-ok = refl;
-      codes-fit = refl;
-      ids-ascend = refl;
-      rows-ok = refl;
+      headers = record { counted = omega arith; few = λ h. h; ascend = refl; fit = refl };
+      scopes = record { counted = omega arith; few = λ h. h; ascend = refl; ok = refl; fit = refl };
+      rows = record { counted = omega arith; none = λ z. refl; ascend = refl; ok = refl };
+      layout = λ h. let n = eqb-false (seen .layout) unnamed q in omega arith;
     }
 
-kept-header : (seen : Seen) (code : ℕ) (items : List Item) (j : Judged) → ltb code 65536 ≡ true → HeaderKept seen code → KeptLines (withHeader seen code) items j → KeptLines seen (Header code ∷ items) j
-unfolding headersOf rowsOf scopesOf ascends all
-kept-header seen code items j small k K = record {
-  headers = let a = K .headers in omega arith;
-  scopes = K .scopes;
-  rows = K .rows;
-  no-rows = K .no-rows;
-  small-layout = K .small-layout;
-  few-headers = λ h. K .few-headers (let a = k .few in omega arith);
-  few-scopes = K .few-scopes;
-  headers-ascend = rw (le-leb (seen .«least_header») code (k .ascend)) (K .headers-ascend);
-  headers-fit = rw small (K .headers-fit);
-  keys-ascend = K .keys-ascend;
-  scopes-ok = K .scopes-ok;
-  codes-fit = K .codes-fit;
-  ids-ascend = K .ids-ascend;
-  rows-ok = K .rows-ok;
-}
+module _ (seen : Seen) (items : List Item) (j : Judged) where
+  kept-header : (code : ℕ) → ltb code 65536 ≡ true → HeaderKept seen code → KeptLines (withHeader seen code) items j → KeptLines seen (Header code ∷ items) j
+  unfolding byPart headersOf rowsOf scopesOf ascends all
+  kept-header code small k K =
+      let H = K .headers in
+      record {
+        headers = record {
+          counted = let a = H .counted in omega arith;
+          few = λ h. H .few (let a = k .few in omega arith);
+          ascend = rw (le-leb (seen .«least_header») code (k .ascend)) (H .ascend);
+          fit = rw small (H .fit);
+        };
+        scopes = K .scopes;
+        rows = K .rows;
+        layout = K .layout;
+      }
 
-kept-scope : (seen : Seen) (kind code : ℕ) (items : List Item) (j : Judged) → small (ScopeLine kind code) ≡ true → ScopeKept seen (keyOf kind code) → KeptLines (withScope seen (keyOf kind code)) items j
-    → KeptLines seen (ScopeLine kind code ∷ items) j
-unfolding small headersOf rowsOf scopesOf rowCount ascends all tiesOk
-kept-scope seen kind code items j s k K = record {
-  headers = K .headers;
-  scopes = let a = K .scopes in omega arith;
-  rows = let a = K .rows in omega arith;
-  no-rows = λ z. refl;
-  small-layout = K .small-layout;
-  few-headers = K .few-headers;
-  few-scopes = λ h. K .few-scopes (let a = k .few in omega arith);
-  headers-ascend = K .headers-ascend;
-  headers-fit = K .headers-fit;
-  keys-ascend = rw (le-leb (seen .«least_key») (keyOf kind code) (k .ascend)) (K .keys-ascend);
-  scopes-ok =
-      let a : leb kind 2 ≡ true = search (and-l, and-r) in
-      let b : (eqb kind 2 || eqb code 0) ≡ true = search (and-l, and-r) in
-      rw (a, b, K .ids-ascend, K .rows-ok) (K .scopes-ok);
-  codes-fit = let a : ltb code 65536 ≡ true = search (and-l, and-r) in rw a (K .codes-fit);
-  ids-ascend = refl;
-  rows-ok = refl;
-}
+  kept-scope : (kind code : ℕ) → small (ScopeLine kind code) ≡ true → ScopeKept seen (keyOf kind code) → KeptLines (withScope seen (keyOf kind code)) items j → KeptLines seen (ScopeLine kind code ∷ items) j
+  unfolding byPart small headersOf rowsOf scopesOf rowCount ascends all tiesOk
+  kept-scope kind code s k K =
+      let S = K .scopes in
+      let R = K .rows in
+      let low : leb kind 2 ≡ true = search (and-l, and-r) in
+      let its-code : (eqb kind 2 || eqb code 0) ≡ true = search (and-l, and-r) in
+      let fits : ltb code 65536 ≡ true = search (and-l, and-r) in
+      record {
+        headers = K .headers;
+        scopes = record {
+          counted = let a = S .counted in omega arith;
+          few = λ h. S .few (let a = k .few in omega arith);
+          ascend = rw (le-leb (seen .«least_key») (keyOf kind code) (k .ascend)) (S .ascend);
+          ok = rw (low, its-code, R .ascend, R .ok) (S .ok);
+          fit = rw fits (S .fit);
+        };
+        rows = record { counted = let a = R .counted in omega arith; none = λ z. refl; ascend = refl; ok = refl };
+        layout = K .layout;
+      }
 
-kept-row : (seen : Seen) (id target kind : ℕ) (items : List Item) (j : Judged) → leb kind 4 ≡ true → RowKept seen id target → KeptLines (withRow seen id) items j → KeptLines seen (Row id target kind ∷ items) j
-unfolding headersOf rowsOf scopesOf ascends all
-kept-row seen id target kind items j s k K = record {
-  headers = K .headers;
-  scopes = K .scopes;
-  rows = let a = K .rows in omega arith;
-  no-rows = λ z. absurd (k .in-scope z);
-  small-layout = K .small-layout;
-  few-headers = K .few-headers;
-  few-scopes = K .few-scopes;
-  headers-ascend = K .headers-ascend;
-  headers-fit = K .headers-fit;
-  keys-ascend = K .keys-ascend;
-  scopes-ok = K .scopes-ok;
-  codes-fit = K .codes-fit;
-  ids-ascend = rw (le-leb (seen .«least_id») id (k .ascend)) (K .ids-ascend);
-  rows-ok = rw (le-leb id 0xFC (k .low), lt-ltb target 0x8000 (k .low-target), s) (K .rows-ok);
-}
+  kept-row : (id target kind : ℕ) → leb kind 4 ≡ true → RowKept seen id target → KeptLines (withRow seen id) items j → KeptLines seen (Row id target kind ∷ items) j
+  unfolding byPart headersOf rowsOf scopesOf ascends all
+  kept-row id target kind s k K =
+      let R = K .rows in
+      record {
+        headers = K .headers;
+        scopes = K .scopes;
+        rows = record {
+          counted = let a = R .counted in omega arith;
+          none = λ z. absurd (k .in-scope z);
+          ascend = rw (le-leb (seen .«least_id») id (k .ascend)) (R .ascend);
+          ok = rw (le-leb id 0xFC (k .low), lt-ltb target 0x8000 (k .low-target), s) (R .ok);
+        };
+        layout = K .layout;
+      }
 
--- a line that says none of these
-kept-layout : (seen : Seen) (byte : ℕ) (items : List Item) (j : Judged) → ltb byte 256 ≡ true → KeptLines (withLayout seen byte) items j → KeptLines seen (Layout byte ∷ items) j
-unfolding headersOf rowsOf scopesOf
-kept-layout seen byte items j s K = record {
-  headers = K .headers;
-  scopes = K .scopes;
-  rows = K .rows;
-  no-rows = K .no-rows;
-  small-layout = λ h. K .small-layout (let l = ltb-true byte 256 s in omega arith);
-  few-headers = K .few-headers;
-  few-scopes = K .few-scopes;
-  headers-ascend = K .headers-ascend;
-  headers-fit = K .headers-fit;
-  keys-ascend = K .keys-ascend;
-  scopes-ok = K .scopes-ok;
-  codes-fit = K .codes-fit;
-  ids-ascend = K .ids-ascend;
-  rows-ok = K .rows-ok;
-}
+  -- a line that says none of these
+  kept-layout : (byte : ℕ) → ltb byte 256 ≡ true → KeptLines (withLayout seen byte) items j → KeptLines seen (Layout byte ∷ items) j
+  unfolding byPart headersOf rowsOf scopesOf
+  kept-layout byte s K = record {
+    headers = K .headers;
+    scopes = K .scopes;
+    rows = K .rows;
+    layout = λ h. K .layout (let l = ltb-true byte 256 s in omega arith);
+  }
 
 -- one line more, of which no rule is broken
 kept-line : (seen : Seen) (item : Item) (items : List Item) (j : Judged) → small item ≡ true → faultOf seen item ≡ 0 → KeptLines (after seen item) items j → KeptLines seen (item ∷ items) j
-unfolding after faultOf small headersOf rowsOf scopesOf
+unfolding after faultOf small byPart headersOf rowsOf scopesOf
 kept-line seen Nothing items j s e K = K
-kept-line seen (Layout byte) items j s e K = kept-layout seen byte items j s K
-kept-line seen (Header code) items j s e K = kept-header seen code items j s (header-kept seen code (below-kept seen (headerFault seen code) e)) K
-kept-line seen (ScopeLine kind code) items j s e K = kept-scope seen kind code items j s (scope-kept seen (keyOf kind code) (below-kept seen (scopeFault seen (keyOf kind code)) e)) K
-kept-line seen (Row id target kind) items j s e K = kept-row seen id target kind items j s (row-kept seen id target (below-kept seen (rowFault seen id target) e)) K
+kept-line seen (Layout byte) items j s e K = kept-layout seen items j byte s K
+kept-line seen (Header code) items j s e K = kept-header seen items j code s (header-kept seen code (below-kept seen (headerFault seen code) e)) K
+kept-line seen (ScopeLine kind code) items j s e K = kept-scope seen items j kind code s (scope-kept seen (keyOf kind code) (below-kept seen (scopeFault seen (keyOf kind code)) e)) K
+kept-line seen (Row id target kind) items j s e K = kept-row seen items j id target kind s (row-kept seen id target (below-kept seen (rowFault seen id target) e)) K
 kept-line seen (Bad error) items j s e K = K
 
 pub kept-lines : (seen : Seen) (lines : ℕ) (items : List Item) → all small items ≡ true → judgeFrom seen lines items .error ≡ 0 → KeptLines seen items (judgeFrom seen lines items)
@@ -323,34 +318,34 @@ module _ (s : List ℕ) (e : judged s .error ≡ 0) where
   pub counts : Counted s
   counts =
       let K = taken in
-      let above = K .no-rows refl in
-      let a = K .headers in
-      let b = K .scopes in
-      let c = K .rows in
-      record { headers = omega arith; scopes = omega arith; rows = omega arith; layout = K .small-layout (omega arith) }
+      let above = K .rows .none refl in
+      let a = K .headers .counted in
+      let b = K .scopes .counted in
+      let c = K .rows .counted in
+      record { headers = omega arith; scopes = omega arith; rows = omega arith; layout = K .layout (omega arith) }
 
   -- no row stands above the first scope
   pub no-rows-above : length (rowsOf (itemsOf s)) ≡ 0
-  no-rows-above = taken .no-rows refl
+  no-rows-above = taken .rows .none refl
 
   pub few-headers : length (headersIn s) ≤ 4
-  few-headers = let a = counts .headers in let b = taken .few-headers (omega arith) in omega arith
+  few-headers = let a = counts .headers in let b = taken .headers .few (omega arith) in omega arith
 
   pub few-scopes : length (scopesIn s) ≤ 64
-  few-scopes = let a = counts .scopes in let b = taken .few-scopes (omega arith) in omega arith
+  few-scopes = let a = counts .scopes in let b = taken .scopes .few (omega arith) in omega arith
 
   pub said-good : Good (scopesIn s)
-  said-good = record { keys = taken .keys-ascend; ok = taken .scopes-ok }
+  said-good = record { keys = taken .scopes .ascend; ok = taken .scopes .ok }
 
   pub said-fits : Fits (headersIn s) (scopesIn s)
   said-fits =
-      good-fits (headersIn s) (scopesIn s) said-good few-scopes (λ c m. ltb-true c 65536 (all-there (λ (n : ℕ). ltb n 65536) (headersIn s) c (taken .headers-fit) m))
-      (λ x m. ltb-true (x .code) 65536 (all-there codeFits (scopesIn s) x (taken .codes-fit) m))
+      good-fits (headersIn s) (scopesIn s) said-good few-scopes (λ c m. ltb-true c 65536 (all-there (λ (n : ℕ). ltb n 65536) (headersIn s) c (taken .headers .fit) m))
+      (λ x m. ltb-true (x .code) 65536 (all-there codeFits (scopesIn s) x (taken .scopes .fit) m))
 
   -- the table that it says
   pub said-formed : wellFormed (tableSaid s) ≡ true
   unfolding tableSaid
-  said-formed = table-formed (judged s .layout) (headersIn s) (scopesIn s) said-fits few-headers few-scopes (taken .headers-ascend) (said-good .keys) (said-good .ok)
+  said-formed = table-formed (judged s .layout) (headersIn s) (scopesIn s) said-fits few-headers few-scopes (taken .headers .ascend) (said-good .keys) (said-good .ok)
 
   pub said-short : length (tableSaid s) ≤ 65100
   said-short = at-most (tableSaid s) said-formed

@@ -5,6 +5,7 @@ use mathlib.Core.Path.{_≡_, refl, sym, ap, _∙_}
 use mathlib.Core.List.{List, [], _∷_}
 use borrow.Author.Tests.{lt-ltb, le-ltb, eq-eqb, ne-eqb}
 use lib.ListN.{length, drop, drop-of-length-le}
+use Rattle.tablelines.specs.Faults.{noLayout, layoutFirst, layoutTwice, headerLate, headerOrder, manyHeaders, scopeOrder, manyScopes, rowEarly, idOrder, idHigh, targetHigh}
 use Rattle.tablelines.specs.Words.{linesOf}
 use Rattle.tablelines.specs.Items.{itemsOf, LineAt}
 use Rattle.tablelines.specs.declared.Item.{Item}
@@ -15,17 +16,17 @@ use Rattle.tablemaking.specs.declared.Seen.{Seen}
 
 -- ---- a header code
 module _ (seen : Seen) (code : ℕ) where
-  pub late : 0 < seen .scopes → headerFault seen code ≡ 8
+  pub late : 0 < seen .scopes → headerFault seen code ≡ headerLate
   unfolding headerFault
   late h = rw (lt-ltb 0 (seen .scopes) h)
 
   module _ (h : seen .scopes ≤ 0) where
-    pub header-low : code < seen .«least_header» → headerFault seen code ≡ 9
+    pub header-low : code < seen .«least_header» → headerFault seen code ≡ headerOrder
     unfolding headerFault
     header-low g = rw (le-ltb 0 (seen .scopes) h, lt-ltb code (seen .«least_header») g)
 
     module _ (g : seen .«least_header» ≤ code) where
-      pub header-many : 3 < seen .headers → headerFault seen code ≡ 10
+      pub header-many : 3 < seen .headers → headerFault seen code ≡ manyHeaders
       unfolding headerFault
       header-many k = rw (le-ltb 0 (seen .scopes) h, le-ltb code (seen .«least_header») g, lt-ltb 3 (seen .headers) k)
 
@@ -35,12 +36,12 @@ module _ (seen : Seen) (code : ℕ) where
 
 -- ---- a scope
 module _ (seen : Seen) (key : ℕ) where
-  pub scope-low : key < seen .«least_key» → scopeFault seen key ≡ 11
+  pub scope-low : key < seen .«least_key» → scopeFault seen key ≡ scopeOrder
   unfolding scopeFault
   scope-low h = rw (lt-ltb key (seen .«least_key») h)
 
   module _ (h : seen .«least_key» ≤ key) where
-    pub scope-many : 63 < seen .scopes → scopeFault seen key ≡ 12
+    pub scope-many : 63 < seen .scopes → scopeFault seen key ≡ manyScopes
     unfolding scopeFault
     scope-many g = rw (le-ltb key (seen .«least_key») h, lt-ltb 63 (seen .scopes) g)
 
@@ -50,22 +51,22 @@ module _ (seen : Seen) (key : ℕ) where
 
 -- ---- a row
 module _ (seen : Seen) (id target : ℕ) where
-  pub early : seen .scopes ≡ 0 → rowFault seen id target ≡ 13
+  pub early : seen .scopes ≡ 0 → rowFault seen id target ≡ rowEarly
   unfolding rowFault
   early e = rw (eq-eqb (seen .scopes) 0 e)
 
   module _ (n : seen .scopes ≡ 0 → ⊥) where
-    pub high : 0xFC < id → rowFault seen id target ≡ 15
+    pub high : 0xFC < id → rowFault seen id target ≡ idHigh
     unfolding rowFault
     high h = rw (ne-eqb (seen .scopes) 0 n, lt-ltb 0xFC id h)
 
     module _ (h : id ≤ 0xFC) where
-      pub row-low : id < seen .«least_id» → rowFault seen id target ≡ 14
+      pub row-low : id < seen .«least_id» → rowFault seen id target ≡ idOrder
       unfolding rowFault
       row-low g = rw (ne-eqb (seen .scopes) 0 n, le-ltb 0xFC id h, lt-ltb id (seen .«least_id») g)
 
       module _ (g : seen .«least_id» ≤ id) where
-        pub target-high : 0x7FFF < target → rowFault seen id target ≡ 16
+        pub target-high : 0x7FFF < target → rowFault seen id target ≡ targetHigh
         unfolding rowFault
         target-high k = rw (ne-eqb (seen .scopes) 0 n, le-ltb 0xFC id h, le-ltb id (seen .«least_id») g, lt-ltb 0x7FFF target k)
 
@@ -75,29 +76,29 @@ module _ (seen : Seen) (id target : ℕ) where
 
 -- ---- the layout
 module _ (seen : Seen) where
-  pub not-named : (fault : ℕ) → seen .layout ≡ unnamed → belowLayout seen fault ≡ 2
+  pub not-named : (fault : ℕ) → seen .layout ≡ unnamed → belowLayout seen fault ≡ layoutFirst
   unfolding belowLayout
-  not-named fault e = rw (eq-eqb (seen .layout) 256 e)
+  not-named fault e = rw (eq-eqb (seen .layout) unnamed e)
 
   pub is-named : (fault : ℕ) → (seen .layout ≡ unnamed → ⊥) → belowLayout seen fault ≡ fault
   unfolding belowLayout
-  is-named fault n = rw (ne-eqb (seen .layout) 256 n)
+  is-named fault n = rw (ne-eqb (seen .layout) unnamed n)
 
   pub first-layout : seen .layout ≡ unnamed → layoutFault seen ≡ 0
   unfolding layoutFault
-  first-layout e = rw (eq-eqb (seen .layout) 256 e)
+  first-layout e = rw (eq-eqb (seen .layout) unnamed e)
 
-  pub second-layout : (seen .layout ≡ unnamed → ⊥) → layoutFault seen ≡ 3
+  pub second-layout : (seen .layout ≡ unnamed → ⊥) → layoutFault seen ≡ layoutTwice
   unfolding layoutFault
-  second-layout n = rw (ne-eqb (seen .layout) 256 n)
+  second-layout n = rw (ne-eqb (seen .layout) unnamed n)
 
-  pub no-layout : (lines : ℕ) → seen .layout ≡ unnamed → judgeEnd seen lines ≡ broken 1 (lines + 1)
+  pub no-layout : (lines : ℕ) → seen .layout ≡ unnamed → judgeEnd seen lines ≡ broken noLayout (lines + 1)
   unfolding judgeEnd
-  no-layout lines e = rw (eq-eqb (seen .layout) 256 e)
+  no-layout lines e = rw (eq-eqb (seen .layout) unnamed e)
 
   pub all-kept : (lines : ℕ) → (seen .layout ≡ unnamed → ⊥) → judgeEnd seen lines ≡ kept seen
   unfolding judgeEnd
-  all-kept lines n = rw (ne-eqb (seen .layout) 256 n)
+  all-kept lines n = rw (ne-eqb (seen .layout) unnamed n)
 
 -- ---- counts stay below those of the lines
 pub few-none : (seen : Seen) → seen ≡ nothingSeen → Few seen 0
@@ -105,16 +106,16 @@ few-none seen e =
     let a : seen .headers ≡ 0 = ap (λ (x : Seen). x .headers) e in
     let b : seen .scopes ≡ 0 = ap (λ (x : Seen). x .scopes) e in
     let d : seen .rows ≡ 0 = ap (λ (x : Seen). x .rows) e in
-    record { headers = omega arith; scopes = omega arith; rows = omega arith }
+    omega arith
 
 pub few-after : (seen : Seen) (lines : ℕ) (item : Item) → Few seen lines → Few (after seen item) (lines + 1)
 unfolding after
-few-after seen lines Nothing f = record { headers = omega (arith, f .headers); scopes = omega (arith, f .scopes); rows = omega (arith, f .rows) }
-few-after seen lines (Layout byte) f = record { headers = omega (arith, f .headers); scopes = omega (arith, f .scopes); rows = omega (arith, f .rows) }
-few-after seen lines (Header code) f = record { headers = omega (arith, f .headers); scopes = omega (arith, f .scopes); rows = omega (arith, f .rows) }
-few-after seen lines (Scope kind code) f = record { headers = omega (arith, f .headers); scopes = omega (arith, f .scopes); rows = omega (arith, f .rows) }
-few-after seen lines (Row id target kind) f = record { headers = omega (arith, f .headers); scopes = omega (arith, f .scopes); rows = omega (arith, f .rows) }
-few-after seen lines (Bad error) f = record { headers = omega (arith, f .headers); scopes = omega (arith, f .scopes); rows = omega (arith, f .rows) }
+few-after seen lines Nothing f = omega arith
+few-after seen lines (Layout byte) f = omega arith
+few-after seen lines (Header code) f = omega arith
+few-after seen lines (Scope kind code) f = omega arith
+few-after seen lines (Row id target kind) f = omega arith
+few-after seen lines (Bad error) f = omega arith
 
 -- ---- a line
 pub no-items : (s : List ℕ) (at : ℕ) → length s ≤ at → itemsOf (drop at s) ≡ []
@@ -125,7 +126,7 @@ pub judge-done : (s : List ℕ) (at : ℕ) (seen : Seen) (lines : ℕ) → lengt
 unfolding judgeFrom
 judge-done s at seen lines h = rw (no-items s at h)
 
-module _ (s : List ℕ) (at : ℕ) (seen : Seen) (lines : ℕ) (line : Line) (l : LineAt s at line) (fault : ℕ) (f : fault ≡ faultOf seen (line .item)) where
+module _ {s : List ℕ} {at : ℕ} {line : Line} (seen : Seen) (lines : ℕ) (l : LineAt s at line) {fault : ℕ} (f : fault ≡ faultOf seen (line .item)) where
   pub fault-found : (fault ≡ 0 → ⊥) → judgeFrom seen lines (itemsOf (drop at s)) ≡ broken fault (lines + 1)
   unfolding judgeFrom
   fault-found n = rw (l .is, ← f, ne-eqb fault 0 n)

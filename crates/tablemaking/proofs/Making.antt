@@ -10,9 +10,10 @@ use lib.ListN.{length, drop}
 use Rattle.rules.specs.Join.{twoBytes}
 use Rattle.text.specs.Writer.{Wrote}
 use Rattle.text.proofs.Written.{all}
+use Rattle.tablelines.specs.Faults.{longText, noRoom}
 use Rattle.tablelines.specs.Items.{itemsOf}
 use Rattle.tablemaking.specs.Judged.{judged}
-use Rattle.tablemaking.specs.Made.{headersOf, scopesOf, partsSaid, scopesSaid, tableSaid, FewRows, longestText, longText, noRoom, MadeExit, MadeAs, refused, written, makeExit}
+use Rattle.tablemaking.specs.Made.{headersOf, scopesOf, partsSaid, scopesSaid, tableSaid, FewRows, longestText, TakenAs, MadeExit, MadeAs, refused, written, makeExit}
 use Rattle.tablemaking.specs.declared.Judged.{Judged}
 use Rattle.tablemaking.specs.declared.Made.{Made}
 use Rattle.tablemaking.proofs.Parts.{parts-are}
@@ -48,9 +49,12 @@ pub as-said : {o x y n : List ℕ} {a b : ℕ} → x ≡ y → Wrote o a x n b �
 as-said {o} {x} {y} {n} {a} {b} e w = subst (λ (z : List ℕ). Wrote o a z n b) e w
 
 -- ---- a text that was judged, and is taken
-module _ (s : List ℕ) (j : Judged) (q : j ≡ judged s) (e : j .error ≡ 0) where
+module _ {s : List ℕ} {j : Judged} (T : TakenAs s j) where
+  q : j ≡ judged s
+  q = T .is
+
   pub error-said : judged s .error ≡ 0
-  error-said = ap (λ (x : Judged). x .error) (sym q) ∙ e
+  error-said = ap (λ (x : Judged). x .error) (sym q) ∙ T .taken
 
   pub layout-byte : j .layout < 256
   layout-byte = let a : j .layout ≡ judged s .layout = ap (λ (x : Judged). x .layout) q in omega (arith, counts s error-said .layout)

@@ -5,17 +5,49 @@ use mathlib.Core.Path.{_≡_, refl, sym, ap, subst, _∙_}
 use mathlib.Core.Bool.{Bool, true, false, cond}
 use mathlib.Core.List.{List, [], _∷_, _++_, map, append-assoc, List·Memᴰ, List·Memᴰ·head, List·Memᴰ·tail}
 use lib.ListN.{length, drop}
+use types.Run.{OneOf, miss}
+use denote.Enum.Declared.{tagOf}
 use Rattle.rules.specs.Lists.{concat}
 use Rattle.rules.specs.CodeTable.{Tie}
 use Rattle.rules.specs.CodeTable as table
 use Rattle.rules.specs.Join.{twoBytes, tieBytes, tiesBytes, scopeBytes, tableBytes}
 use Rattle.tablelines.specs.Items.{itemsOf, LineAt}
+use Rattle.tablelines.proofs.Item.{the-type}
 use Rattle.tablelines.specs.declared.Item.{Item}
 use Rattle.tablelines.specs.declared.Item.the-variants.{Nothing, Layout, Header, Scope, Row, Bad}
 use Rattle.tablelines.specs.declared.Line.{Line}
 use Rattle.tablemaking.specs.Judged.{judged}
 use Rattle.tablemaking.proofs.Judging.{no-items}
-use Rattle.tablemaking.specs.Made.{headersOf, rowsOf, scopesOf, codeBytes, rowBytes, isScope, rowsIn, scopeSaid, partBytes, partsSaid, scopesSaid, tableSaid, FewRows}
+use Rattle.tablemaking.specs.Made.{byPart, onHeader, onScope, onRow, tie, headersOf, rowsOf, scopesOf, codeBytes, rowBytes, isScope, rowsIn, scopeSaid, partBytes, partsSaid, scopesSaid, tableSaid, FewRows}
+
+-- ---- a line that says another part, by its variant's number
+module _ {A : Type 0} (none : A) where
+  pub no-header : (f : ℕ → A) (item : Item) → OneOf (0 ∷ 1 ∷ 3 ∷ 4 ∷ 5 ∷ []) (tagOf the-type item) → onHeader none f item ≡ none
+  unfolding byPart
+  no-header f Nothing k = refl
+  no-header f (Layout byte) k = refl
+  no-header f (Header code) k = absurd (miss (0 ∷ 1 ∷ 3 ∷ 4 ∷ 5 ∷ []) 2 tt k)
+  no-header f (Scope kind code) k = refl
+  no-header f (Row id target kind) k = refl
+  no-header f (Bad error) k = refl
+
+  pub no-scope : (f : ℕ → ℕ → A) (item : Item) → OneOf (0 ∷ 1 ∷ 2 ∷ 4 ∷ 5 ∷ []) (tagOf the-type item) → onScope none f item ≡ none
+  unfolding byPart
+  no-scope f Nothing k = refl
+  no-scope f (Layout byte) k = refl
+  no-scope f (Header code) k = refl
+  no-scope f (Scope kind code) k = absurd (miss (0 ∷ 1 ∷ 2 ∷ 4 ∷ 5 ∷ []) 3 tt k)
+  no-scope f (Row id target kind) k = refl
+  no-scope f (Bad error) k = refl
+
+  pub no-row : (f : ℕ → ℕ → ℕ → A) (item : Item) → OneOf (0 ∷ 1 ∷ 2 ∷ 3 ∷ 5 ∷ []) (tagOf the-type item) → onRow none f item ≡ none
+  unfolding byPart
+  no-row f Nothing k = refl
+  no-row f (Layout byte) k = refl
+  no-row f (Header code) k = refl
+  no-row f (Scope kind code) k = refl
+  no-row f (Row id target kind) k = absurd (miss (0 ∷ 1 ∷ 2 ∷ 3 ∷ 5 ∷ []) 4 tt k)
+  no-row f (Bad error) k = refl
 
 -- ---- a line more
 module _ (item : Item) (items : List Item) where
@@ -40,7 +72,7 @@ not-both : {A : Type 0} → false ≡ true → A
 not-both e = let z : _≡_ {A = ℕ} 0 1 = ap (λ (b : Bool). cond b 1 0) e in absurd (omega arith)
 
 pub rows-end : (item : Item) (items : List Item) → isScope item ≡ true → length (rowsOf (item ∷ items)) ≡ 0
-unfolding rowsOf isScope
+unfolding byPart rowsOf isScope
 rows-end Nothing items e = not-both e
 rows-end (Layout byte) items e = not-both e
 rows-end (Header code) items e = not-both e
@@ -49,7 +81,7 @@ rows-end (Row id target kind) items e = not-both e
 rows-end (Bad error) items e = not-both e
 
 pub rows-on : (item : Item) (items : List Item) → isScope item ≡ false → length (rowsOf (item ∷ items)) ≡ rowsIn item + length (rowsOf items)
-unfolding rowsOf isScope rowsIn
+unfolding byPart rowsOf isScope rowsIn
 rows-on Nothing items e = omega arith
 rows-on (Layout byte) items e = omega arith
 rows-on (Header code) items e = omega arith
@@ -63,7 +95,7 @@ no-rows-left s at h = rw (no-items s at h)
 
 -- ---- few rows in each scope
 pub few-rest : (item : Item) (items : List Item) → FewRows (item ∷ items) → FewRows items
-unfolding scopesOf
+unfolding byPart scopesOf
 few-rest Nothing items f = f
 few-rest (Layout byte) items f = f
 few-rest (Header code) items f = f
@@ -72,14 +104,14 @@ few-rest (Row id target kind) items f = f
 few-rest (Bad error) items f = f
 
 pub few-of : (item : Item) (kind code : ℕ) (items : List Item) → item ≡ Scope kind code → FewRows (item ∷ items) → length (rowsOf items) < 65536
-unfolding scopesOf
+unfolding byPart scopesOf
 few-of item kind code items e f =
     let g : FewRows (Scope kind code ∷ items) = subst (λ (x : Item). FewRows (x ∷ items)) e f in
     g (record { kind = kind; code = code; rows = rowsOf items }) (List·Memᴰ·head refl)
 
 -- ---- the parts together
 pub codes-are : (items : List Item) → partsSaid false items ≡ concat (map twoBytes (headersOf items))
-unfolding partsSaid partBytes concat codeBytes headersOf
+unfolding byPart partsSaid partBytes concat codeBytes headersOf
 codes-are [] = refl
 codes-are (Nothing ∷ items) = codes-are items
 codes-are (Layout byte ∷ items) = codes-are items
@@ -89,7 +121,7 @@ codes-are (Row id target kind ∷ items) = codes-are items
 codes-are (Bad error ∷ items) = codes-are items
 
 pub scopes-are : (items : List Item) → scopesSaid items ≡ concat (map scopeBytes (scopesOf items))
-unfolding scopesSaid concat scopeSaid scopesOf
+unfolding byPart scopesSaid concat scopeSaid scopesOf
 scopes-are [] = refl
 scopes-are (Nothing ∷ items) = scopes-are items
 scopes-are (Layout byte ∷ items) = scopes-are items
@@ -103,14 +135,14 @@ bodies ss = concat (map (λ (s : table.Scope). tiesBytes (s .rows)) ss)
 
 -- those above the first scope stand before the bodies
 rows-with : (items : List Item) → partsSaid true items ≡ tiesBytes (rowsOf items) ++ bodies (scopesOf items)
-unfolding partsSaid partBytes concat rowBytes rowsOf scopesOf
+unfolding byPart partsSaid partBytes concat rowBytes rowsOf scopesOf
 rows-with [] = refl
 rows-with (Nothing ∷ items) = rows-with items
 rows-with (Layout byte ∷ items) = rows-with items
 rows-with (Header code ∷ items) = rows-with items
 rows-with (Scope kind code ∷ items) = rows-with items
 rows-with (Row id target kind ∷ items) =
-    let r : Tie = record { id = id; target = target; kind = kind } in
+    let r : Tie = tie id target kind in
     ap (λ (x : List ℕ). tieBytes r ++ x) (rows-with items) ∙ sym (append-assoc (tieBytes r) (tiesBytes (rowsOf items)) (bodies (scopesOf items)))
 rows-with (Bad error ∷ items) = rows-with items
 

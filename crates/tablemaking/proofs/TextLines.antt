@@ -17,12 +17,13 @@ use Rattle.rules.specs.Names.{hasId, nameText, nameIn, namesFor}
 use Rattle.rules.specs.CodeTable.{Tie}
 use Rattle.rules.proofs.ListLaws.{and-l, and-r, all-there, found-there}
 use Rattle.tabletext.specs.Text.{remark, kindWord, markOf, rowLine, scopeName, typeRemark, scopeLine, headerLine}
-use Rattle.tablelines.specs.Words.{onto, linesOf, lineEnd, sign, letter, blank, isBlank, stops, before, onward, word, behind, digitOf, pairOf, twoOf, wideOf, fourOf, kindOf}
-use Rattle.tablelines.specs.Items.{itemOf, itemIn, itemBy, itemsOf, layoutItem, headerItem, formItem, entryItem, rowItem}
+use Rattle.tablelines.specs.Words.{onto, linesOf, lineEnd, sign, letter, blank, isBlank, stops, before, onward, word, afterWord, digitOf, byteOf, twoOf, codeOf, fourOf, rowKindOf}
+use Rattle.tablelines.proofs.WordLaws.{other-length, a-byte, a-code}
+use Rattle.tablelines.specs.Items.{Digit, itemOf, itemIn, itemBy, itemsOf, numberFault, unless, layoutItem, headerItem, plainScopeItem, entryItem, rowItem}
 use Rattle.tablelines.specs.declared.Item.{Item}
 use Rattle.tablelines.specs.declared.Item.the-variants.{Nothing, Layout, Header, Scope as ScopeLine, Row}
 
--- ---- what a search passes over
+-- ---- what a search skips
 abbrev pub passes : ℕ → List ℕ → Bool
 passes search s = all (λ b. not (stops search b)) s
 
@@ -61,7 +62,7 @@ pub says : (line rest : List ℕ) (item : Item) (s : List ℕ) → s ≡ line ++
 says line rest item s e p i = ap itemsOf e ∙ items-first line rest p ∙ ap (λ x. x ∷ itemsOf rest) i
 
 pub nothing-said : (rest : List ℕ) → itemsOf (10 ∷ rest) ≡ Nothing ∷ itemsOf rest
-unfolding all itemOf itemIn itemBy word behind before onward
+unfolding all itemOf itemIn itemBy word afterWord before onward
 nothing-said rest = says [] rest Nothing (10 ∷ rest) refl refl refl
 
 -- ---- words
@@ -84,14 +85,14 @@ pub record Ends (rest : List ℕ) : Type 0 where
   pub cut : before blank rest ≡ []
   pub stays : onward blank rest ≡ rest
 
--- what stands behind the last word
+-- what stands afterWord the last word
 pub record Tail (t : List ℕ) : Type 0 where
   pub ends : Ends t
   pub no-word : word t ≡ []
-  pub no-more : behind t ≡ []
+  pub no-more : afterWord t ≡ []
 
 nil-tail : Tail []
-unfolding word behind before onward
+unfolding word afterWord before onward
 nil-tail = record { ends = record { cut = refl; stays = refl }; no-word = refl; no-more = refl }
 
 blank-ends : (s : List ℕ) → Ends (32 ∷ s)
@@ -99,7 +100,7 @@ unfolding before onward stops isBlank
 blank-ends s = record { cut = refl; stays = refl }
 
 blanks-tail : Tail (32 ∷ 32 ∷ [])
-unfolding word behind before onward stops isBlank
+unfolding word afterWord before onward stops isBlank
 blanks-tail = record { ends = blank-ends (32 ∷ []); no-word = refl; no-more = refl }
 
 remark-tail : (name : List ℕ) → Tail (before sign (remark name))
@@ -117,16 +118,16 @@ module _ (w rest : List ℕ) (W : IsWord w) (E : Ends rest) where
   unfolding word
   word-first = rw (W .starts rest) (before-to blank w rest (W .letters) (E .cut))
 
-  behind-first : behind (w ++ rest) ≡ rest
-  unfolding behind
-  behind-first = rw (W .starts rest) (onward-passed blank w rest (W .letters) ∙ E .stays)
+  after-first : afterWord (w ++ rest) ≡ rest
+  unfolding afterWord
+  after-first = rw (W .starts rest) (onward-passed blank w rest (W .letters) ∙ E .stays)
 
-  -- behind a blank
+  -- after a blank
   word-next : word (32 ∷ (w ++ rest)) ≡ w
   word-next = unfold word onward stops isBlank in word-first
 
-  behind-next : behind (32 ∷ (w ++ rest)) ≡ rest
-  behind-next = unfold behind onward stops isBlank in behind-first
+  after-next : afterWord (32 ∷ (w ++ rest)) ≡ rest
+  after-next = unfold afterWord onward stops isBlank in after-first
 
 before-blank : (s : List ℕ) → before sign (32 ∷ s) ≡ 32 ∷ before sign s
 unfolding before stops
@@ -136,7 +137,7 @@ blank-plain : (s : List ℕ) → passes lineEnd s ≡ true → passes lineEnd (3
 unfolding all stops
 blank-plain s p = p
 
--- ---- lines of one, two and three words, and a name behind them
+-- ---- lines of one, two and three words, and a name afterWord them
 module _ (a name rest : List ℕ) (A : IsWord a) (N : passes lineEnd name ≡ true) where
   abbrev tail : List ℕ
   tail = before sign (remark name)
@@ -147,7 +148,7 @@ module _ (a name rest : List ℕ) (A : IsWord a) (N : passes lineEnd name ≡ tr
   one-item : itemOf (a ++ remark name) ≡ itemBy a [] [] false
   unfolding itemOf itemIn
   one-item =
-      rw (before-passed sign a (remark name) (A .unsigned), word-first a tail A (T .ends), behind-first a tail A (T .ends), T .no-word, T .no-more, nil-tail .no-more, nil-tail .no-word)
+      rw (before-passed sign a (remark name) (A .unsigned), word-first a tail A (T .ends), after-first a tail A (T .ends), T .no-word, T .no-more, nil-tail .no-more, nil-tail .no-word)
 
   pub one-word : (s : List ℕ) (item : Item) → s ≡ (a ++ remark name) ++ 10 ∷ rest → itemBy a [] [] false ≡ item → itemsOf s ≡ item ∷ itemsOf rest
   one-word s item e i = says (a ++ remark name) rest item s e (passes-append lineEnd a (remark name) (A .plain) (remark-plain name N)) (one-item ∙ i)
@@ -164,9 +165,9 @@ module _ (a name rest : List ℕ) (A : IsWord a) (N : passes lineEnd name ≡ tr
           before-blank (b ++ remark name),
           before-passed sign b (remark name) (B .unsigned),
           word-first a (32 ∷ (b ++ tail)) A (blank-ends (b ++ tail)),
-          behind-first a (32 ∷ (b ++ tail)) A (blank-ends (b ++ tail)),
+          after-first a (32 ∷ (b ++ tail)) A (blank-ends (b ++ tail)),
           word-next b tail B (T .ends),
-          behind-next b tail B (T .ends),
+          after-next b tail B (T .ends),
           T .no-word,
           T .no-more,
           nil-tail .no-word,
@@ -192,11 +193,11 @@ module _ (a name rest : List ℕ) (A : IsWord a) (N : passes lineEnd name ≡ tr
             before-blank (c ++ remark name),
             before-passed sign c (remark name) (C .unsigned),
             word-first a (32 ∷ (b ++ 32 ∷ (c ++ tail))) A (blank-ends (b ++ 32 ∷ (c ++ tail))),
-            behind-first a (32 ∷ (b ++ 32 ∷ (c ++ tail))) A (blank-ends (b ++ 32 ∷ (c ++ tail))),
+            after-first a (32 ∷ (b ++ 32 ∷ (c ++ tail))) A (blank-ends (b ++ 32 ∷ (c ++ tail))),
             word-next b (32 ∷ (c ++ tail)) B (blank-ends (c ++ tail)),
-            behind-next b (32 ∷ (c ++ tail)) B (blank-ends (c ++ tail)),
+            after-next b (32 ∷ (c ++ tail)) B (blank-ends (c ++ tail)),
             word-next c tail C (T .ends),
-            behind-next c tail C (T .ends),
+            after-next c tail C (T .ends),
             T .no-word,
           )
 
@@ -271,19 +272,14 @@ digit-value n h = go (ltb n 10) refl
         let e : 55 + n - 55 ≡ n = omega arith in
         rw (le-leb 48 (55 + n) (omega arith), lt-leb (55 + n) 57 (omega arith), le-leb 65 (55 + n) (omega arith), le-leb (55 + n) 70 (omega arith)) e
 
-pair-back : (a b x y : ℕ) → digitOf a ≡ x → digitOf b ≡ y → x < 16 → y < 16 → pairOf a b ≡ 16 * x + y
-unfolding pairOf
-pair-back a b x y p q h k = rw (p, q, lt-ltb x 16 h, lt-ltb y 16 k)
+read-back : (n : ℕ) → n < 16 → Digit (digit n) n
+read-back n h = record { is = sym (digit-value n h); small = omega arith }
 
-digits-back : (m n : ℕ) → pairOf (digit (m % 16)) (digit (n % 16)) ≡ 16 * (m % 16) + n % 16
+digits-back : (m n : ℕ) → byteOf (digit (m % 16)) (digit (n % 16)) ≡ 16 * (m % 16) + n % 16
 digits-back m n =
     let a : m % 16 < 16 = omega arith in
     let b : n % 16 < 16 = omega arith in
-    pair-back (digit (m % 16)) (digit (n % 16)) (m % 16) (n % 16) (digit-value (m % 16) a) (digit-value (n % 16) b) a b
-
-wide-back : (x y : ℕ) → x < 256 → y < 256 → wideOf x y ≡ 256 * x + y
-unfolding wideOf
-wide-back x y h k = rw (lt-ltb x 256 h, lt-ltb y 256 k)
+    a-byte (read-back (m % 16) a) (read-back (n % 16) b) (λ e. omega arith) (λ e. omega arith)
 
 pub two-back : (n : ℕ) → n < 256 → twoOf (hex 2 n) ≡ n
 unfolding twoOf hex
@@ -300,7 +296,7 @@ four-back n h =
     let c : ℕ = n / 16 / 16 / 16 in
     let x : 16 * (c % 16) + b % 16 < 256 = omega arith in
     let y : 16 * (a % 16) + n % 16 < 256 = omega arith in
-    rw (digits-back (n / 16 / 16 / 16) (n / 16 / 16), digits-back (n / 16) n) (wide-back (16 * (c % 16) + b % 16) (16 * (a % 16) + n % 16) x y ∙ four-sum n a b c h refl refl refl)
+    rw (digits-back (n / 16 / 16 / 16) (n / 16 / 16), digits-back (n / 16) n) (a-code (16 * (c % 16) + b % 16) (16 * (a % 16) + n % 16) x y ∙ four-sum n a b c h refl refl refl)
 
 pub two-word : (n : ℕ) → IsWord (hex 2 n)
 unfolding hex all
@@ -319,8 +315,8 @@ kind-word (suc (suc zero)) = high-word (text "guid") refl refl
 kind-word (suc (suc (suc zero))) = high-word (text "double") refl refl
 kind-word (suc (suc (suc (suc k)))) = high-word (text "bytes") refl refl
 
-kind-back : (k : ℕ) → k ≤ 4 → kindOf (kindWord k) ≡ k
-unfolding kindOf kindWord same
+kind-back : (k : ℕ) → k ≤ 4 → rowKindOf (kindWord k) ≡ k
+unfolding rowKindOf kindWord same
 kind-back zero h = refl
 kind-back (suc zero) h = refl
 kind-back (suc (suc zero)) h = refl
@@ -329,43 +325,32 @@ kind-back (suc (suc (suc (suc zero)))) h = refl
 kind-back (suc (suc (suc (suc (suc k))))) h = absurd (omega arith)
 
 -- ---- a word of two digits is no other word
-and-false : (a b : Bool) → b ≡ false → (a && b) ≡ false
-and-false true b e = e
-and-false false b e = refl
-
-same-short : (xs ys : List ℕ) → (length xs ≡ length ys → ⊥) → same xs ys ≡ false
-unfolding same
-same-short [] [] n = absurd (n refl)
-same-short [] (y ∷ ys) n = refl
-same-short (x ∷ xs) [] n = refl
-same-short (x ∷ xs) (y ∷ ys) n = and-false (eqb x y) (same xs ys) (same-short xs ys (λ e. n (ap suc e)))
-
 two-long : (n : ℕ) → length (hex 2 n) ≡ 2
 unfolding hex
 two-long n = refl
 
 other-word : (n : ℕ) (w : List ℕ) → (length w ≡ 2 → ⊥) → same (hex 2 n) w ≡ false
-other-word n w h = same-short (hex 2 n) w (λ e. h (sym e ∙ two-long n))
+other-word n w h = other-length (hex 2 n) w (λ e. h (sym e ∙ two-long n))
 
 -- ---- what the words of a line say
 layout-item : (x : ℕ) → x < 256 → itemBy (text "layout") (hex 2 x) [] false ≡ Layout x
-unfolding itemBy layoutItem same
+unfolding itemBy numberFault unless layoutItem same
 layout-item x h = rw (two-back x h, le-ltb 255 x (omega arith))
 
 header-item : (c : ℕ) → c < 65536 → itemBy (text "header") (hex 4 c) [] false ≡ Header c
-unfolding itemBy headerItem same
+unfolding itemBy numberFault unless headerItem same
 header-item c h = rw (four-back c h, le-ltb 65535 c (omega arith))
 
 entry-item : (c : ℕ) → c < 65536 → itemBy (text "entry") (hex 4 c) [] false ≡ ScopeLine 2 c
-unfolding itemBy entryItem same
+unfolding itemBy numberFault unless entryItem same
 entry-item c h = rw (four-back c h, le-ltb 65535 c (omega arith))
 
 form-item : itemBy (text "form") [] [] false ≡ ScopeLine 0 0
-unfolding itemBy formItem same
+unfolding itemBy plainScopeItem same
 form-item = refl
 
 report-item : itemBy (text "report") [] [] false ≡ ScopeLine 1 0
-unfolding itemBy formItem same
+unfolding itemBy plainScopeItem same
 report-item = refl
 
 row-item : (id target kind : ℕ) → id < 256 → target < 65536 → kind ≤ 4 → itemBy (hex 2 id) (hex 4 target) (kindWord kind) false ≡ Row id target kind

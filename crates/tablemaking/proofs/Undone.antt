@@ -16,12 +16,13 @@ use Rattle.joinlaws.proofs.TableBytesLaws.{length-codesAt, length-scopesAt, wri
 use Rattle.joinlaws.proofs.JoinLaws.{scope-ok, codeFits}
 use Rattle.tabletext.specs.Text.{rowLine, rowLines, scopeLines, headerLine, headerLines, tableText}
 use Rattle.tabletext.proofs.Longest.{longest-table}
+use Rattle.tablelines.specs.Faults.{longText, noRoom}
 use Rattle.tablelines.specs.Words.{linesOf}
 use Rattle.tablelines.specs.Items.{itemsOf}
 use Rattle.tablelines.specs.declared.Item.{Item}
 use Rattle.tablelines.specs.declared.Item.the-variants.{Nothing, Layout, Header, Scope as ScopeLine, Row}
 use Rattle.tablemaking.specs.Judged.{unnamed, nothingSeen, withLayout, withHeader, withScope, withRow, after, headerFault, scopeFault, rowFault, belowLayout, layoutFault, faultOf, judgeEnd, judgeFrom, judged}
-use Rattle.tablemaking.specs.Made.{headersOf, rowsOf, scopesOf, tableSaid, longestText, longText, noRoom, MadeExit, refused, written, makeExit}
+use Rattle.tablemaking.specs.Made.{byPart, headersOf, rowsOf, scopesOf, tableSaid, longestText, MadeExit, refused, written, makeExit}
 use Rattle.tablemaking.specs.Undone.{Taken, TableBack, MadeOf, Undone}
 use Rattle.tablemaking.specs.declared.Seen.{Seen}
 use Rattle.tablemaking.specs.declared.Judged.{Judged}
@@ -84,42 +85,42 @@ scopes-said (s ∷ ss) o f =
 
 -- ---- what they say together
 no-headers : (rs : List Tie) (items : List Item) → headersOf (map rowItem rs ++ items) ≡ headersOf items
-unfolding headersOf
+unfolding byPart headersOf
 no-headers [] items = refl
 no-headers (r ∷ rs) items = no-headers rs items
 
 scopes-no-headers : (ss : List Scope) → headersOf (scopeItems ss) ≡ []
-unfolding headersOf scopeItems
+unfolding byPart headersOf scopeItems
 scopes-no-headers [] = refl
 scopes-no-headers (s ∷ ss) = no-headers (s .rows) (scopeItems ss) ∙ scopes-no-headers ss
 
 headers-back : (cs : List ℕ) (items : List Item) → headersOf items ≡ [] → headersOf (map Header cs ++ items) ≡ cs
-unfolding headersOf
+unfolding byPart headersOf
 headers-back [] items e = e
 headers-back (c ∷ cs) items e = ap (λ l. c ∷ l) (headers-back cs items e)
 
 scopes-no-rows : (ss : List Scope) → rowsOf (scopeItems ss) ≡ []
-unfolding rowsOf scopeItems
+unfolding byPart rowsOf scopeItems
 scopes-no-rows [] = refl
 scopes-no-rows (s ∷ ss) = refl
 
 rows-back : (rs : List Tie) (items : List Item) → rowsOf items ≡ [] → rowsOf (map rowItem rs ++ items) ≡ rs
-unfolding rowsOf
+unfolding byPart rowsOf
 rows-back [] items e = e
 rows-back (r ∷ rs) items e = ap (λ l. r ∷ l) (rows-back rs items e)
 
 rows-no-scopes : (rs : List Tie) (items : List Item) → scopesOf (map rowItem rs ++ items) ≡ scopesOf items
-unfolding scopesOf
+unfolding byPart scopesOf
 rows-no-scopes [] items = refl
 rows-no-scopes (r ∷ rs) items = rows-no-scopes rs items
 
 headers-no-scopes : (cs : List ℕ) (items : List Item) → scopesOf (map Header cs ++ items) ≡ scopesOf items
-unfolding scopesOf
+unfolding byPart scopesOf
 headers-no-scopes [] items = refl
 headers-no-scopes (c ∷ cs) items = headers-no-scopes cs items
 
 scopes-back : (ss : List Scope) → scopesOf (scopeItems ss) ≡ ss
-unfolding scopesOf scopeItems
+unfolding byPart scopesOf scopeItems
 scopes-back [] = refl
 scopes-back (s ∷ ss) =
     let a : rowsOf (map rowItem (s .rows) ++ scopeItems ss) ≡ s .rows = rows-back (s .rows) (scopeItems ss) (scopes-no-rows ss) in
@@ -246,11 +247,11 @@ module _ (t : List ℕ) (B : Bytes t) (w : wellFormed t ≡ true) where
       rw text-items (keeps-table (layout t) (B 0) (header t) (scopes t) (omega arith) (omega arith) (F .header-ascends) (F .keys-ascend) (F .scopes-ok))
 
   text-headers : headersOf (itemsOf (tableText t)) ≡ header t
-  unfolding headersOf
+  unfolding byPart headersOf
   text-headers = rw text-items (headers-back (header t) (scopeItems (scopes t)) (scopes-no-headers (scopes t)))
 
   text-scopes : scopesOf (itemsOf (tableText t)) ≡ scopes t
-  unfolding scopesOf
+  unfolding byPart scopesOf
   text-scopes = rw text-items (headers-no-scopes (header t) (scopeItems (scopes t)) ∙ scopes-back (scopes t))
 
   said-back : tableSaid (tableText t) ≡ t

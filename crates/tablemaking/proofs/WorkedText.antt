@@ -11,18 +11,19 @@ use Rattle.rules.proofs.OpenBytes.{bytes-open}
 use Rattle.rules.proofs.OpenNames.{names-open}
 use Rattle.rules.proofs.OpenTables.{join-open}
 use Rattle.tabletext.specs.Text as shown
-use Rattle.tablelines.specs.Words.{onto, linesOf, isBlank, stops, before, onward, word, behind, digitOf, pairOf, twoOf, wideOf, fourOf, kindOf}
-use Rattle.tablelines.specs.Items.{layoutItem, headerItem, formItem, entryItem, rowItem, itemBy, itemIn, itemOf, itemsOf}
+use Rattle.tablelines.specs.Faults.{longText}
+use Rattle.tablelines.specs.Words.{onto, linesOf, isBlank, stops, before, onward, word, afterWord, digitOf, byteOf, twoOf, codeOf, fourOf, rowKindOf}
+use Rattle.tablelines.specs.Items.{numberFault, unless, layoutItem, headerItem, plainScopeItem, entryItem, rowItem, itemBy, itemIn, itemOf, itemsOf}
 use Rattle.tablemaking.specs.Judged.{after, headerFault, scopeFault, rowFault, belowLayout, layoutFault, faultOf, broken, judgeEnd, judgeFrom, judged}
-use Rattle.tablemaking.specs.Made.{headersOf, rowsOf, scopesOf, tableSaid, longestText, longText, refused, written, makeExit}
+use Rattle.tablemaking.specs.Made.{byPart, headersOf, rowsOf, scopesOf, tableSaid, longestText, refused, written, makeExit}
 
 -- to unfold these is to unfold the definitions that they list
 unfoldable pub lines-open : ℕ
-unfolding bytes-open join-open onto linesOf isBlank stops before onward word behind digitOf pairOf twoOf wideOf fourOf kindOf layoutItem headerItem formItem entryItem rowItem itemBy itemIn itemOf itemsOf
+unfolding bytes-open join-open onto linesOf isBlank stops before onward word afterWord digitOf byteOf twoOf codeOf fourOf rowKindOf numberFault unless layoutItem headerItem plainScopeItem entryItem rowItem itemBy itemIn itemOf itemsOf
 lines-open = 0
 
 unfoldable pub made-open : ℕ
-unfolding lines-open after headerFault scopeFault rowFault belowLayout layoutFault faultOf judgeEnd judgeFrom judged headersOf rowsOf scopesOf tableSaid makeExit
+unfolding lines-open after headerFault scopeFault rowFault belowLayout layoutFault faultOf judgeEnd judgeFrom judged byPart headersOf rowsOf scopesOf tableSaid makeExit
 made-open = 0
 
 unfoldable pub shown-open : ℕ
@@ -55,7 +56,7 @@ pub example-said :
     (judged example ≡ record { error = 0; line = 0; layout = 0x13; headers = 1; scopes = 2; rows = 3 })
     × (tableSaid example ≡ table)
     × (makeExit example (7 ∷ []) ≡ refused 19 0 (7 ∷ []))  -- too little room
-    × (makeExit example (table ++ (7 ∷ [])) ≡ written table (table ++ (7 ∷ [])))  -- what stands behind stays
+    × (makeExit example (table ++ (7 ∷ [])) ≡ written table (table ++ (7 ∷ [])))  -- what stands after it stays
 unfolding made-open
 example-said = (refl, refl, refl, refl)
 
@@ -91,7 +92,7 @@ pub ways :
     × (tableSaid (text "\tlayout\t13  \n  entry\t 0064\t\nDC\t011A\tbytes") ≡ short)  -- tabs and blanks
     × (tableSaid (text "layout 13\nentry 0064\ndc 011a bytes\n") ≡ short)  -- small hex letters
     × (tableSaid (text "layout 13\nentry 0064\nDc 011a bytes\n") ≡ short)
-    × (tableSaid (text "layout 13# x\nentry 0064#Label\nDC 011A bytes#\n") ≡ short)  -- a remark right behind a word
+    × (tableSaid (text "layout 13# x\nentry 0064#Label\nDC 011A bytes#\n") ≡ short)  -- a remark right after a word
     × (tableSaid (text "# layout 14\n\n  \t\r\nlayout 13 # layout 14 # x\n\nentry 0064\n#\nDC 011A bytes\n\n\n") ≡ short)  -- lines that say nothing
     × (judged (text "layout 13\nentry 0064\nDC 011A bytes") ≡ record { error = 0; line = 0; layout = 0x13; headers = 0; scopes = 1; rows = 1 })
     × (tableSaid (text "layout FF") ≡ dump "FF 00  00 00")  -- a layout alone

@@ -1,51 +1,15 @@
 -- Whether the lines of a text make a code table, and if not, which line breaks which rule.
-use Prim.Native.Nat.{ℕ, _+_, _≤_}
+use Prim.Native.Nat.{ℕ, _+_, _≤_, _<_, _^_}
 use mathlib.Core.Bool.{cond}
 use mathlib.Core.List.{List, [], _∷_}
 use lib.Dec.{ltb, eqb}
 use Rattle.rules.specs.CodeTable.{keyOf}
+use Rattle.tablelines.specs.Faults.{noLayout, layoutFirst, layoutTwice, headerLate, headerOrder, manyHeaders, scopeOrder, manyScopes, rowEarly, idOrder, idHigh, targetHigh}
 use Rattle.tablelines.specs.Items.{itemsOf}
 use Rattle.tablelines.specs.declared.Item.{Item}
 use Rattle.tablelines.specs.declared.Item.the-variants.{Nothing, Layout, Header, Scope, Row, Bad}
 use Rattle.tablemaking.specs.declared.Seen.{Seen}
 use Rattle.tablemaking.specs.declared.Judged.{Judged}
-
--- ---- why a line, or the text, can't be taken: the numbers of a table's rules. `tablelines` has those of a line's words
-abbrev pub noLayout : ℕ
-noLayout = 1
-
-abbrev pub layoutFirst : ℕ
-layoutFirst = 2
-
-abbrev pub layoutTwice : ℕ
-layoutTwice = 3
-
-abbrev pub headerLate : ℕ
-headerLate = 8
-
-abbrev pub headerOrder : ℕ
-headerOrder = 9
-
-abbrev pub manyHeaders : ℕ
-manyHeaders = 10
-
-abbrev pub scopeOrder : ℕ
-scopeOrder = 11
-
-abbrev pub manyScopes : ℕ
-manyScopes = 12
-
-abbrev pub rowEarly : ℕ
-rowEarly = 13
-
-abbrev pub idOrder : ℕ
-idOrder = 14
-
-abbrev pub idHigh : ℕ
-idHigh = 15
-
-abbrev pub targetHigh : ℕ
-targetHigh = 16
 
 -- ---- what the lines above say
 -- no layout byte is named
@@ -105,6 +69,11 @@ pub record Few (seen : Seen) (lines : ℕ) : Type 0 where
   pub headers : seen .headers ≤ lines
   pub scopes : seen .scopes ≤ lines
   pub rows : seen .rows ≤ lines
+
+-- one line more can be counted
+pub record OneMore (seen : Seen) (lines : ℕ) : Type 0 where
+  pub few : Few seen lines
+  pub short : lines < 2 ^ 31
 
 unfoldable pub after : Seen → Item → Seen
 after seen Nothing = seen

@@ -1,5 +1,5 @@
 -- The code table that a text says, and what a caller has when it is made.
-use Prim.Native.Nat.{ℕ, _<_}
+use Prim.Native.Nat.{ℕ, _≤_, _<_}
 use mathlib.Core.Path.{_≡_}
 use mathlib.Core.Bool.{Bool, true, false, cond}
 use mathlib.Core.List.{List, [], _∷_, _++_, map, List·Memᴰ}
@@ -8,42 +8,51 @@ use lib.ListN.{length, drop}
 use Rattle.rules.specs.CodeTable as table
 use Rattle.rules.specs.Lists.{concat}
 use Rattle.rules.specs.Join.{twoBytes, tieBytes, scopeBytes, tableBytes}
+use Rattle.tablelines.specs.Faults.{longText, noRoom}
 use Rattle.tablelines.specs.Items.{itemsOf}
 use Rattle.tablelines.specs.declared.Item.{Item}
 use Rattle.tablelines.specs.declared.Item.the-variants.{Nothing, Layout, Header, Scope, Row, Bad}
 use Rattle.tablemaking.specs.Judged.{judged}
+use Rattle.tablemaking.specs.declared.Judged.{Judged}
 use Rattle.tablemaking.specs.declared.Made.{Made}
+
+-- ---- what a line adds to the table
+-- a header code, a scope, a row, or none of these
+unfoldable pub byPart : {A : Type 0} → A → (ℕ → A) → (ℕ → ℕ → A) → (ℕ → ℕ → ℕ → A) → Item → A
+byPart none header scope row Nothing = none
+byPart none header scope row (Layout byte) = none
+byPart none header scope row (Header code) = header code
+byPart none header scope row (Scope kind code) = scope kind code
+byPart none header scope row (Row id target kind) = row id target kind
+byPart none header scope row (Bad error) = none
+
+abbrev pub onHeader : {A : Type 0} → A → (ℕ → A) → Item → A
+onHeader none f = byPart none f (λ kind code. none) (λ id target kind. none)
+
+abbrev pub onScope : {A : Type 0} → A → (ℕ → ℕ → A) → Item → A
+onScope none f = byPart none (λ code. none) f (λ id target kind. none)
+
+abbrev pub onRow : {A : Type 0} → A → (ℕ → ℕ → ℕ → A) → Item → A
+onRow none f = byPart none (λ code. none) (λ kind code. none) f
+
+abbrev pub tie : ℕ → ℕ → ℕ → table.Tie
+tie id target kind = record { id = id; target = target; kind = kind }
 
 -- ---- what the lines say together
 -- the header codes, in their order
 unfoldable pub headersOf : List Item → List ℕ
 headersOf [] = []
-headersOf (Nothing ∷ items) = headersOf items
-headersOf (Layout byte ∷ items) = headersOf items
-headersOf (Header code ∷ items) = code ∷ headersOf items
-headersOf (Scope kind code ∷ items) = headersOf items
-headersOf (Row id target kind ∷ items) = headersOf items
-headersOf (Bad error ∷ items) = headersOf items
+headersOf (item ∷ items) = onHeader (headersOf items) (λ code. code ∷ headersOf items) item
 
 -- the rows above the next scope
 unfoldable pub rowsOf : List Item → List table.Tie
 rowsOf [] = []
-rowsOf (Nothing ∷ items) = rowsOf items
-rowsOf (Layout byte ∷ items) = rowsOf items
-rowsOf (Header code ∷ items) = rowsOf items
-rowsOf (Scope kind code ∷ items) = []
-rowsOf (Row id target kind ∷ items) = record { id = id; target = target; kind = kind } ∷ rowsOf items
-rowsOf (Bad error ∷ items) = rowsOf items
+rowsOf (item ∷ items) = byPart (rowsOf items) (λ code. rowsOf items) (λ kind code. []) (λ id target kind. tie id target kind ∷ rowsOf items) item
 
 -- each scope, with the rows that stand below it
 unfoldable pub scopesOf : List Item → List table.Scope
 scopesOf [] = []
-scopesOf (Nothing ∷ items) = scopesOf items
-scopesOf (Layout byte ∷ items) = scopesOf items
-scopesOf (Header code ∷ items) = scopesOf items
-scopesOf (Scope kind code ∷ items) = record { kind = kind; code = code; rows = rowsOf items } ∷ scopesOf items
-scopesOf (Row id target kind ∷ items) = scopesOf items
-scopesOf (Bad error ∷ items) = scopesOf items
+scopesOf (item ∷ items) = onScope (scopesOf items) (λ kind code. record { kind = kind; code = code; rows = rowsOf items } ∷ scopesOf items) item
 
 -- the table's bytes
 unfoldable pub tableSaid : List ℕ → List ℕ
@@ -53,12 +62,6 @@ tableSaid s = tableBytes (judged s .layout) (headersOf (itemsOf s)) (scopesOf (i
 -- a longer text isn't read
 abbrev pub longestText : ℕ
 longestText = 2097152
-
-abbrev pub longText : ℕ
-longText = 18
-
-abbrev pub noRoom : ℕ
-noRoom = 19
 
 pub record MadeExit : Type 0 where
   pub made : Made
@@ -71,7 +74,7 @@ refusedWith error line = record { error = error; line = line; size = 0 }
 abbrev pub refused : ℕ → ℕ → List ℕ → MadeExit
 refused error line out = record { made = refusedWith error line; out = out }
 
--- the table stands at the buffer's start; what stands behind it stays
+-- the table stands at the buffer's start; what stands after it stays
 abbrev pub written : List ℕ → List ℕ → MadeExit
 written t out = record { made = record { error = 0; line = 0; size = length t }; out = t ++ drop (length t) out }
 
@@ -89,45 +92,20 @@ pub record MadeAs (exit : MadeExit) (r : Made) (new : List ℕ) : Type 0 where
 
 -- ---- the table's parts, as they are written: line by line
 unfoldable pub codeBytes : Item → List ℕ
-codeBytes Nothing = []
-codeBytes (Layout byte) = []
-codeBytes (Header code) = twoBytes code
-codeBytes (Scope kind code) = []
-codeBytes (Row id target kind) = []
-codeBytes (Bad error) = []
+codeBytes = onHeader [] twoBytes
 
 unfoldable pub rowBytes : Item → List ℕ
-rowBytes Nothing = []
-rowBytes (Layout byte) = []
-rowBytes (Header code) = []
-rowBytes (Scope kind code) = []
-rowBytes (Row id target kind) = tieBytes (record { id = id; target = target; kind = kind })
-rowBytes (Bad error) = []
+rowBytes = onRow [] (λ id target kind. tieBytes (tie id target kind))
 
 unfoldable pub isScope : Item → Bool
-isScope Nothing = false
-isScope (Layout byte) = false
-isScope (Header code) = false
-isScope (Scope kind code) = true
-isScope (Row id target kind) = false
-isScope (Bad error) = false
+isScope = onScope false (λ kind code. true)
 
 unfoldable pub rowsIn : Item → ℕ
-rowsIn Nothing = 0
-rowsIn (Layout byte) = 0
-rowsIn (Header code) = 0
-rowsIn (Scope kind code) = 0
-rowsIn (Row id target kind) = 1
-rowsIn (Bad error) = 0
+rowsIn = onRow 0 (λ id target kind. 1)
 
 -- a scope's place in the contents, with the lines below it
 unfoldable pub scopeSaid : Item → List Item → List ℕ
-scopeSaid Nothing items = []
-scopeSaid (Layout byte) items = []
-scopeSaid (Header code) items = []
-scopeSaid (Scope kind code) items = scopeBytes (record { kind = kind; code = code; rows = rowsOf items })
-scopeSaid (Row id target kind) items = []
-scopeSaid (Bad error) items = []
+scopeSaid item items = onScope [] (λ kind code. scopeBytes (record { kind = kind; code = code; rows = rowsOf items })) item
 
 -- a line's part of the bodies, or of the header codes
 unfoldable pub partBytes : Bool → Item → List ℕ
@@ -143,3 +121,20 @@ scopesSaid (item ∷ items) = scopeSaid item items ++ scopesSaid items
 -- a row count has two bytes
 abbrev pub FewRows : List Item → Type 0
 FewRows items = (s : table.Scope) → List·Memᴰ s (scopesOf items) → length (s .rows) < 65536
+
+-- ---- what the code hands on
+-- the rows that a line is
+pub record CountsRows (item : Item) (r : ℕ) : Type 0 where
+  pub is : r ≡ rowsIn item
+  pub small : r ≤ 1
+
+-- a text whose lines, from some place on, can be written as scopes
+pub record ScopesReady (s : List ℕ) (items : List Item) : Type 0 where
+  pub short : length s ≤ longestText
+  pub few : FewRows items
+
+-- a text that was judged and is taken
+pub record TakenAs (s : List ℕ) (j : Judged) : Type 0 where
+  pub short : length s ≤ longestText
+  pub is : j ≡ judged s
+  pub taken : j .error ≡ 0

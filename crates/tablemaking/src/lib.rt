@@ -1,5 +1,19 @@
-// Makes a code table of its text, or says which line breaks which rule. specs/Judged.antt and specs/Made.antt say what is made.
+// The code table that a text says, or the first line that breaks a rule: lines are judged first (specs/Judged.antt), then written (specs/Made.antt).
 use tablelines::Item;
+use tablelines::faults::HEADER_LATE;
+use tablelines::faults::HEADER_ORDER;
+use tablelines::faults::ID_HIGH;
+use tablelines::faults::ID_ORDER;
+use tablelines::faults::LAYOUT_FIRST;
+use tablelines::faults::LAYOUT_TWICE;
+use tablelines::faults::LONG_TEXT;
+use tablelines::faults::MANY_HEADERS;
+use tablelines::faults::MANY_SCOPES;
+use tablelines::faults::NO_LAYOUT;
+use tablelines::faults::NO_ROOM;
+use tablelines::faults::ROW_EARLY;
+use tablelines::faults::SCOPE_ORDER;
+use tablelines::faults::TARGET_HIGH;
 use tablelines::line_at;
 use text::put_byte;
 ghost use mathlib.Core.Path.{_≡_};
@@ -13,39 +27,28 @@ ghost use Rattle.tablelines.specs.Items.{itemsOf};
 ghost use Rattle.tablemaking.specs.Judged as j;
 ghost use Rattle.tablemaking.specs.Made as m;
 
-// Why a table isn't made; `tablewhy` has the words for it.
-pub const NO_LAYOUT: u32 = 1;
-
-pub const LAYOUT_FIRST: u32 = 2;
-
-pub const LAYOUT_TWICE: u32 = 3;
-
-pub const HEADER_LATE: u32 = 8;
-
-pub const HEADER_ORDER: u32 = 9;
-
-pub const MANY_HEADERS: u32 = 10;
-
-pub const SCOPE_ORDER: u32 = 11;
-
-pub const MANY_SCOPES: u32 = 12;
-
-pub const ROW_EARLY: u32 = 13;
-
-pub const ID_ORDER: u32 = 14;
-
-pub const ID_HIGH: u32 = 15;
-
-pub const TARGET_HIGH: u32 = 16;
-
-pub const LONG_TEXT: u32 = 18;
-
-pub const NO_ROOM: u32 = 19;
-
 // The layout byte where none is named yet.
 const UNNAMED: u32 = 256;
 
 const LONGEST_TEXT: usize = 2097152;
+
+// The limits of document 01.
+const MOST_HEADERS: u32 = 4;
+
+const MOST_SCOPES: u32 = 64;
+
+const LAST_ID: u32 = 0xFC;
+
+const LAST_TARGET: u32 = 0x7FFF;
+
+// How many bytes the counts have, a header code, a scope of the contents, a row.
+const HEAD_SIZE: usize = 4;
+
+const CODE_SIZE: usize = 2;
+
+const SCOPE_SIZE: usize = 5;
+
+const ROW_SIZE: usize = 4;
 
 // What the lines so far say: the layout byte, how many header codes, scopes and rows, and the least code, key and id that may follow.
 pub struct Seen {
@@ -85,7 +88,7 @@ fn header_fault(seen: Seen, code: u32) -> u32
     if code < seen.least_header {
         return HEADER_ORDER;
     }
-    if 3 < seen.headers {
+    if MOST_HEADERS <= seen.headers {
         return MANY_HEADERS;
     }
     0
@@ -103,7 +106,7 @@ fn scope_fault(seen: Seen, key: u32) -> u32
     if key < seen.least_key {
         return SCOPE_ORDER;
     }
-    if 63 < seen.scopes {
+    if MOST_SCOPES <= seen.scopes {
         return MANY_SCOPES;
     }
     0
@@ -115,13 +118,13 @@ fn row_fault(seen: Seen, id: u32, target: u32) -> u32
     if seen.scopes == 0 {
         return ROW_EARLY;
     }
-    if 0xFC < id {
+    if LAST_ID < id {
         return ID_HIGH;
     }
     if id < seen.least_id {
         return ID_ORDER;
     }
-    if 0x7FFF < target {
+    if LAST_TARGET < target {
         return TARGET_HIGH;
     }
     0
@@ -213,7 +216,7 @@ fn with_row(mut seen: Seen, id: u8) -> Seen
 
 // What the lines say with one more; so far there are so many.
 fn after(seen: Seen, item: Item, lines: u32) -> Seen
-    requires { ⌜ j.Few seen lines × (lines < 2 ^ 31) ⌝ }
+    requires { ⌜ j.OneMore seen lines ⌝ }
     ensures { λ r. ⌜ r ≡ j.after seen item ⌝ }
 {
     match item {
@@ -287,16 +290,13 @@ fn put_half(out: &mut [u8], at: usize, n: u32) -> usize
     put_byte(out, p, (n / 256) as u8)
 }
 
-fn put_code(out: &mut [u8], at: usize, item: Item) -> usize
+// The header code of a line that says one.
+fn put_if_header(out: &mut [u8], at: usize, item: Item) -> usize
     ensures { λ r. ⌜ Wrote (now (out .entry)) at (m.codeBytes item) (now (out .exit)) r ⌝ }
 {
     match item {
-        Item::Nothing => at,
-        Item::Layout { byte } => at,
         Item::Header { code } => put_half(out, at, code as u32),
-        Item::Scope { kind, code } => at,
-        Item::Row { id, target, kind } => at,
-        Item::Bad { error } => at,
+        _ => at,
     }
 }
 
@@ -308,16 +308,12 @@ fn put_row(out: &mut [u8], at: usize, id: u8, target: u16, kind: u8) -> usize
     put_byte(out, p, kind)
 }
 
-fn put_tie(out: &mut [u8], at: usize, item: Item) -> usize
+fn put_if_row(out: &mut [u8], at: usize, item: Item) -> usize
     ensures { λ r. ⌜ Wrote (now (out .entry)) at (m.rowBytes item) (now (out .exit)) r ⌝ }
 {
     match item {
-        Item::Nothing => at,
-        Item::Layout { byte } => at,
-        Item::Header { code } => at,
-        Item::Scope { kind, code } => at,
         Item::Row { id, target, kind } => put_row(out, at, id, target, kind),
-        Item::Bad { error } => at,
+        _ => at,
     }
 }
 
@@ -326,9 +322,9 @@ fn put_part(out: &mut [u8], at: usize, item: Item, bodies: bool) -> usize
     ensures { λ r. ⌜ Wrote (now (out .entry)) at (m.partBytes bodies item) (now (out .exit)) r ⌝ }
 {
     if bodies {
-        return put_tie(out, at, item);
+        return put_if_row(out, at, item);
     }
-    put_code(out, at, item)
+    put_if_header(out, at, item)
 }
 
 // The rows of all lines, or their header codes.
@@ -351,25 +347,17 @@ fn is_scope(item: Item) -> bool
     ensures { λ r. ⌜ r ≡ m.isScope item ⌝ }
 {
     match item {
-        Item::Nothing => false,
-        Item::Layout { byte } => false,
-        Item::Header { code } => false,
         Item::Scope { kind, code } => true,
-        Item::Row { id, target, kind } => false,
-        Item::Bad { error } => false,
+        _ => false,
     }
 }
 
 fn rows_in(item: Item) -> u32
-    ensures { λ r. ⌜ (r ≡ m.rowsIn item) × (r ≤ 1) ⌝ }
+    ensures { λ r. ⌜ m.CountsRows item r ⌝ }
 {
     match item {
-        Item::Nothing => 0,
-        Item::Layout { byte } => 0,
-        Item::Header { code } => 0,
-        Item::Scope { kind, code } => 0,
         Item::Row { id, target, kind } => 1,
-        Item::Bad { error } => 0,
+        _ => 0,
     }
 }
 
@@ -392,7 +380,7 @@ fn rows_from(text: &[u8], from: usize) -> u32
     rows
 }
 
-fn put_entry(out: &mut [u8], at: usize, kind: u8, code: u16, rows: u32) -> usize
+fn put_scope(out: &mut [u8], at: usize, kind: u8, code: u16, rows: u32) -> usize
     requires { ⌜ rows < 65536 ⌝ }
     ensures { λ r. ⌜ Wrote (now (out .entry)) at (kind ∷ twoBytes code ++ twoBytes rows) (now (out .exit)) r ⌝ }
 {
@@ -401,24 +389,20 @@ fn put_entry(out: &mut [u8], at: usize, kind: u8, code: u16, rows: u32) -> usize
     put_half(out, p, rows)
 }
 
-// A scope's place in the contents; its rows begin at the next line.
-fn put_scope(text: &[u8], next: usize, item: Item, out: &mut [u8], at: usize) -> usize
-    requires { ⌜ (length (now text) ≤ m.longestText) × m.FewRows (item ∷ itemsOf (drop next (now text))) ⌝ }
+// A scope's place in the contents, of a line that says one; its rows begin at the next line.
+fn put_if_scope(text: &[u8], next: usize, item: Item, out: &mut [u8], at: usize) -> usize
+    requires { ⌜ m.ScopesReady (now text) (item ∷ itemsOf (drop next (now text))) ⌝ }
     ensures { λ r. ⌜ Wrote (now (out .entry)) at (m.scopeSaid item (itemsOf (drop next (now (text .entry))))) (now (out .exit)) r ⌝ }
 {
     match item {
-        Item::Nothing => at,
-        Item::Layout { byte } => at,
-        Item::Header { code } => at,
-        Item::Scope { kind, code } => put_entry(out, at, kind, code, rows_from(text, next)),
-        Item::Row { id, target, kind } => at,
-        Item::Bad { error } => at,
+        Item::Scope { kind, code } => put_scope(out, at, kind, code, rows_from(text, next)),
+        _ => at,
     }
 }
 
 // The scopes.
 fn put_scopes(text: &[u8], out: &mut [u8], at: usize) -> usize
-    requires { ⌜ (length (now text) ≤ m.longestText) × m.FewRows (itemsOf (now text)) ⌝ }
+    requires { ⌜ m.ScopesReady (now text) (itemsOf (now text)) ⌝ }
     ensures { λ r. ⌜ Wrote (now (out .entry)) at (m.scopesSaid (itemsOf (now (text .entry)))) (now (out .exit)) r ⌝ }
 {
     let mut p = at;
@@ -427,7 +411,7 @@ fn put_scopes(text: &[u8], out: &mut [u8], at: usize) -> usize
         let line = line_at(text, place);
         let item = line.item;
         let next = line.next;
-        p = put_scope(text, next, item, out, p);
+        p = put_if_scope(text, next, item, out, p);
         place = next;
     }
     p
@@ -446,7 +430,7 @@ fn refused(error: u32, line: u32) -> Made
 
 // The table of a text that was judged, from the buffer's start on.
 fn put_table(text: &[u8], judged: Judged, out: &mut [u8]) -> usize
-    requires { ⌜ (length (now text) ≤ m.longestText) × (judged ≡ j.judged (now text)) × (judged .error ≡ 0) ⌝ }
+    requires { ⌜ m.TakenAs (now text) judged ⌝ }
     ensures { λ r. ⌜ Wrote (now (out .entry)) 0 (m.tableSaid (now (text .entry))) (now (out .exit)) r ⌝ }
 {
     let p = put_byte(out, 0, judged.layout as u8);
@@ -468,10 +452,10 @@ pub fn make_table(text: &[u8], out: &mut [u8]) -> Made
     if judged.error != 0 {
         return refused(judged.error, judged.line);
     }
-    let size = 4
-        + 2 * (judged.headers as usize)
-        + 5 * (judged.scopes as usize)
-        + 4 * (judged.rows as usize);
+    let size = HEAD_SIZE
+        + CODE_SIZE * (judged.headers as usize)
+        + SCOPE_SIZE * (judged.scopes as usize)
+        + ROW_SIZE * (judged.rows as usize);
     if out.len() < size {
         return refused(NO_ROOM, 0);
     }

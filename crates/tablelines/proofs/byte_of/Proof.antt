@@ -1,27 +1,21 @@
 use mathlib.Core.Path.{sym}
-use Rattle.tablelines.proofs.WordLaws.{no-high, no-low, a-pair}
+use Rattle.tablelines.proofs.WordLaws.{no-high, no-low, a-byte}
 use borrow.Author.Needs.{needs}
 use native.Mathlib.Omega.{arith}
-use Rattle.tablelines.proofs.pair_of.Statement.{statement}
-use Rattle.tablelines.proofs.pair_of.Tie as tie
+use Rattle.tablelines.proofs.byte_of.Statement.{statement}
+use Rattle.tablelines.proofs.byte_of.Tie as tie
 
 returns : tie.Need-returns
-returns c =
-    let a = c .before .before .before .args in
-    sym (no-high (a .a) (a .b) (c .before .before .digit-of .result) (c .before .digit-of2 .result) (c .before .before .digit-of .ensures .0) (c .before .digit-of2 .ensures .0) (c .if1 .taken))
+returns c = sym (no-high (c .before .before .digit-of .ensures) (c .before .digit-of2 .ensures) (c .if1 .taken))
 
 returns-2 : tie.Need-returns-2
-returns-2 c =
-    let a = c .before .before .before .before .args in
-    sym (no-low (a .a) (a .b) (c .before .before .before .digit-of .result) (c .before .before .digit-of2 .result) (c .before .before .before .digit-of .ensures .0) (c .before .before .digit-of2 .ensures .0) (c .before .if1 .left) (c .if2 .taken))
+returns-2 c = sym (no-low (c .before .before .before .digit-of .ensures) (c .before .before .digit-of2 .ensures) (c .before .if1 .left) (c .if2 .taken))
 
 returns-3 : tie.Need-returns-3
-returns-3 c =
-    let a = c .before .before .before .before .args in
-    sym (a-pair (a .a) (a .b) (c .before .before .before .digit-of .result) (c .before .before .digit-of2 .result) (c .before .before .before .digit-of .ensures .0) (c .before .before .digit-of2 .ensures .0) (c .before .if1 .left) (c .if2 .left))
+returns-3 c = sym (a-byte (c .before .before .before .digit-of .ensures) (c .before .before .digit-of2 .ensures) (c .before .if1 .left) (c .if2 .left))
 
-pub pair-of-spec : {M : Type 1} → statement M
-pair-of-spec =
+pub byte-of-spec : {M : Type 1} → statement M
+byte-of-spec =
     tie.close
     (tie.spec
     (λ c κs. search needs)

@@ -1,5 +1,5 @@
-use mathlib.Core.Path.{sym, ap, _∙_}
-use Rattle.tablelines.specs.Words.{wideOf}
+use mathlib.Core.Path.{sym, _∙_}
+use Rattle.tablelines.specs.Words.{codeOf}
 use Rattle.tablelines.proofs.WordLaws.{four-digits, not-four}
 use borrow.Author.Needs.{needs}
 use native.Mathlib.Omega.{arith}
@@ -8,12 +8,16 @@ use Rattle.tablelines.proofs.four_of.Tie as tie
 
 returns : tie.Need-returns
 returns c =
-    let high = c .before .before .before .before .pair-of .ensures in
-    let low = c .before .pair-of2 .ensures in
-    c .wide-of .ensures ∙ (λ i. wideOf (high i) (low i)) ∙ sym (four-digits (c .before .before .before .before .before .before .before .before .before .args .word .now) (c .before .before .before .before .before .before .before .if1 .taken))
+    let start : tie.Start = search in
+    let a = start .args in
+    let high : tie.After-byte-of = search in
+    c .code-of .ensures ∙ (λ i. codeOf (high .byte-of .ensures i) (c .before .byte-of2 .ensures i)) ∙ sym (four-digits (a .word .now) (omega arith))
 
 returns-2 : tie.Need-returns-2
-returns-2 c = sym (not-four (c .before .before .args .word .now) (c .if1 .left))
+returns-2 c =
+    let start : tie.Start = search in
+    let a = start .args in
+    sym (not-four (a .word .now) (λ e. omega arith))
 
 pub four-of-spec : {M : Type 1} → statement M
 four-of-spec =

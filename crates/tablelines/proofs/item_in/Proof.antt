@@ -1,4 +1,4 @@
-use mathlib.Core.Path.{sym, ap, _∙_}
+use mathlib.Core.Path.{_∙_}
 use Rattle.tablelines.proofs.LineLaws.{words-in}
 use borrow.Author.Needs.{needs}
 use Rattle.tablelines.proofs.item_in.Statement.{statement}
@@ -6,11 +6,11 @@ use Rattle.tablelines.proofs.item_in.Tie as tie
 
 returns : tie.Need-returns
 returns c =
-    let a = c .before .before .before .before .before .before .before .before .word-at in
-    let b = c .before .before .before .before .before .before .before .word-at2 in
-    let d = c .before .before .before .before .before .before .word-at3 in
-    let e = c .before .before .before .before .before .word-at4 in
-    c .item-by .ensures ∙ words-in (c .before .before .before .before .before .before .before .before .before .before .args .s .now) (a .result) (b .result) (d .result) (e .result) (a .ensures) (b .ensures) (d .ensures) (e .ensures)
+    let first : tie.After-word-at = search in
+    let second : tie.After-word-at2 = search in
+    let third : tie.After-word-at3 = search in
+    let fourth : tie.After-word-at4 = search in
+    c .item-by .ensures ∙ words-in (first .word-at .ensures) (second .word-at2 .ensures) (third .word-at3 .ensures) (fourth .word-at4 .ensures)
 
 pub item-in-spec : {M : Type 1} → statement M
 item-in-spec =

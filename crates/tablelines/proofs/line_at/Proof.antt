@@ -1,4 +1,4 @@
-use mathlib.Core.Path.{sym, ap, _∙_}
+use mathlib.Core.Path.{sym}
 use lib.Seq.{length-take-le}
 use Rattle.tablelines.proofs.LineLaws.{line-found}
 use borrow.Author.Needs.{needs}
@@ -11,10 +11,8 @@ slice-aggregate-item-in c = sym (length-take-le (c .before .until2 .result) _ (c
 
 returns : tie.Need-returns
 returns c =
-    let a = c .before .before .before .before .before .before .args in
-    let end = c .before .before .before .before .until in
-    let said = c .before .before .until2 in
-    line-found (a .text .now) (a .at) (end .result) (said .result) (c .item-in .result) (omega arith) (end .ensures) (said .ensures) (c .item-in .ensures)
+    let after-until : tie.After-until = search in
+    line-found (omega arith) (after-until .until .ensures) (c .before .before .until2 .ensures) (c .item-in .ensures)
 
 pub line-at-spec : {M : Type 1} → statement M
 line-at-spec =

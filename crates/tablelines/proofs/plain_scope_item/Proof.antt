@@ -1,17 +1,24 @@
-use mathlib.Core.Path.{sym, ap, _∙_}
-use Rattle.tablelines.proofs.ItemLaws.{form-more, a-form}
+use mathlib.Core.Path.{sym, _∙_}
+use Rattle.tablelines.proofs.ItemLaws.{scope-more, a-scope}
 use borrow.Author.Needs.{needs}
-use Rattle.tablelines.proofs.form_item.Statement.{statement}
-use Rattle.tablelines.proofs.form_item.Tie as tie
+use native.Mathlib.Omega.{arith}
+use Rattle.tablelines.proofs.plain_scope_item.Statement.{statement}
+use Rattle.tablelines.proofs.plain_scope_item.Tie as tie
 
 returns : tie.Need-returns
-returns c = let a = c .before .before .before .args in c .bad .ensures ∙ sym (form-more (a .kind) (a .second .now) (c .before .if1 .taken))
+returns c =
+    let start : tie.Start = search in
+    let a = start .args in
+    c .bad .ensures ∙ sym (scope-more (a .kind) (a .second .now) (omega arith))
 
 returns-2 : tie.Need-returns-2
-returns-2 c = let a = c .before .before .args in sym (a-form (a .kind) (a .second .now) (c .if1 .left))
+returns-2 c =
+    let start : tie.Start = search in
+    let a = start .args in
+    sym (a-scope (a .kind) (a .second .now) (omega arith))
 
-pub form-item-spec : {M : Type 1} → statement M
-form-item-spec =
+pub plain-scope-item-spec : {M : Type 1} → statement M
+plain-scope-item-spec =
     tie.close
     (tie.spec
     (λ c κs. search needs)

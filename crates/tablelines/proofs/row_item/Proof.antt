@@ -1,4 +1,4 @@
-use mathlib.Core.Path.{sym, ap, _∙_}
+use mathlib.Core.Path.{sym, _∙_}
 use Rattle.tablelines.specs.declared.Item.the-variants.{Row}
 use Rattle.tablelines.proofs.ItemLaws.{no-id, row-more, no-target, row-kind, a-row}
 use borrow.Author.Needs.{needs}
@@ -7,34 +7,38 @@ use Rattle.tablelines.proofs.row_item.Statement.{statement}
 use Rattle.tablelines.proofs.row_item.Tie as tie
 
 returns : tie.Need-returns
-returns c = let a = c .before .before .before .before .before .before .args in c .bad .ensures ∙ sym (no-id (a .first .now) (a .second .now) (a .third .now) (a .more) (omega (arith, c .before .before .two-of .ensures, c .before .if1 .taken)))
+returns c =
+    let start : tie.Start = search in
+    let a = start .args in
+    c .bad .ensures ∙ sym (no-id (a .first .now) (a .second .now) (a .third .now) (a .more) (omega arith))
 
 returns-2 : tie.Need-returns-2
 returns-2 c =
-    let a = c .before .before .before .before .before .before .before .args in
-    c .bad2 .ensures ∙ sym (row-more (a .first .now) (a .second .now) (a .third .now) (a .more) (omega (arith, c .before .before .before .two-of .ensures, c .before .before .if1 .left)) (c .before .if2 .taken))
+    let start : tie.Start = search in
+    let a = start .args in
+    c .bad2 .ensures ∙ sym (row-more (a .first .now) (a .second .now) (a .third .now) (a .more) (omega arith) (c .before .if2 .taken))
 
 returns-3 : tie.Need-returns-3
 returns-3 c =
-    let a = c .before .before .before .before .before .before .before .before .before .args in
-    c .bad3 .ensures
-    ∙ sym (no-target (a .first .now) (a .second .now) (a .third .now) (a .more) (omega (arith, c .before .before .before .before .before .two-of .ensures, c .before .before .before .before .if1 .left)) (c .before .before .before .if2 .left) (omega (arith, c .before .before .four-of .ensures, c .before .if3 .taken)))
+    let start : tie.Start = search in
+    let a = start .args in
+    c .bad3 .ensures ∙ sym (no-target (a .first .now) (a .second .now) (a .third .now) (a .more) (omega arith) (c .before .before .before .if2 .left) (omega arith))
 
 returns-4 : tie.Need-returns-4
 returns-4 c =
-    let a = c .before .before .before .before .before .before .before .before .before .before .before .args in
-    c .bad4 .ensures
-    ∙ sym (row-kind (a .first .now) (a .second .now) (a .third .now) (a .more) (omega (arith, c .before .before .before .before .before .before .before .two-of .ensures, c .before .before .before .before .before .before .if1 .left)) (c .before .before .before .before .before .if2 .left)
-    (omega (arith, c .before .before .before .before .four-of .ensures, c .before .before .before .if3 .left)) (omega (arith, c .before .before .kind-of .ensures, c .before .if4 .taken)))
+    let else2 : tie.Else2 = search in
+    let start : tie.Start = search in
+    let a = start .args in
+    c .bad4 .ensures ∙ sym (row-kind (a .first .now) (a .second .now) (a .third .now) (a .more) (omega arith) (else2 .if2 .left) (omega arith) (omega arith))
 
 returns-5 : tie.Need-returns-5
 returns-5 c =
-    let a = c .before .before .before .before .before .before .before .before .before .before .args in
-    let id = c .before .before .before .before .before .before .two-of .ensures in
-    let target = c .before .before .before .four-of .ensures in
-    let kind = c .before .kind-of .ensures in
-    (λ i. Row (id i) (target i) (kind i))
-    ∙ sym (a-row (a .first .now) (a .second .now) (a .third .now) (a .more) (omega (arith, id, c .before .before .before .before .before .if1 .left)) (c .before .before .before .before .if2 .left) (omega (arith, target, c .before .before .if3 .left)) (omega (arith, kind, c .if4 .left)))
+    let else2 : tie.Else2 = search in
+    let after-two-of : tie.After-two-of = search in
+    let start : tie.Start = search in
+    let a = start .args in
+    (λ i. Row (after-two-of .two-of .ensures i) (c .before .before .before .four-of .ensures i) (c .before .row-kind-of .ensures i))
+    ∙ sym (a-row (a .first .now) (a .second .now) (a .third .now) (a .more) (omega arith) (else2 .if2 .left) (omega arith) (omega arith))
 
 pub row-item-spec : {M : Type 1} → statement M
 row-item-spec =

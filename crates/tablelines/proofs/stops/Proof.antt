@@ -1,3 +1,4 @@
+use native.Mathlib.Omega.{arith}
 use mathlib.Core.Path.{sym, ap, _∙_}
 use mathlib.Core.Bool.{not}
 use Rattle.tablelines.proofs.WordLaws.{at-end, at-sign, at-letter, at-blank}
@@ -6,20 +7,28 @@ use Rattle.tablelines.proofs.stops.Statement.{statement}
 use Rattle.tablelines.proofs.stops.Tie as tie
 
 returns : tie.Need-returns
-returns c = let a = c .before .args in sym (at-end (a .search) (a .b) (c .if1 .taken))
+returns c =
+    let start : tie.Start = search in
+    let a = start .args in
+    sym (at-end (a .search) (a .b) (omega arith))
 
 returns-2 : tie.Need-returns-2
-returns-2 c = let a = c .before .before .args in sym (at-sign (a .search) (a .b) (c .before .if1 .left) (c .if2 .taken))
+returns-2 c =
+    let start : tie.Start = search in
+    let a = start .args in
+    sym (at-sign (a .search) (a .b) (λ e. omega arith) (omega arith))
 
 returns-3 : tie.Need-returns-3
 returns-3 c =
-    let a = c .before .before .before .before .args in
-    ap not (c .is-blank .ensures) ∙ sym (at-letter (a .search) (a .b) (c .before .before .before .if1 .left) (c .before .before .if2 .left) (c .before .if3 .taken))
+    let start : tie.Start = search in
+    let a = start .args in
+    ap not (c .is-blank .ensures) ∙ sym (at-letter (a .search) (a .b) (λ e. omega arith) (λ e. omega arith) (omega arith))
 
 returns-4 : tie.Need-returns-4
 returns-4 c =
-    let a = c .before .before .before .before .args in
-    c .is-blank2 .ensures ∙ sym (at-blank (a .search) (a .b) (c .before .before .before .if1 .left) (c .before .before .if2 .left) (c .before .if3 .left))
+    let start : tie.Start = search in
+    let a = start .args in
+    c .is-blank2 .ensures ∙ sym (at-blank (a .search) (a .b) (λ e. omega arith) (λ e. omega arith) (λ e. omega arith))
 
 pub stops-spec : {M : Type 1} → statement M
 stops-spec =

@@ -6,10 +6,16 @@ use Rattle.tablelines.proofs.two_of.Statement.{statement}
 use Rattle.tablelines.proofs.two_of.Tie as tie
 
 returns : tie.Need-returns
-returns c = c .pair-of .ensures ∙ sym (two-digits (c .before .before .before .before .before .args .word .now) (c .before .before .before .if1 .taken))
+returns c =
+    let start : tie.Start = search in
+    let a = start .args in
+    c .byte-of .ensures ∙ sym (two-digits (a .word .now) (omega arith))
 
 returns-2 : tie.Need-returns-2
-returns-2 c = sym (not-two (c .before .before .args .word .now) (c .if1 .left))
+returns-2 c =
+    let start : tie.Start = search in
+    let a = start .args in
+    sym (not-two (a .word .now) (λ e. omega arith))
 
 pub two-of-spec : {M : Type 1} → statement M
 two-of-spec =

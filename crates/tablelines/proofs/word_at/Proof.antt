@@ -4,7 +4,7 @@ use Rattle.tablelines.proofs.word_at.Statement.{statement}
 use Rattle.tablelines.proofs.word_at.Tie as tie
 
 returns : tie.Need-returns
-returns c = let a = c .before .before .before .args in word-found (a .s .now) (a .at) (c .before .until .result) (c .until2 .result) (c .before .until .ensures) (c .until2 .ensures)
+returns c = word-found (c .before .until .ensures) (c .until2 .ensures)
 
 pub word-at-spec : {M : Type 1} → statement M
 word-at-spec =

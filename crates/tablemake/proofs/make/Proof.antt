@@ -1,4 +1,4 @@
-use mathlib.Core.Path.{sym, _∙_}
+use mathlib.Core.Path.{_≡_, sym, _∙_}
 use lib.Seq.{length-take-le}
 use Rattle.listing.proofs.Placed.{within}
 use Rattle.listing.proofs.Longest.{Word32}
@@ -11,7 +11,12 @@ use Rattle.tablemake.proofs.make.Tie as tie
 
 -- ---- a table
 cast-size-line : tie.Need-cast-size-line
-cast-size-line c = let m = c .before .before .before .before .make-table in omega (arith, makes _ _ _ _ (m .ensures) (c .before .before .before .before .before .before .before .before .before .pre .0) .size (c .if1 .taken), m .kept, c .before .before .before .before .before .before .before .before .before .pre .0)
+cast-size-line c =
+    let making : tie.After-make-table = search in
+    let start : tie.Start = search in
+    let made = makes (start .args .text .now) (start .args .out .now) (making .make-table .ensures) (start .pre .table-room) in
+    let e : making .make-table .result .error ≡ 0 = omega arith in
+    omega (arith, made .size e, making .make-table .kept, start .pre .table-room)
 
 slice-reshare-prefix-print-table : tie.Need-slice-reshare-prefix-print-table
 slice-reshare-prefix-print-table c = within (c .before .before .size-line .ensures)
@@ -20,22 +25,32 @@ slice-aggregate-print-table : tie.Need-slice-aggregate-print-table
 slice-aggregate-print-table c = let l = c .before .before .before .size-line in sym (length-take-le (l .result) _ (within (l .ensures)))
 
 slice-reshare-prefix-print-table-2 : tie.Need-slice-reshare-prefix-print-table-2
-slice-reshare-prefix-print-table-2 c = makes _ _ _ _ (c .before .before .before .before .before .before .before .before .before .make-table .ensures) (c .before .before .before .before .before .before .before .before .before .before .before .before .before .before .pre .0) .size (c .before .before .before .before .before .if1 .taken)
+slice-reshare-prefix-print-table-2 c =
+    let making : tie.After-make-table = search in
+    let start : tie.Start = search in
+    let made = makes (start .args .text .now) (start .args .out .now) (making .make-table .ensures) (start .pre .table-room) in
+    let e : making .make-table .result .error ≡ 0 = omega arith in
+    made .size e
 
 slice-aggregate-print-table-2 : tie.Need-slice-aggregate-print-table-2
 slice-aggregate-print-table-2 c =
-    let m = c .before .before .before .before .before .before .before .before .before .before .make-table in
-    sym (length-take-le (m .result .size) _ (makes _ _ _ _ (m .ensures) (c .before .before .before .before .before .before .before .before .before .before .before .before .before .before .before .pre .0) .size (c .before .before .before .before .before .before .if1 .taken)))
+    let making : tie.After-make-table = search in
+    let start : tie.Start = search in
+    let made = makes (start .args .text .now) (start .args .out .now) (making .make-table .ensures) (start .pre .table-room) in
+    let e : making .make-table .result .error ≡ 0 = omega arith in
+    sym (length-take-le (making .make-table .result .size) _ (made .size e))
 
 print-table-requires : tie.Need-print-table-requires
 print-table-requires c κs =
-    let m = c .before .before .before .before .before .before .before .before .before .before .make-table in
-    let l = c .before .before .before .before .size-line in
-    let p = c .before .before .before .before .before .before .before .before .before .before .before .before .before .before .before .pre in
-    let made = makes _ _ _ _ (m .ensures) (p .0) in
-    let e = c .before .before .before .before .before .before .if1 .taken in
-    let small : Word32 (m .result .size) = omega (arith, made .size e, m .kept, p .0) in
-    λ all b. made .table e _ (whole-size (m .result .size) small (l .ensures) (p .1)) ∙ all-printed (p .2) b
+    let after-size-line : tie.After-size-line = search in
+    let making : tie.After-make-table = search in
+    let start : tie.Start = search in
+    let made = makes (start .args .text .now) (start .args .out .now) (making .make-table .ensures) (start .pre .table-room) in
+    let m = making .make-table in
+    let p = start .pre in
+    let e : m .result .error ≡ 0 = omega arith in
+    let small : Word32 (m .result .size) = omega (arith, made .size e, m .kept, p .table-room) in
+    λ all b. made .table e _ (whole-size (m .result .size) small (after-size-line .size-line .ensures) (p .line-room)) ∙ all-printed (p .all-read) b
 
 -- ---- a refusal
 slice-reshare-prefix-print-refusal : tie.Need-slice-reshare-prefix-print-refusal
@@ -46,10 +61,14 @@ slice-aggregate-print-refusal c = let l = c .before .before .before .why-line in
 
 print-refusal-requires : tie.Need-print-refusal-requires
 print-refusal-requires c κs =
-    let m = c .before .before .before .before .before .before .before .before .before .make-table in
-    let p = c .before .before .before .before .before .before .before .before .before .before .before .before .before .before .pre in
+    let else1 : tie.Else1 = search in
+    let making : tie.After-make-table = search in
+    let start : tie.Start = search in
+    let made = makes (start .args .text .now) (start .args .out .now) (making .make-table .ensures) (start .pre .table-room) in
+    let m = making .make-table in
+    let p = start .pre in
     let small : Word32 (m .result .line) = omega (arith, m .ok) in
-    λ all b. whole-why (m .result .error) (m .result .line) small (c .before .before .before .why-line .ensures) (p .1) ∙ makes _ _ _ _ (m .ensures) (p .0) .line (c .before .before .before .before .before .if1 .left) ∙ all-printed (p .2) b
+    λ all b. whole-why (m .result .error) (m .result .line) small (c .before .before .before .why-line .ensures) (p .line-room) ∙ made .line (else1 .if1 .left) ∙ all-printed (p .all-read) b
 
 pub make-spec : {M : Type 1} → statement M
 make-spec =

@@ -1,58 +1,42 @@
+use mathlib.Core.List.{[]}
 use lib.ListN.{drop}
+use Rattle.rules.specs.Join.{scopeBytes}
 use Rattle.text.proofs.Chain.{nothing}
 use Rattle.tablelines.specs.Items.{itemsOf}
-use Rattle.tablemaking.specs.Made.{scopeSaid}
-use Rattle.tablemaking.proofs.Parts.{few-of}
+use Rattle.tablemaking.specs.Made.{byPart, rowsOf, scopeSaid}
+use Rattle.tablemaking.proofs.Parts.{no-scope, few-of}
 use borrow.Author.Needs.{needs}
 use native.Mathlib.Omega.{arith}
-use Rattle.tablemaking.proofs.put_scope.Statement.{statement}
-use Rattle.tablemaking.proofs.put_scope.Tie as tie
+use Rattle.tablemaking.proofs.put_if_scope.Statement.{statement}
+use Rattle.tablemaking.proofs.put_if_scope.Tie as tie
+
+put-scope-requires : tie.Need-put-scope-requires
+put-scope-requires c κs =
+    let start : tie.Start = search in
+    let after-item : tie.After-item = search in
+    let a = start .args in
+    omega (arith, c .rows-from .ensures, few-of (a .item) _ _ (itemsOf (drop (a .next) (a .text .now))) (after-item .item .given .1) (start .pre .few))
 
 returns : tie.Need-returns
-unfolding scopeSaid
-returns c = rw (c .enum-told .given .1) nothing
+unfolding scopeSaid byPart
+returns c =
+    let after-item : tie.After-item = search in
+    rw (after-item .item .given .1, ← (c .before .before .before .rows-from .ensures)) (c .before .before .put-scope .ensures)
 
 returns-2 : tie.Need-returns-2
 unfolding scopeSaid
-returns-2 c = rw (c .before .item .given .1) nothing
+returns-2 c =
+    let start : tie.Start = search in
+    let a = start .args in
+    rw (no-scope [] (λ kind code. scopeBytes (record { kind = kind; code = code; rows = rowsOf (itemsOf (drop (a .next) (a .text .now))) })) (a .item) (c .match .keys2)) nothing
 
-returns-3 : tie.Need-returns-3
-unfolding scopeSaid
-returns-3 c = rw (c .before .item2 .given .1) nothing
-
-returns-4 : tie.Need-returns-4
-unfolding scopeSaid
-returns-4 c = rw (c .before .before .before .before .before .before .item3 .given .1, ← (c .before .before .before .rows-from .ensures)) (c .before .before .put-entry .ensures)
-
-returns-5 : tie.Need-returns-5
-unfolding scopeSaid
-returns-5 c = rw (c .before .item4 .given .1) nothing
-
-returns-6 : tie.Need-returns-6
-unfolding scopeSaid
-returns-6 c = rw (c .before .item5 .given .1) nothing
-
-put-entry-requires : tie.Need-put-entry-requires
-put-entry-requires c κs =
-    let a = c .before .before .before .before .before .before .before .args in
-    omega (arith, c .rows-from .ensures, few-of (a .item) _ _ (itemsOf (drop (a .next) (a .text .now))) (c .before .before .before .item3 .given .1) (c .before .before .before .before .before .before .before .pre .1))
-
-pub put-scope-spec : {M : Type 1} → statement M
-put-scope-spec =
+pub put-if-scope-spec : {M : Type 1} → statement M
+put-if-scope-spec =
     tie.close
     (tie.spec
     (λ c. search needs)
-    (λ c. search needs)
-    (λ c. search needs)
-    (λ c. search needs)
     (λ c κs. omega arith)
-    put-entry-requires
-    (λ c. search needs)
+    put-scope-requires
     (λ c. search needs)
     returns
-    returns-2
-    returns-3
-    (λ c. search needs)
-    returns-4
-    returns-5
-    returns-6)
+    returns-2)

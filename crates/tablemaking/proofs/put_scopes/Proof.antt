@@ -1,5 +1,5 @@
-use Prim.Native.Nat.{_+_, _-_, _≤_}
-use mathlib.Core.Path.{sym, ap, subst, _∙_}
+use Prim.Native.Nat.{ℕ, _+_, _-_, _≤_}
+use mathlib.Core.Path.{ap, subst, _∙_}
 use mathlib.Core.List.{List}
 use lib.ListN.{length, drop}
 use Rattle.text.proofs.Chain.{same}
@@ -13,36 +13,46 @@ use native.Mathlib.Omega.{arith}
 use Rattle.tablemaking.proofs.put_scopes.Statement.{statement}
 use Rattle.tablemaking.proofs.put_scopes.Tie as tie
 
+record Left (s old : List ℕ) (at : ℕ) (now : List ℕ) (p place : ℕ) : Type 0 where
+  rest : Remains old at (scopesSaid (itemsOf s)) now p (scopesSaid (itemsOf (drop place s)))
+  within : place ≤ length s + 1
+  few : FewRows (itemsOf (drop place s))
+
 abbrev Inv-loop : tie.InvT-loop
-Inv-loop text out₀ at p₀ place₀ out p place =
-    Remains out₀ at (scopesSaid (itemsOf text)) out p (scopesSaid (itemsOf (drop place text))) × (place ≤ length text + 1) × FewRows (itemsOf (drop place text))
+Inv-loop text out₀ at p₀ place₀ out p place = Left text out₀ at out p place
 
 abbrev μ-loop : tie.MeasureT-loop
 μ-loop text out₀ at p₀ place₀ out p place = length text + 1 - place
 
-loop-holds : tie.Need-loop-holds Inv-loop μ-loop
-loop-holds c = (all-remains, omega arith, c .before .before .pre .1)
-
-put-scope-requires : tie.Need-put-scope-requires Inv-loop μ-loop
-put-scope-requires c κs = (c .before .before .before .before .before .before .pre .0, subst (λ (items : List Item). FewRows items) (c .before .line-at .ensures .is) (c .before .before .before .loop .inv .2))
+put-if-scope-requires : tie.Need-put-if-scope-requires Inv-loop μ-loop
+put-if-scope-requires c κs =
+    let start : tie.Start Inv-loop μ-loop = search in
+    record { short = start .pre .short; few = subst (λ (items : List Item). FewRows items) (c .before .line-at .ensures .is) (c .before .before .before .loop .inv .few) }
 
 loop-less : tie.Need-loop-less Inv-loop μ-loop
-loop-less c = omega (arith, c .before .before .before .before .line-at .ensures .on, c .before .before .before .before .before .loop-test .taken)
+loop-less c =
+    let after-line-at : tie.After-line-at Inv-loop μ-loop = search in
+    omega (arith, after-line-at .line-at .ensures .on)
 
 loop-again : tie.Need-loop-again Inv-loop μ-loop
 loop-again c =
-    let line = c .before .before .before .before .line-at in
-    let rest = itemsOf (drop (line .result .next) (c .before .before .before .before .before .before .before .before .before .args .text .now)) in
-    let i = c .before .before .before .before .before .before .loop .inv in (
-      on (i .0) (ap scopesSaid (line .ensures .is) ∙ a-scope-said (line .result .item) rest) (c .before .before .put-scope .ensures),
-      line .ensures .within,
-      few-rest (line .result .item) rest (subst (λ (items : List Item). FewRows items) (line .ensures .is) (i .2)),
-    )
+    let start : tie.Start Inv-loop μ-loop = search in
+    let at-loop : tie.At-loop Inv-loop μ-loop = search in
+    let after-line-at : tie.After-line-at Inv-loop μ-loop = search in
+    let line = after-line-at .line-at in
+    let below = itemsOf (drop (line .result .next) (start .args .text .now)) in
+    let i = at-loop .loop .inv in
+    record {
+      rest = on (i .rest) (ap scopesSaid (line .ensures .is) ∙ a-scope-said (line .result .item) below) (c .before .before .put-if-scope .ensures);
+      within = line .ensures .within;
+      few = few-rest (line .result .item) below (subst (λ (items : List Item). FewRows items) (line .ensures .is) (i .few));
+    }
 
 returns : tie.Need-returns Inv-loop μ-loop
 returns c =
+    let start : tie.Start Inv-loop μ-loop = search in
     let l = c .before .loop in
-    done (l .inv .0) (ap scopesSaid (no-items (c .before .before .before .before .args .text .now) (l .place) (omega (arith, c .loop-test .left))) ∙ no-scopes)
+    done (l .inv .rest) (ap scopesSaid (no-items (start .args .text .now) (l .place) (omega (arith, c .loop-test .left))) ∙ no-scopes)
 
 same-length : tie.Need-same-length Inv-loop μ-loop
 same-length c = same (returns c)
@@ -53,9 +63,9 @@ put-scopes-spec =
     (tie.spec
     Inv-loop
     μ-loop
-    loop-holds
+    (λ c. record { rest = all-remains; within = omega arith; few = c .before .before .pre .few })
     (λ c κs. omega arith)
-    put-scope-requires
+    put-if-scope-requires
     loop-less
     loop-again
     same-length

@@ -6,23 +6,50 @@ use Rattle.tablemaking.proofs.put_table.Statement.{statement}
 use Rattle.tablemaking.proofs.put_table.Tie as tie
 
 cast-put-byte : tie.Need-cast-put-byte
-cast-put-byte c = let a = c .before .before .before .before .args in let p = c .before .before .before .before .pre in omega (arith, layout-byte (a .text .now) (a .judged) (p .1) (p .2))
+cast-put-byte c =
+    let start : tie.Start = search in
+    omega (arith, layout-byte (start .pre))
 
 cast-put-byte-2 : tie.Need-cast-put-byte-2
-cast-put-byte-2 c = let a = c .before .before .before .before .before .before .before .before .before .args in let p = c .before .before .before .before .before .before .before .before .before .pre in omega (arith, headers-byte (a .text .now) (a .judged) (p .1) (p .2))
+cast-put-byte-2 c =
+    let start : tie.Start = search in
+    omega (arith, headers-byte (start .pre))
 
 put-half-requires : tie.Need-put-half-requires
-put-half-requires c κs = let a = c .before .before .before .before .before .before .before .before .before .before .before .before .before .args in let p = c .before .before .before .before .before .before .before .before .before .before .before .before .before .pre in scopes-half (a .text .now) (a .judged) (p .1) (p .2)
+put-half-requires c κs =
+    let start : tie.Start = search in
+    scopes-half (start .pre)
+
+put-parts-requires : tie.Need-put-parts-requires
+put-parts-requires c κs =
+    let start : tie.Start = search in
+    start .pre .short
 
 put-scopes-requires : tie.Need-put-scopes-requires
-put-scopes-requires c κs = let a = c .before .before .before .before .before .before .before .before .before .before .before .before .before .before .before .before .before .before .before .before .before .args in let p = c .before .before .before .before .before .before .before .before .before .before .before .before .before .before .before .before .before .before .before .before .before .pre in (p .0, few (a .text .now) (a .judged) (p .1) (p .2))
+put-scopes-requires c κs =
+    let start : tie.Start = search in
+    record { short = start .pre .short; few = few (start .pre) }
+
+put-parts-requires-2 : tie.Need-put-parts-requires-2
+put-parts-requires-2 c κs =
+    let start : tie.Start = search in
+    start .pre .short
 
 returns : tie.Need-returns
 returns c =
-    let a = c .before .before .before .before .before .before .before .before .before .before .before .before .before .before .before .before .before .before .before .before .before .before .before .before .before .before .before .before .args in
-    let p = c .before .before .before .before .before .before .before .before .before .before .before .before .before .before .before .before .before .before .before .before .before .before .before .before .before .before .before .before .pre in
-    as-said (whole (a .text .now) (a .judged) (p .1) (p .2))
-    (c .before .before .before .before .before .before .before .before .before .before .before .before .before .before .before .before .before .before .before .before .before .before .before .put-byte .ensures ⨟ c .before .before .before .before .before .before .before .before .before .before .before .before .before .before .before .before .before .before .put-byte2 .ensures ⨟ c .before .before .before .before .before .before .before .before .before .before .before .before .before .before .put-half .ensures ⨟ c .before .before .before .before .before .before .before .before .before .before .put-parts .ensures ⨟ c .before .before .before .before .before .before .put-scopes .ensures ⨟ c .before .before .put-parts2 .ensures)
+    let after-put-scopes : tie.After-put-scopes = search in
+    let after-put-parts : tie.After-put-parts = search in
+    let after-put-half : tie.After-put-half = search in
+    let after-put-byte2 : tie.After-put-byte2 = search in
+    let after-put-byte : tie.After-put-byte = search in
+    let start : tie.Start = search in
+    as-said (whole (start .pre))
+    (after-put-byte .put-byte .ensures
+    ⨟ after-put-byte2 .put-byte2 .ensures
+    ⨟ after-put-half .put-half .ensures
+    ⨟ after-put-parts .put-parts .ensures
+    ⨟ after-put-scopes .put-scopes .ensures
+    ⨟ c .before .before .put-parts2 .ensures)
 
 pub put-table-spec : {M : Type 1} → statement M
 put-table-spec =
@@ -33,8 +60,8 @@ put-table-spec =
     cast-put-byte-2
     (λ c κs. search needs)
     put-half-requires
-    (λ c κs. c .before .before .before .before .before .before .before .before .before .before .before .before .before .before .before .before .before .pre .0)
+    put-parts-requires
     put-scopes-requires
-    (λ c κs. c .before .before .before .before .before .before .before .before .before .before .before .before .before .before .before .before .before .before .before .before .before .before .before .before .before .pre .0)
+    put-parts-requires-2
     (λ c. search needs)
     returns)
