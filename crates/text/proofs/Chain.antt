@@ -1,5 +1,5 @@
--- One text after another.
-use mathlib.Core.Path.{_≡_, refl, sym, ap, _∙_}
+-- One text written after another, and what a writer leaves as it is: laws that every writer of text cites.
+use mathlib.Core.Path.{_≡_, refl, sym, ap, subst, _∙_}
 use mathlib.Core.Bool.{Bool, true, false, cond}
 use mathlib.Core.List.{List, [], _∷_, _++_}
 use Prim.Native.Nat.{ℕ, _+_, _≤_, _<_}
@@ -21,6 +21,10 @@ nothing = record { is = refl }
 infixr 5 _⨟_
 pub _⨟_ : {o x n y p : List ℕ} {a b c : ℕ} → Wrote o a x n b → Wrote n b y p c → Wrote o a (x ++ y) p c
 _⨟_ {o} {x} {n} {y} {p} {a} {b} {c} v w = record { is = write-append (o, a) x y ∙ ap (λ (s : Buffer). write s y) (v .is) ∙ w .is }
+
+-- the same text by another name
+pub wrote-as : {o x y n : List ℕ} {a b : ℕ} → Wrote o a x n b → x ≡ y → Wrote o a y n b
+wrote-as {o} {n = n} {a} {b} w e = subst (λ (t : List ℕ). Wrote o a t n b) e w
 
 -- a byte, with room and without
 pub byte : {o : List ℕ} {a b : ℕ} → a < length o → Wrote o a (b ∷ []) (set o a b) (a + 1)

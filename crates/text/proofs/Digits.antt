@@ -1,4 +1,4 @@
--- The digits of a number, one at a time.
+-- The digits of a number as the code writes them, one at a time; how long a label is.
 use mathlib.Core.Path.{_≡_, refl, ap}
 use mathlib.Core.Bool.{Bool, true, false, cond}
 use mathlib.Core.List.{List, [], _∷_, _++_}

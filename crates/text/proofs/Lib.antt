@@ -1,4 +1,5 @@
 -- Laws of the writers; the public ones serve whoever writes more than a GUID or a label.
 pub mod Chain
+pub mod Remains
 pub mod Digits
 pub mod Written

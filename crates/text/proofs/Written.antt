@@ -1,4 +1,4 @@
--- What a text that was written comes to.
+-- What a buffer holds after a text was written, and so what the functions that write a whole text answer; the parts of a GUID's text.
 use mathlib.Core.Path.{_≡_, refl, sym, ap, _∙_}
 use mathlib.Core.List.{List, [], _∷_, _++_}
 use Prim.Native.Nat.{ℕ, suc, _+_, _≤_, _<_}

@@ -1,4 +1,4 @@
--- Bytes written into a list from a place on, and the place behind them. What has no room is left out, so a writer needs no bound.
+-- Bytes written into a list from a place on, and the place after them. What has no room is left out, so a writer needs no bound.
 use mathlib.Core.Path.{_≡_}
 use mathlib.Core.Bool.{cond}
 use mathlib.Core.List.{List, [], _∷_}
@@ -18,6 +18,6 @@ unfoldable pub write : Buffer → List ℕ → Buffer
 write s [] = s
 write s (b ∷ bs) = write (push s b) bs
 
--- `text`, written into `old` from `at` on, makes it `new`, and `next` is the place behind it
+-- `text`, written into `old` from `at` on, makes it `new`, and `next` is the place after it
 pub record Wrote (old : List ℕ) (at : ℕ) (text new : List ℕ) (next : ℕ) : Type 0 where
   pub is : write (old, at) text ≡ (new, next)

@@ -1,4 +1,4 @@
-// Text in a lent buffer. A `put` function writes at a place and returns the place behind it; what has no room is left out.
+// Text in a lent buffer. A `put` function writes at a place and returns the place after it; what has no room is left out.
 use rules::Answer;
 ghost use mathlib.Core.Path.{_≡_};
 ghost use mathlib.Core.List.{[], _∷_};
@@ -8,6 +8,24 @@ ghost use Rattle.rules.specs.Answer.{refusal, answer};
 ghost use Rattle.rules.specs.Digits.{digit, decimal, hex};
 ghost use Rattle.rules.specs.Texts.{hexes, guidText, label, guidExit, labelExit};
 ghost use Rattle.text.specs.Writer.{Wrote};
+
+// The refusals.
+const NO_ROOM_FOR_TEXT: u32 = 9;
+
+const NOT_A_GUID: u32 = 10;
+
+// How many bytes a GUID has, and its text; the latter also as an answer counts it.
+const GUID_SIZE: usize = 16;
+
+const GUID_TEXT_SIZE: usize = 38;
+
+const GUID_TEXT_COUNT: u32 = GUID_TEXT_SIZE as u32;
+
+// "Control_" and one digit.
+const SHORTEST_LABEL: u32 = 9;
+
+// Digits from ten on are letters, the tenth an A.
+const LETTERS: u8 = b'A' - 10;
 
 // ---- bytes and digits
 pub fn put_byte(out: &mut [u8], at: usize, b: u8) -> usize
@@ -37,9 +55,9 @@ fn digit_of(n: u32) -> u8
     ensures { λ r. ⌜ r ≡ digit n ⌝ }
 {
     if n < 10 {
-        48 + (n as u8)
+        b'0' + (n as u8)
     } else {
-        55 + (n as u8)
+        LETTERS + (n as u8)
     }
 }
 
@@ -127,22 +145,22 @@ pub fn guid_text(guid: &[u8], out: &mut [u8]) -> Answer
     ensures { λ r. ⌜ r ≡ guidExit (now (guid .entry)) (now (out .entry)) .answer ⌝ }
     ensures { λ r. ⌜ now (out .exit) ≡ guidExit (now (guid .entry)) (now (out .entry)) .out ⌝ }
 {
-    if guid.len() != 16 {
-        return refused(10);
+    if guid.len() != GUID_SIZE {
+        return refused(NOT_A_GUID);
     }
-    if out.len() < 38 {
-        return refused(9);
+    if out.len() < GUID_TEXT_SIZE {
+        return refused(NO_ROOM_FOR_TEXT);
     }
     put_guid(out, 0, guid);
-    wrote(38)
+    wrote(GUID_TEXT_COUNT)
 }
 
 // ---- labels
-// "Control_" has eight bytes, and each division by ten takes a digit away.
+// Each division by ten takes a digit away.
 pub fn label_length(n: u32) -> u32
     ensures { λ r. ⌜ r ≡ length (label n) ⌝ }
 {
-    let mut size = 9;
+    let mut size = SHORTEST_LABEL;
     let mut rest = n;
     while 10 <= rest {
         rest = rest / 10;
@@ -157,7 +175,7 @@ pub fn label_text(n: u32, out: &mut [u8]) -> Answer
 {
     let size = label_length(n);
     if out.len() < (size as usize) {
-        return refused(9);
+        return refused(NO_ROOM_FOR_TEXT);
     }
     let at = put_text(out, 0, b"Control_");
     put_decimal(out, at, n);

@@ -11,6 +11,7 @@ use Rattle.text.proofs.put_decimal.Kinds as put-decimal-kinds
 use Rattle.text.proofs.+put_decimal.Lts-put_decimal as put-decimal-lts
 use Rattle.text.proofs.put_digit.Reads as put-digit-reads
 
+-- the third argument: the number that is written
 abbrev μ-put-decimal : Measures 1 put-decimal-kinds.ps ℕ
 μ-put-decimal κs a = a .1 .1 .0
 
@@ -26,36 +27,40 @@ put-decimal-below t =
 abbrev put-decimal-calls : ℕ → put-decimal-lts.Claims
 put-decimal-calls t = (put-digit-reads.Asked, put-digit-reads.Learnt, put-decimal-below t, put-decimal.Post)
 
-put-decimal-put-digit-requires : (t : ℕ) → put-decimal-lts.Need-put-digit-requires (put-decimal-calls t) (put-decimal-at t) put-decimal.Post
-put-decimal-put-digit-requires t c κs = omega arith
+-- places
+abbrev Then1 : ℕ → Type 0
+Then1 t = put-decimal-lts.Then1 (put-decimal-calls t) (put-decimal-at t) put-decimal.Post
 
-put-decimal-put-decimal-requires : (t : ℕ) → put-decimal-lts.Need-put-decimal-requires (put-decimal-calls t) (put-decimal-at t) put-decimal.Post
-put-decimal-put-decimal-requires t c κs = omega arith
+abbrev Else1 : ℕ → Type 0
+Else1 t = put-decimal-lts.Else1 (put-decimal-calls t) (put-decimal-at t) put-decimal.Post
 
-put-decimal-put-digit-requires-2 : (t : ℕ) → put-decimal-lts.Need-put-digit-requires-2 (put-decimal-calls t) (put-decimal-at t) put-decimal.Post
-put-decimal-put-digit-requires-2 t c κs = omega arith
-
-put-decimal-same-length : (t : ℕ) → put-decimal-lts.Need-same-length (put-decimal-calls t) (put-decimal-at t) put-decimal.Post
-put-decimal-same-length t c = same (c .before .before .put-digit .ensures)
+abbrev After-put-decimal : ℕ → Type 0
+After-put-decimal t = put-decimal-lts.After-put-decimal (put-decimal-calls t) (put-decimal-at t) put-decimal.Post
 
 put-decimal-returns : (t : ℕ) → put-decimal-lts.Need-returns (put-decimal-calls t) (put-decimal-at t) put-decimal.Post
-put-decimal-returns t c = let n = c .before .before .before .before .before .before .args .n in rw (one-digit n (c .before .before .before .before .if1 .taken)) (c .before .before .put-digit .ensures)
+put-decimal-returns t c =
+    let then1 : Then1 t = search in
+    rw (one-digit (then1 .before .before .args .n) (then1 .if1 .taken)) (c .before .before .put-digit .ensures)
 
-put-decimal-same-length-2 : (t : ℕ) → put-decimal-lts.Need-same-length-2 (put-decimal-calls t) (put-decimal-at t) put-decimal.Post
-put-decimal-same-length-2 t c = same (c .before .before .before .before .before .before .put-decimal .ensures ⨟ c .before .before .put-digit2 .ensures)
+put-decimal-same-length : (t : ℕ) → put-decimal-lts.Need-same-length (put-decimal-calls t) (put-decimal-at t) put-decimal.Post
+put-decimal-same-length t c = same (put-decimal-returns t c)
 
 put-decimal-returns-2 : (t : ℕ) → put-decimal-lts.Need-returns-2 (put-decimal-calls t) (put-decimal-at t) put-decimal.Post
 put-decimal-returns-2 t c =
-    let e = c .before .before .before .before .before .before .before .before in
-    rw (more-digits (e .before .before .args .n) (e .if1 .left)) (c .before .before .before .before .before .before .put-decimal .ensures ⨟ c .before .before .put-digit2 .ensures)
+    let after-put-decimal : After-put-decimal t = search in
+    let else1 : Else1 t = search in
+    rw (more-digits (else1 .before .before .args .n) (else1 .if1 .left)) (after-put-decimal .put-decimal .ensures ⨟ c .before .before .put-digit2 .ensures)
+
+put-decimal-same-length-2 : (t : ℕ) → put-decimal-lts.Need-same-length-2 (put-decimal-calls t) (put-decimal-at t) put-decimal.Post
+put-decimal-same-length-2 t c = same (put-decimal-returns-2 t c)
 
 pub +put-decimal-spec : {M : Type 1} → statement M
 +put-decimal-spec = close μ-put-decimal λ t. put-decimal-lts.spec (put-decimal-calls t)
     (put-decimal-at t)
     put-decimal.Post
-    (put-decimal-put-digit-requires t)
-    (put-decimal-put-decimal-requires t)
-    (put-decimal-put-digit-requires-2 t)
+    (λ c κs. omega arith)
+    (λ c κs. omega arith)
+    (λ c κs. omega arith)
     (put-decimal-same-length t)
     (put-decimal-returns t)
     (put-decimal-same-length-2 t)

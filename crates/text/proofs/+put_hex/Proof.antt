@@ -11,6 +11,7 @@ use Rattle.text.proofs.put_hex.Kinds as put-hex-kinds
 use Rattle.text.proofs.+put_hex.Lts-put_hex as put-hex-lts
 use Rattle.text.proofs.put_digit.Reads as put-digit-reads
 
+-- the third argument: how many digits are written
 abbrev μ-put-hex : Measures 1 put-hex-kinds.ps ℕ
 μ-put-hex κs a = a .1 .1 .0
 
@@ -24,33 +25,33 @@ put-hex-below t = and 1 put-hex-kinds.ps (falls 1 put-hex-kinds.ps _<_ μ-put-he
 abbrev put-hex-calls : ℕ → put-hex-lts.Claims
 put-hex-calls t = (put-hex-below t, put-hex.Post, put-digit-reads.Asked, put-digit-reads.Learnt)
 
-put-hex-sub-put-hex : (t : ℕ) → put-hex-lts.Need-sub-put-hex (put-hex-calls t) (put-hex-at t) put-hex.Post
-put-hex-sub-put-hex t c = omega arith
+-- places
+abbrev Else1 : ℕ → Type 0
+Else1 t = put-hex-lts.Else1 (put-hex-calls t) (put-hex-at t) put-hex.Post
 
-put-hex-put-hex-requires : (t : ℕ) → put-hex-lts.Need-put-hex-requires (put-hex-calls t) (put-hex-at t) put-hex.Post
-put-hex-put-hex-requires t c κs = omega arith
-
-put-hex-put-digit-requires : (t : ℕ) → put-hex-lts.Need-put-digit-requires (put-hex-calls t) (put-hex-at t) put-hex.Post
-put-hex-put-digit-requires t c κs = omega arith
+abbrev After-put-hex : ℕ → Type 0
+After-put-hex t = put-hex-lts.After-put-hex (put-hex-calls t) (put-hex-at t) put-hex.Post
 
 put-hex-returns : (t : ℕ) → put-hex-lts.Need-returns (put-hex-calls t) (put-hex-at t) put-hex.Post
 put-hex-returns t c = let a = c .before .before .args in rw (no-hex (a .k) (a .n) (c .if1 .taken)) nothing
 
-put-hex-same-length : (t : ℕ) → put-hex-lts.Need-same-length (put-hex-calls t) (put-hex-at t) put-hex.Post
-put-hex-same-length t c = same (c .before .before .before .before .before .before .put-hex .ensures ⨟ c .before .before .put-digit .ensures)
-
 put-hex-returns-2 : (t : ℕ) → put-hex-lts.Need-returns-2 (put-hex-calls t) (put-hex-at t) put-hex.Post
 put-hex-returns-2 t c =
-    let e = c .before .before .before .before .before .before .before .before in
-    rw (more-hex (e .before .before .args .k) (e .before .before .args .n) (e .if1 .left)) (c .before .before .before .before .before .before .put-hex .ensures ⨟ c .before .before .put-digit .ensures)
+    let after-put-hex : After-put-hex t = search in
+    let else1 : Else1 t = search in
+    let a = else1 .before .before .args in
+    rw (more-hex (a .k) (a .n) (else1 .if1 .left)) (after-put-hex .put-hex .ensures ⨟ c .before .before .put-digit .ensures)
+
+put-hex-same-length : (t : ℕ) → put-hex-lts.Need-same-length (put-hex-calls t) (put-hex-at t) put-hex.Post
+put-hex-same-length t c = same (put-hex-returns-2 t c)
 
 pub +put-hex-spec : {M : Type 1} → statement M
 +put-hex-spec = close μ-put-hex λ t. put-hex-lts.spec (put-hex-calls t)
     (put-hex-at t)
     put-hex.Post
-    (put-hex-sub-put-hex t)
-    (put-hex-put-hex-requires t)
-    (put-hex-put-digit-requires t)
+    (λ c. omega arith)
+    (λ c κs. omega arith)
+    (λ c κs. omega arith)
     (put-hex-returns t)
     (put-hex-same-length t)
     (put-hex-returns-2 t)

@@ -9,11 +9,14 @@ use Rattle.text.proofs.guid_text.Statement.{statement}
 use Rattle.text.proofs.guid_text.Tie as tie
 
 returns : tie.Need-returns
-returns c = let a = c .before .before .before .before .args in shown (no-guid-exit (a .guid .now) (a .out .now) (c .before .if1 .taken)) (c .refused .ensures)
+returns c =
+    let start : tie.Start = search in
+    let a = start .args in shown (no-guid-exit (a .guid .now) (a .out .now) (c .before .if1 .taken)) (c .refused .ensures)
 
 returns-2 : tie.Need-returns-2
 returns-2 c =
-    let a = c .before .before .before .before .before .args in
+    let start : tie.Start = search in
+    let a = start .args in
     let t = guidText (a .guid .now) in
     shown
     (guid-exit (a .guid .now) (a .out .now) (c .before .before .if1 .left) ∙ no-room-exit t (a .out .now) (omega (arith, guid-length (a .guid .now))))
@@ -21,10 +24,12 @@ returns-2 c =
 
 returns-3 : tie.Need-returns-3
 returns-3 c =
-    let a = c .before .before .before .before .before .before .before .before .before .args in
+    let else1 : tie.Else1 = search in
+    let start : tie.Start = search in
+    let a = start .args in
     let t = guidText (a .guid .now) in
     shown
-    (guid-exit (a .guid .now) (a .out .now) (c .before .before .before .before .before .before .if1 .left)
+    (guid-exit (a .guid .now) (a .out .now) (else1 .if1 .left)
     ∙ room-exit t (a .out .now) (c .before .before .before .put-guid .ensures) (omega (arith, guid-length (a .guid .now))))
     (c .wrote .ensures ∙ ap (λ (n : ℕ). answer 0 n 0 0) (sym (guid-length (a .guid .now))))
 

@@ -6,35 +6,35 @@ use Rattle.text.proofs.put_guid.Tie as tie
 
 returns : tie.Need-returns
 returns c =
-    let c14 = c .before .before in
-    let c13 = c14 .before .before .before .before in
-    let c12 = c13 .before .before .before .before in
-    let c11 = c12 .before .before .before .before in
-    let c10 = c11 .before .before .before .before in
-    let c9 = c10 .before .before .before .before in
-    let c8 = c9 .before .before .before .before in
-    let c7 = c8 .before .before .before .before in
-    let c6 = c7 .before .before .before .before in
-    let c5 = c6 .before .before .before .before in
-    let c4 = c5 .before .before .before .before in
-    let c3 = c4 .before .before .before .before in
-    let c2 = c3 .before .before .before .before in
-    let c1 = c2 .before .before .before .before in
-    rw (guid-parts (c1 .before .before .before .before .args .g .now))
-    (c1 .put-byte .ensures
-    ⨟ c2 .put-pair .ensures
-    ⨟ c3 .put-pair2 .ensures
-    ⨟ c4 .put-byte2 .ensures
-    ⨟ c5 .put-pair3 .ensures
-    ⨟ c6 .put-byte3 .ensures
-    ⨟ c7 .put-pair4 .ensures
-    ⨟ c8 .put-byte4 .ensures
-    ⨟ c9 .put-pair5 .ensures
-    ⨟ c10 .put-byte5 .ensures
-    ⨟ c11 .put-pair6 .ensures
-    ⨟ c12 .put-pair7 .ensures
-    ⨟ c13 .put-pair8 .ensures
-    ⨟ c14 .put-byte6 .ensures)
+    let after-put-byte6 : tie.After-put-byte6 = search in
+    let after-put-pair8 : tie.After-put-pair8 = search in
+    let after-put-pair7 : tie.After-put-pair7 = search in
+    let after-put-pair6 : tie.After-put-pair6 = search in
+    let after-put-byte5 : tie.After-put-byte5 = search in
+    let after-put-pair5 : tie.After-put-pair5 = search in
+    let after-put-byte4 : tie.After-put-byte4 = search in
+    let after-put-pair4 : tie.After-put-pair4 = search in
+    let after-put-byte3 : tie.After-put-byte3 = search in
+    let after-put-pair3 : tie.After-put-pair3 = search in
+    let after-put-byte2 : tie.After-put-byte2 = search in
+    let after-put-pair2 : tie.After-put-pair2 = search in
+    let after-put-pair : tie.After-put-pair = search in
+    let after-put-byte : tie.After-put-byte = search in
+    rw guid-parts
+    (after-put-byte .put-byte .ensures
+    ⨟ after-put-pair .put-pair .ensures
+    ⨟ after-put-pair2 .put-pair2 .ensures
+    ⨟ after-put-byte2 .put-byte2 .ensures
+    ⨟ after-put-pair3 .put-pair3 .ensures
+    ⨟ after-put-byte3 .put-byte3 .ensures
+    ⨟ after-put-pair4 .put-pair4 .ensures
+    ⨟ after-put-byte4 .put-byte4 .ensures
+    ⨟ after-put-pair5 .put-pair5 .ensures
+    ⨟ after-put-byte5 .put-byte5 .ensures
+    ⨟ after-put-pair6 .put-pair6 .ensures
+    ⨟ after-put-pair7 .put-pair7 .ensures
+    ⨟ after-put-pair8 .put-pair8 .ensures
+    ⨟ after-put-byte6 .put-byte6 .ensures)
 
 same-length : tie.Need-same-length
 same-length c = same (returns c)

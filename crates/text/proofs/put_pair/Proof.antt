@@ -7,7 +7,10 @@ use Rattle.text.proofs.put_pair.Tie as tie
 
 returns : tie.Need-returns
 unfolding hexes hex
-returns c = rw (c .before .before .before .before .before .before .before .before .byte-at .ensures, c .before .before .before .byte-at2 .ensures) at (c .before .before .before .before .before .before .before .put-hex .ensures ⨟ c .before .before .put-hex2 .ensures)
+returns c =
+    let after-put-hex : tie.After-put-hex = search in
+    let after-byte-at : tie.After-byte-at = search in
+    rw (after-byte-at .byte-at .ensures, c .before .before .before .byte-at2 .ensures) at (after-put-hex .put-hex .ensures ⨟ c .before .before .put-hex2 .ensures)
 
 pub put-pair-spec : {M : Type 1} → statement M
 put-pair-spec =

@@ -1,4 +1,5 @@
-use Prim.Native.Nat.{_≤_, _<_, _-_}
+use Prim.Native.Nat.{ℕ, _≤_, _<_, _-_}
+use mathlib.Core.List.{List}
 use native.Mathlib.Omega.{arith}
 use native.Mathlib.Numerals.{add-one}
 use lib.ListN.{length, take}
@@ -8,31 +9,35 @@ use Rattle.text.proofs.Chain.{nothing, _⨟_, same}
 use Rattle.text.proofs.put_text.Statement.{statement}
 use Rattle.text.proofs.put_text.Tie as tie
 
+record Kept (old : List ℕ) (at : ℕ) (s new : List ℕ) (next i : ℕ) : Type 0 where
+  within : i ≤ length s
+  wrote : Wrote old at (take i s) new next
+
 abbrev Inv-loop : tie.InvT-loop
-Inv-loop out₀ at s o₀ i₀ out o i = (i ≤ length s) × Wrote out₀ at (take i s) out o
+Inv-loop out₀ at s o₀ i₀ out o i = Kept out₀ at s out o i
 
 abbrev μ-loop : tie.MeasureT-loop
 μ-loop out₀ at s o₀ i₀ out o i = length s - i
 
 loop-holds : tie.Need-loop-holds Inv-loop μ-loop
-loop-holds c = (omega arith, nothing)
-
-put-byte-requires : tie.Need-put-byte-requires Inv-loop μ-loop
-put-byte-requires c κs = tt
+loop-holds c = record { within = omega arith; wrote = nothing }
 
 loop-again : tie.Need-loop-again Inv-loop μ-loop
 loop-again c =
-    let l = c .before .before .before .before .before .before in
-    let h : l .loop .i < length (l .before .before .before .args .s .now) = omega arith in
-    (omega arith, rw (add-one, take-suc (l .before .before .before .args .s .now) (l .loop .i) 0 h) (l .loop .inv .1 ⨟ c .before .before .put-byte .ensures))
-
-same-length : tie.Need-same-length Inv-loop μ-loop
-same-length c = same (c .before .loop .inv .1)
+    let at-loop : tie.At-loop Inv-loop μ-loop = search in
+    let start : tie.Start Inv-loop μ-loop = search in
+    let l = at-loop .loop in
+    let h : l .i < length (start .args .s .now) = omega arith in
+    record { within = omega arith; wrote = rw (add-one, take-suc (start .args .s .now) (l .i) 0 h) (l .inv .wrote ⨟ c .before .before .put-byte .ensures) }
 
 returns : tie.Need-returns Inv-loop μ-loop
 returns c =
-    let l = c .before in
-    rw (take-all (l .loop .i) (l .before .before .before .args .s .now) (c .loop-test .left)) at (l .loop .inv .1)
+    let start : tie.Start Inv-loop μ-loop = search in
+    let l = c .before .loop in
+    rw (take-all (l .i) (start .args .s .now) (c .loop-test .left)) at (l .inv .wrote)
+
+same-length : tie.Need-same-length Inv-loop μ-loop
+same-length c = same (returns c)
 
 pub put-text-spec : {M : Type 1} → statement M
 put-text-spec =
@@ -42,7 +47,7 @@ put-text-spec =
     μ-loop
     loop-holds
     (λ c. omega arith)
-    put-byte-requires
+    (λ c κs. tt)
     (λ c. omega arith) (λ c. omega arith)
     loop-again
     same-length
