@@ -1,5 +1,5 @@
--- Header codes, compared and written one by one.
-use Prim.Native.Nat.{ℕ, zero, suc, _+_, _-_, _<_, _≤_}
+-- Header codes, compared and written one by one, and what the two loops keep that do it.
+use Prim.Native.Nat.{ℕ, _+_, _*_, _-_, _<_, _≤_}
 use native.Mathlib.Omega.{arith}
 use mathlib.Core.Path.{_≡_, refl, sym, ap, _∙_}
 use mathlib.Core.Bool.{Bool, true, false}
@@ -10,29 +10,37 @@ use Rattle.rules.specs.Lists.{concat, same}
 use Rattle.rules.specs.Bytes.{u16}
 use Rattle.rules.specs.CodeTable.{codesAt, layout, headerCount, header}
 use Rattle.rules.specs.Join.{twoBytes, sameHead}
-use Rattle.joinlaws.proofs.TableBytesLaws.{length-codesAt}
+use Rattle.joinlaws.proofs.TableBytesLaws.{length-codesAt, no-codes}
 use Rattle.joinlaws.proofs.JoinedLaws.{same-true}
 use Rattle.codetable.proofs.Steps.{codes-next}
+use Rattle.text.specs.Writer.{Wrote}
+use Rattle.text.proofs.Remains.{Remains, all-remains, remains-as, on, done}
 use Rattle.join.specs.Walk.{codesBytes, headBytes}
 
-no-codes : (t : List ℕ) (at left : ℕ) → left ≤ 0 → codesAt t at left ≡ []
-unfolding codesAt
-no-codes t at zero h = refl
-no-codes t at (suc n) h = absurd (omega arith)
-
 -- ---- compared
-module _ (a b : List ℕ) (at left : ℕ) where
-  pub codes-differ : 0 < left → (u16 a at ≡ u16 b at → ⊥) → same (codesAt a at left) (codesAt b at left) ≡ false
-  unfolding same
-  codes-differ m h = rw (codes-next a at left m, codes-next b at left m, ne-eqb (u16 a at) (u16 b at) h)
+-- of n codes so many are left from `at` on, and those in front of them are the same
+pub record ComparedTo (one other : List ℕ) (n at left : ℕ) : Type 0 where
+  pub ends : at + 2 * left ≤ 516
+  pub rest : same (codesAt one 4 n) (codesAt other 4 n) ≡ same (codesAt one at left) (codesAt other at left)
 
-  pub codes-step : 0 < left → u16 a at ≡ u16 b at → same (codesAt a at left) (codesAt b at left) ≡ same (codesAt a (at + 2) (left - 1)) (codesAt b (at + 2) (left - 1))
-  unfolding same
-  codes-step m h = rw (codes-next a at left m, codes-next b at left m, eq-eqb (u16 a at) (u16 b at) h)
+pub none-compared : {one other : List ℕ} {n : ℕ} → n < 256 → ComparedTo one other n 4 n
+none-compared h = record { ends = omega arith; rest = refl }
 
-  pub codes-end : left ≤ 0 → same (codesAt a at left) (codesAt b at left) ≡ true
+module _ {one other : List ℕ} {n at left : ℕ} (C : ComparedTo one other n at left) where
+  module _ {x y : ℕ} (more : 0 < left) (X : x ≡ u16 one at) (Y : y ≡ u16 other at) where
+    pub code-differs : (x ≡ y → ⊥) → same (codesAt one 4 n) (codesAt other 4 n) ≡ false
+    unfolding same
+    code-differs h = C .rest ∙ rw (codes-next one at left more, codes-next other at left more, ← X, ← Y, ne-eqb x y h)
+
+    pub code-same : x ≡ y → ComparedTo one other n (at + 2) (left - 1)
+    unfolding same
+    code-same h =
+        let p = C .ends in
+        record { ends = omega arith; rest = C .rest ∙ rw (codes-next one at left more, codes-next other at left more, ← X, ← Y, eq-eqb x y h) }
+
+  pub all-compared : left ≤ 0 → same (codesAt one 4 n) (codesAt other 4 n) ≡ true
   unfolding same
-  codes-end h = rw (no-codes a at left h, no-codes b at left h)
+  all-compared h = C .rest ∙ rw (no-codes one at left h, no-codes other at left h)
 
 module _ (a b : List ℕ) where
   pub other-layout : (layout a ≡ layout b → ⊥) → sameHead a b ≡ false
@@ -56,13 +64,22 @@ module _ (a b : List ℕ) where
   same-count e h = rw (eq-eqb (layout a) (layout b) e, ← h)
 
 -- ---- written
-pub codes-bytes : (t : List ℕ) (at left n : ℕ) → 0 < left → n ≡ u16 t at → codesBytes (codesAt t at left) ≡ twoBytes n ++ codesBytes (codesAt t (at + 2) (left - 1))
-unfolding concat
-codes-bytes t at left n m e = rw (codes-next t at left m, e)
+-- so many codes are left from `from` on, and are still to be written
+pub record CodesTo (t old : List ℕ) (at : ℕ) (new : List ℕ) (next from left : ℕ) : Type 0 where
+  pub ends : from + 2 * left ≤ 516
+  pub rest : Remains old at (codesBytes (header t)) new next (codesBytes (codesAt t from left))
 
-pub codes-written : (t : List ℕ) (at left : ℕ) → left ≤ 0 → codesBytes (codesAt t at left) ≡ []
-unfolding concat
-codes-written t at left h = rw (no-codes t at left h)
+pub no-code-written : {t old : List ℕ} {at n : ℕ} → n ≡ headerCount t → n < 256 → CodesTo t old at old at 4 n
+no-code-written {t} e h = record { ends = omega arith; rest = remains-as all-remains (ap (λ (k : ℕ). codesBytes (codesAt t 4 k)) (sym e)) }
+
+module _ {t old new : List ℕ} {at next from left : ℕ} (C : CodesTo t old at new next from left) where
+  pub code-written : {x then : ℕ} {later : List ℕ} → 0 < left → x ≡ u16 t from → Wrote new next (twoBytes x) later then → CodesTo t old at later then (from + 2) (left - 1)
+  unfolding concat
+  code-written more X w = let p = C .ends in record { ends = omega arith; rest = on (C .rest) (rw (codes-next t from left more, X)) w }
+
+  pub codes-written : left ≤ 0 → Wrote old at (codesBytes (header t)) new next
+  unfolding concat
+  codes-written h = done (C .rest) (rw (no-codes t from left h))
 
 pub head-is : (t : List ℕ) (n first codes : ℕ) → first ≡ layout t → codes ≡ headerCount t → (first ∷ codes ∷ twoBytes n ++ codesBytes (header t)) ≡ headBytes t n
 head-is t n first codes e h =

@@ -1,13 +1,13 @@
 -- Two walks at once: which of them goes on is told by the numbers that stand next, and each way is a turn of the merge.
 use Prim.Native.Nat.{ℕ, zero, suc, _+_, _≤_, _<_}
 use native.Mathlib.Omega.{arith}
-use mathlib.Core.Path.{_≡_, refl, ap, subst, _∙_}
+use mathlib.Core.Path.{_≡_, refl, sym, ap, _∙_}
 use mathlib.Core.Bool.{Bool, true, false, _||_}
-use mathlib.Core.List.{List, [], _∷_, _++_, map}
+use mathlib.Core.List.{List, [], _∷_}
 use mathlib.Core.Logic.{_⊎_, inl, inr}
 use lib.Dec.{ltb, eqb}
 use borrow.Author.Tests.{lt-ltb, le-ltb, ltb-true, ltb-false, eq-eqb, ne-eqb, eqb-true, eqb-false}
-use Rattle.rules.specs.Lists.{concat, merge, agree}
+use Rattle.rules.specs.Lists.{merge, agree}
 use Rattle.rules.proofs.ListLaws.{and-l, and-r}
 use Rattle.joinlaws.proofs.MergeLaws.{Ascends}
 use Rattle.joinlaws.proofs.JoinTurns.{Turn, turn-low, turn-high, turn-same, turn-front, turn-back}
@@ -26,6 +26,11 @@ more : (k : ℕ) → (k ≡ 0 → ⊥) → 0 < k
 more zero z = absurd (z refl)
 more (suc k) z = omega arith
 
+-- a walk that has something left and doesn't go on by itself
+record NotAlone (x n y : ℕ) : Type 0 where
+  others : 0 < n
+  not-less : y ≤ x
+
 module _ (m x n y : ℕ) where
   pub alone-more : alone m x n y ≡ true → 0 < m
   unfolding alone
@@ -39,14 +44,14 @@ module _ (m x n y : ℕ) where
       go (inl h) = inl (eqb-true n 0 h)
       go (inr h) = inr (ltb-true x y h)
 
-  not-alone : 0 < m → alone m x n y ≡ false → (0 < n) × (y ≤ x)
+  not-alone : 0 < m → alone m x n y ≡ false → NotAlone x n y
   unfolding alone
   not-alone h e =
       let f : (eqb n 0 || ltb x y) ≡ false = rw (lt-ltb 0 m h) at e in
       let g = or-neither (eqb n 0) (ltb x y) f in
       let z : n ≡ 0 → ⊥ = eqb-false n 0 (g .0) in
       let l : y ≤ x = ltb-false x y (g .1) in
-      (more n z, l)
+      record { others = more n z; not-less = l }
 
   -- the code's tests
   pub alone-none : m ≡ 0 → alone m x n y ≡ false
@@ -68,57 +73,60 @@ pub record Both (m x n y : ℕ) : Type 0 where
   pub same : x ≡ y
 
 pub both : (m x n y : ℕ) → 0 < m + n → alone m x n y ≡ false → alone n y m x ≡ false → Both m x n y
-both zero x n y h e g = let k = not-alone n y zero x (omega arith) g .0 in absurd (omega arith)
+both zero x n y h e g = let k = not-alone n y zero x (omega arith) g in absurd (omega arith)
 both (suc m) x n y h e g =
     let k = not-alone (suc m) x n y (omega arith) e in
-    let l = not-alone n y (suc m) x (k .0) g in
-    record { first = omega arith; second = k .0; same = let p = k .1 in let q = l .1 in omega arith }
+    let l = not-alone n y (suc m) x (k .others) g in
+    record { first = omega arith; second = k .others; same = omega arith }
 
 -- ---- the turns
--- m elements are left, xs: where there is one, x is the next and xs′ what follows
-pub record Front {A : Type 0} (m : ℕ) (x : A) (xs xs′ : List A) : Type 0 where
+-- m elements are left, xs: where there is one, x is the next, i its number, and xs′ what follows
+pub record Front {A : Type 0} (f : A → ℕ) (m i : ℕ) (x : A) (xs xs′ : List A) : Type 0 where
+  pub number : i ≡ f x
   pub next : 0 < m → xs ≡ x ∷ xs′
   pub end : m ≡ 0 → xs ≡ []
+  pub ascend : Ascends f 0 xs
+
+up : {A : Type 0} {f : A → ℕ} {m i : ℕ} {x : A} {xs xs′ : List A} → Front f m i x xs xs′ → 0 < m → Ascends f 0 (x ∷ xs′)
+up F h = rw (F .next h) at (F .ascend)
 
 zero-or : (n : ℕ) → (n ≡ 0) ⊎ (0 < n)
 zero-or zero = inl refl
 zero-or (suc n) = inr (omega arith)
 
-module _ {A : Type 0} (f : A → ℕ) (c : A → A → A) (p : A → A → Bool) (cf : (x y : A) → f x ≡ f y → f (c x y) ≡ f x)
-    {m n : ℕ} {x y : A} {xs xs′ ys ys′ : List A} (F : Front m x xs xs′) (G : Front n y ys ys′) (a : Ascends f 0 xs) (b : Ascends f 0 ys) where
-  pub first-turn : alone m (f x) n (f y) ≡ true → Turn f c p xs ys x true xs′ ys
-  first-turn e = go (zero-or n) (alone-less m (f x) n (f y) e)
+module _ {A : Type 0} {f : A → ℕ} {c : A → A → A} {p : A → A → Bool} {m n i j : ℕ} {x y : A} {xs xs′ ys ys′ : List A}
+    (cf : (x y : A) → f x ≡ f y → f (c x y) ≡ f x) (F : Front f m i x xs xs′) (G : Front f n j y ys ys′) where
+  pub first-turn : alone m i n j ≡ true → Turn f c p xs ys x true xs′ ys
+  first-turn e = go (zero-or n) (alone-less m i n j e)
     where
-      front : xs ≡ x ∷ xs′
-      front = F .next (alone-more m (f x) n (f y) e)
+      more : 0 < m
+      more = alone-more m i n j e
 
-      go : (n ≡ 0) ⊎ (0 < n) → (n ≡ 0) ⊎ (f x < f y) → Turn f c p xs ys x true xs′ ys
-      go (inl z) l = rw (front, G .end z) (turn-front f c p cf x xs′ (rw front at a))
+      go : (n ≡ 0) ⊎ (0 < n) → (n ≡ 0) ⊎ (i < j) → Turn f c p xs ys x true xs′ ys
+      go (inl z) l = rw (F .next more, G .end z) (turn-front f c p cf x xs′ (up F more))
       go (inr h) (inl z) = absurd (omega arith)
-      go (inr h) (inr l) = rw (front, G .next h) (turn-low f c p cf x y xs′ ys′ l (rw front at a) (rw (G .next h) at b))
+      go (inr h) (inr l) = rw (F .next more, G .next h) (turn-low f c p cf x y xs′ ys′ (omega (arith, F .number, G .number)) (up F more) (up G h))
 
-  pub second-turn : alone n (f y) m (f x) ≡ true → Turn f c p xs ys y true xs ys′
-  second-turn e = go (zero-or m) (alone-less n (f y) m (f x) e)
+  pub second-turn : alone n j m i ≡ true → Turn f c p xs ys y true xs ys′
+  second-turn e = go (zero-or m) (alone-less n j m i e)
     where
-      back : ys ≡ y ∷ ys′
-      back = G .next (alone-more n (f y) m (f x) e)
+      more : 0 < n
+      more = alone-more n j m i e
 
-      go : (m ≡ 0) ⊎ (0 < m) → (m ≡ 0) ⊎ (f y < f x) → Turn f c p xs ys y true xs ys′
-      go (inl z) l = rw (back, F .end z) (turn-back f c p cf y ys′ (rw back at b))
+      go : (m ≡ 0) ⊎ (0 < m) → (m ≡ 0) ⊎ (j < i) → Turn f c p xs ys y true xs ys′
+      go (inl z) l = rw (G .next more, F .end z) (turn-back f c p cf y ys′ (up G more))
       go (inr h) (inl z) = absurd (omega arith)
-      go (inr h) (inr l) = rw (back, F .next h) (turn-high f c p cf x y xs′ ys′ l (rw (F .next h) at a) (rw back at b))
+      go (inr h) (inr l) = rw (G .next more, F .next h) (turn-high f c p cf x y xs′ ys′ (omega (arith, F .number, G .number)) (up F h) (up G more))
 
-  pub both-turn : Both m (f x) n (f y) → Turn f c p xs ys (c x y) (p x y) xs′ ys′
-  both-turn h = rw (F .next (h .first), G .next (h .second)) (turn-same f c p cf x y xs′ ys′ (h .same) (rw (F .next (h .first)) at a) (rw (G .next (h .second)) at b))
+  pub both-turn : Both m i n j → Turn f c p xs ys (c x y) (p x y) xs′ ys′
+  both-turn h =
+      rw (F .next (h .first), G .next (h .second))
+      (turn-same f c p cf x y xs′ ys′ (sym (F .number) ∙ h .same ∙ G .number) (up F (h .first)) (up G (h .second)))
 
--- the same turn, by other names
-pub turn-as : {A : Type 0} {f : A → ℕ} {c : A → A → A} {p : A → A → Bool} {xs ys xs′ ys′ xs″ ys″ : List A} {z w : A} {t u : Bool}
-    → Turn f c p xs ys z t xs′ ys′ → z ≡ w → t ≡ u → xs′ ≡ xs″ → ys′ ≡ ys″ → Turn f c p xs ys w u xs″ ys″
-turn-as {f = f} {c} {p} {xs} {ys} {xs′} {ys′} {xs″} {ys″} {z} {w} {t} {u} T e g h k =
-    subst (λ l. Turn f c p xs ys w u xs″ l) k
-    (subst (λ l. Turn f c p xs ys w u l ys′) h
-    (subst (λ v. Turn f c p xs ys w v xs′ ys′) g
-    (subst (λ v. Turn f c p xs ys v t xs′ ys′) e T)))
+-- the same turn, by other names for what it takes and finds
+pub turn-as : {A : Type 0} {f : A → ℕ} {c : A → A → A} {p : A → A → Bool} {xs ys xs′ ys′ : List A} {z w : A} {t u : Bool}
+    → Turn f c p xs ys z t xs′ ys′ → z ≡ w → t ≡ u → Turn f c p xs ys w u xs′ ys′
+turn-as T e g = rw (← e, ← g) T
 
 -- ---- at the end of one walk the other goes on as it is
 module _ {A : Type 0} (f : A → ℕ) (c : A → A → A) (p : A → A → Bool) (cf : (x y : A) → f x ≡ f y → f (c x y) ≡ f x) where
@@ -131,13 +139,3 @@ module _ {A : Type 0} (f : A → ℕ) (c : A → A → A) (p : A → A → Bool)
   unfolding agree Rattle.rules.specs.Lists.all
   agree-end [] a = refl
   agree-end (x ∷ xs) a = let T = turn-front f c p cf x xs a in T .agreed ∙ agree-end xs (T .front)
-
--- ---- what is written of a turn
-pub concat-next : {A : Type 0} (g : A → List ℕ) {f : A → ℕ} {c : A → A → A} {p : A → A → Bool} {xs ys xs′ ys′ : List A} {z : A} {t : Bool}
-    → Turn f c p xs ys z t xs′ ys′ → concat (map g (merge f c xs ys)) ≡ g z ++ concat (map g (merge f c xs′ ys′))
-unfolding concat
-concat-next g T = ap (λ l. concat (map g l)) (T .merged)
-
-pub concat-none : {A : Type 0} (g : A → List ℕ) (xs : List A) → xs ≡ [] → concat (map g xs) ≡ []
-unfolding concat
-concat-none g xs e = ap (λ l. concat (map g l)) e

@@ -7,7 +7,7 @@ use lib.Dec.{ltb, eqb}
 use lib.ListN.{length}
 use Rattle.rules.specs.Lists.{concat, all, ascends, agree}
 use Rattle.rules.specs.Bytes.{byte, u16}
-use Rattle.rules.specs.CodeTable.{Tie, Scope, idOf, keyOf, key, tiesAt, scopesAt, layout, header, scopeCount, contentsAt, bodiesAt, scopeOk, rowCount, wellFormed}
+use Rattle.rules.specs.CodeTable.{Tie, Scope, idOf, keyOf, key, tiesAt, scopesAt, layout, header, scopes, scopeCount, contentsAt, bodiesAt, scopeOk, rowCount, wellFormed}
 use Rattle.rules.specs.Join.{joinRows, joinScope, joinScopes, sameRow, rowsAgree, scopesAgree, twoBytes, tiesBytes, scopeBytes}
 use Rattle.joinlaws.proofs.JoinTurns.{Turn}
 use Rattle.join.specs.declared.Rows.{Rows}
@@ -23,6 +23,16 @@ use Rattle.join.specs.declared.Sized.{Sized}
 unfoldable pub alone : ℕ → ℕ → ℕ → ℕ → Bool
 alone left number others other = ltb 0 left && (eqb others 0 || ltb number other)
 
+-- two walks at once, of which each meets what is asked of one
+pub record Walks {C : Type 0} (Walk : List ℕ → C → Type 0) (one : List ℕ) (a : C) (other : List ℕ) (b : C) : Type 0 where
+  pub one-walk : Walk one a
+  pub other-walk : Walk other b
+
+-- and with so much left, there is a next turn
+pub record NextTurn {C : Type 0} (Walk : List ℕ → C → Type 0) (one : List ℕ) (a : C) (other : List ℕ) (b : C) (left : ℕ) : Type 0 where
+  pub walks : Walks Walk one a other b
+  pub more : 0 < left
+
 -- ---- rows
 abbrev pub tieOf : Row → Tie
 tieOf r = record { id = r .id; target = r .target; kind = r .kind }
@@ -36,11 +46,19 @@ pub record RowsWalk (t : List ℕ) (a : Rows) : Type 0 where
   pub few : a .left ≤ 253
   pub place : a .at + 4 * a .left ≤ 65100
 
+-- there is a row to take
+pub record RowLeft (a : Rows) : Type 0 where
+  pub at-small : a .at < 2 ^ 32
+  pub more : 0 < a .left
+
+-- the rows after the next one
+abbrev pub rowsAfter : Rows → Rows
+rowsAfter a = record { at = a .at + 4; left = a .left - 1 }
+
 -- a turn takes one row, and leaves the rest
 pub record RowsTurn (one : List ℕ) (a : Rows) (other : List ℕ) (b : Rows) (r : RowTurn) : Type 0 where
   pub turn : Turn idOf (λ x y. x) sameRow (rowsIn one a) (rowsIn other b) (tieOf (r .row)) (r .agreed) (rowsIn one (r .one)) (rowsIn other (r .other))
-  pub one-walk : RowsWalk one (r .one)
-  pub other-walk : RowsWalk other (r .other)
+  pub walks : Walks RowsWalk one (r .one) other (r .other)
   pub fewer : r .one .left + r .other .left < a .left + b .left
 
 abbrev pub counts : Bool → ℕ → Counted
@@ -62,6 +80,12 @@ pub record ScopesWalk (t : List ℕ) (a : Scopes) : Type 0 where
   pub ok : all scopeOk (scopesIn t a) ≡ true
   pub place : a .at + 5 * a .left ≤ 332
   pub ends : a .body + 4 * rowCount (scopesIn t a) ≤ 65100
+
+-- there is a scope to take
+pub record ScopeLeft (a : Scopes) : Type 0 where
+  pub at-small : a .at < 2 ^ 32
+  pub body-small : a .body < 2 ^ 32
+  pub more : 0 < a .left
 
 -- kind and code of the scope that is told at a place, as one number
 pub record ReadsKey (t : List ℕ) (at r : ℕ) : Type 0 where
@@ -86,11 +110,6 @@ taken t a = takenBy a (u16 t (a .at + 3))
 abbrev pub stayed : Scopes → Taken
 stayed a = record { rows = record { at = 0; left = 0 }; rest = a }
 
--- both can be walked
-pub record TakenWalk (t : List ℕ) (x : Taken) : Type 0 where
-  pub rows : RowsWalk t (x .rows)
-  pub rest : ScopesWalk t (x .rest)
-
 -- a turn takes one scope: the rows that the two have for it are joined
 abbrev pub scopeOf : List ℕ → List ℕ → ScopeTurn → Scope
 scopeOf one other r = record { kind = kindOf (r .key); code = codeOf (r .key); rows = joinRows (rowsIn one (r .front .rows)) (rowsIn other (r .back .rows)) }
@@ -100,8 +119,8 @@ pub record ScopesTurn (one : List ℕ) (a : Scopes) (other : List ℕ) (b : Scop
       (agree idOf sameRow (rowsIn one (r .front .rows)) (rowsIn other (r .back .rows)))
       (scopesIn one (r .front .rest)) (scopesIn other (r .back .rest))
   pub small : r .key < 2 ^ 24
-  pub front-walk : TakenWalk one (r .front)
-  pub back-walk : TakenWalk other (r .back)
+  pub rows : Walks RowsWalk one (r .front .rows) other (r .back .rows)
+  pub rest : Walks ScopesWalk one (r .front .rest) other (r .back .rest)
   pub fewer : r .front .rest .left + r .back .rest .left < a .left + b .left
 
 abbrev pub sizes : Bool → ℕ → ℕ → Sized
@@ -110,8 +129,15 @@ sizes agreed n m = record { agreed = agreed; scopes = cond agreed n 0; rows = co
 abbrev pub sized : List Scope → List Scope → Sized
 sized ss ss′ = sizes (scopesAgree ss ss′) (length (joinScopes ss ss′)) (rowCount (joinScopes ss ss′))
 
-abbrev pub Formed : List ℕ → Type 0
-Formed t = wellFormed t ≡ true
+-- two well-formed tables
+pub record Formed (one other : List ℕ) : Type 0 where
+  pub one-formed : wellFormed one ≡ true
+  pub other-formed : wellFormed other ≡ true
+
+-- and no scope and id has two different rows
+pub record Agreed (one other : List ℕ) : Type 0 where
+  pub formed : Formed one other
+  pub agree-all : scopesAgree (scopes one) (scopes other) ≡ true
 
 -- ---- the parts of a table as they are written (`tableBytes`)
 abbrev pub codesBytes : List ℕ → List ℕ

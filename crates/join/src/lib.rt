@@ -17,7 +17,43 @@ ghost use Rattle.rules.specs.Lists.{same};
 ghost use Rattle.rules.specs.CodeTable as t;
 ghost use Rattle.rules.specs.Join.{joinRows, joinScopes, sameRow, scopesAgree, twoBytes, tieBytes, tiesBytes, sameHead, joinExit};
 ghost use Rattle.text.specs.Writer.{Wrote};
-ghost use Rattle.join.specs.Walk.{alone, tieOf, rowsIn, RowsWalk, RowsTurn, counted, scopesOf, ReadsKey, ScopesWalk, taken, stayed, ScopesTurn, sized, kindOf, codeOf, Formed, codesBytes, headBytes, contentsBytes, bodiesBytes};
+ghost use Rattle.join.specs.Walk.{alone, Walks, NextTurn, tieOf, rowsIn, RowsWalk, RowLeft, rowsAfter, RowsTurn, counted, scopesOf, ReadsKey, ScopesWalk, ScopeLeft, taken, stayed, ScopesTurn, sized, kindOf, codeOf, Formed, Agreed, codesBytes, headBytes, contentsBytes, bodiesBytes};
+
+// Where the number of a table's header codes stands, the number of its scopes, and the header codes.
+const HEADER_COUNT_AT: usize = 1;
+
+const SCOPE_COUNT_AT: usize = 2;
+
+const HEADER_AT: usize = 4;
+
+// How many bytes a header code has, a scope of the contents, a row.
+const CODE_SIZE: usize = 2;
+
+const SCOPE_SIZE: usize = 5;
+
+const ROW_SIZE: usize = 4;
+
+// In a scope of the contents the code stands after the kind, and the number of rows after that.
+const CODE_AT: usize = 1;
+
+const ROW_COUNT_AT: usize = 3;
+
+// A scope's kind and code are one number, kind * CODES + code.
+const CODES: usize = 65536;
+
+// A table has no more scopes.
+const MOST_SCOPES: usize = 64;
+
+// The refusals.
+const BAD_TABLE: u32 = 8;
+
+const NO_ROOM_FOR_TEXT: u32 = 9;
+
+const OTHER_HEAD: u32 = 16;
+
+const TWO_ROWS: u32 = 17;
+
+const MORE_SCOPES: u32 = 18;
 
 // Rows of a scope that are left: where the next one is, and how many they are.
 struct Rows {
@@ -107,24 +143,25 @@ fn same_row(x: Row, y: Row) -> bool
     x.kind == y.kind
 }
 
-fn behind(a: Rows) -> Rows
-    requires { ⌜ (a .at < 2 ^ 32) × (0 < a .left) ⌝ }
-    ensures { λ r. ⌜ (r .at ≡ a .at + 4) × (r .left ≡ a .left - 1) ⌝ }
+// The rows after the next one.
+fn rows_after(a: Rows) -> Rows
+    requires { ⌜ RowLeft a ⌝ }
+    ensures { λ r. ⌜ r ≡ rowsAfter a ⌝ }
 {
     Rows {
-        at: a.at + 4,
+        at: a.at + ROW_SIZE,
         left: a.left - 1,
     }
 }
 
 fn row_turn(one: &[u8], a: Rows, other: &[u8], b: Rows) -> RowTurn
-    requires { ⌜ RowsWalk (now one) a × RowsWalk (now other) b × (0 < a .left + b .left) ⌝ }
+    requires { ⌜ NextTurn RowsWalk (now one) a (now other) b (a .left + b .left) ⌝ }
     ensures { λ r. ⌜ RowsTurn (now (one .entry)) a (now (other .entry)) b r ⌝ }
 {
     let x = row_at(one, a.at);
     let y = row_at(other, b.at);
     if alone(a.left, x.id as usize, b.left, y.id as usize) {
-        let rest = behind(a);
+        let rest = rows_after(a);
         return RowTurn {
             row: x,
             agreed: true,
@@ -133,7 +170,7 @@ fn row_turn(one: &[u8], a: Rows, other: &[u8], b: Rows) -> RowTurn
         };
     }
     if alone(b.left, y.id as usize, a.left, x.id as usize) {
-        let rest = behind(b);
+        let rest = rows_after(b);
         return RowTurn {
             row: y,
             agreed: true,
@@ -142,8 +179,8 @@ fn row_turn(one: &[u8], a: Rows, other: &[u8], b: Rows) -> RowTurn
         };
     }
     let agreed = same_row(x, y);
-    let front = behind(a);
-    let back = behind(b);
+    let front = rows_after(a);
+    let back = rows_after(b);
     RowTurn {
         row: x,
         agreed,
@@ -153,7 +190,7 @@ fn row_turn(one: &[u8], a: Rows, other: &[u8], b: Rows) -> RowTurn
 }
 
 fn count_rows(one: &[u8], front: Rows, other: &[u8], back: Rows) -> Counted
-    requires { ⌜ RowsWalk (now one) front × RowsWalk (now other) back ⌝ }
+    requires { ⌜ Walks RowsWalk (now one) front (now other) back ⌝ }
     ensures { λ r. ⌜ r ≡ counted (rowsIn (now (one .entry)) front) (rowsIn (now (other .entry)) back) ⌝ }
 {
     let mut a = front;
@@ -180,21 +217,21 @@ fn key_at(table: &[u8], a: Scopes) -> usize
     requires { ⌜ a .at < 2 ^ 32 ⌝ }
     ensures { λ r. ⌜ ReadsKey (now (table .entry)) (a .at) r ⌝ }
 {
-    byte(table, a.at) * 65536 + word(table, a.at + 1)
+    byte(table, a.at) * CODES + word(table, a.at + CODE_AT)
 }
 
 fn take(table: &[u8], a: Scopes) -> Taken
-    requires { ⌜ (a .at < 2 ^ 32) × (a .body < 2 ^ 32) × (0 < a .left) ⌝ }
+    requires { ⌜ ScopeLeft a ⌝ }
     ensures { λ r. ⌜ r ≡ taken (now (table .entry)) a ⌝ }
 {
-    let count = word(table, a.at + 3);
+    let count = word(table, a.at + ROW_COUNT_AT);
     let rows = Rows {
         at: a.body,
         left: count,
     };
     let rest = Scopes {
-        at: a.at + 5,
-        body: a.body + 4 * count,
+        at: a.at + SCOPE_SIZE,
+        body: a.body + ROW_SIZE * count,
         left: a.left - 1,
     };
     Taken { rows, rest }
@@ -208,7 +245,7 @@ fn stay(a: Scopes) -> Taken
 }
 
 fn scope_turn(one: &[u8], a: Scopes, other: &[u8], b: Scopes) -> ScopeTurn
-    requires { ⌜ ScopesWalk (now one) a × ScopesWalk (now other) b × (0 < a .left + b .left) ⌝ }
+    requires { ⌜ NextTurn ScopesWalk (now one) a (now other) b (a .left + b .left) ⌝ }
     ensures { λ r. ⌜ ScopesTurn (now (one .entry)) a (now (other .entry)) b r ⌝ }
 {
     let x = key_at(one, a);
@@ -243,17 +280,17 @@ fn scope_turn(one: &[u8], a: Scopes, other: &[u8], b: Scopes) -> ScopeTurn
 fn scopes_of(table: &[u8]) -> Scopes
     ensures { λ r. ⌜ r ≡ scopesOf (now (table .entry)) ⌝ }
 {
-    let contents = 4 + 2 * byte(table, 1);
-    let scopes = word(table, 2);
+    let contents = HEADER_AT + CODE_SIZE * byte(table, HEADER_COUNT_AT);
+    let scopes = word(table, SCOPE_COUNT_AT);
     Scopes {
         at: contents,
-        body: contents + 5 * scopes,
+        body: contents + SCOPE_SIZE * scopes,
         left: scopes,
     }
 }
 
 fn count_scopes(one: &[u8], other: &[u8]) -> Sized
-    requires { ⌜ Formed (now one) × Formed (now other) ⌝ }
+    requires { ⌜ Formed (now one) (now other) ⌝ }
     ensures { λ r. ⌜ r ≡ sized (t.scopes (now (one .entry))) (t.scopes (now (other .entry))) ⌝ }
 {
     let mut a = scopes_of(one);
@@ -288,13 +325,13 @@ fn same_codes(one: &[u8], other: &[u8], n: usize) -> bool
     requires { ⌜ n < 256 ⌝ }
     ensures { λ r. ⌜ r ≡ same (t.codesAt (now (one .entry)) 4 n) (t.codesAt (now (other .entry)) 4 n) ⌝ }
 {
-    let mut at = 4;
+    let mut at = HEADER_AT;
     let mut left = n;
     while 0 < left {
         if word(one, at) != word(other, at) {
             return false;
         }
-        at += 2;
+        at += CODE_SIZE;
         left -= 1;
     }
     true
@@ -306,8 +343,8 @@ fn same_head(one: &[u8], other: &[u8]) -> bool
     if layout(one) != layout(other) {
         return false;
     }
-    let codes = byte(one, 1);
-    if codes != byte(other, 1) {
+    let codes = byte(one, HEADER_COUNT_AT);
+    if codes != byte(other, HEADER_COUNT_AT) {
         return false;
     }
     same_codes(one, other, codes)
@@ -326,11 +363,11 @@ fn put_codes(out: &mut [u8], at: usize, table: &[u8]) -> usize
     ensures { λ r. ⌜ Wrote (now (out .entry)) at (codesBytes (t.header (now (table .entry)))) (now (out .exit)) r ⌝ }
 {
     let mut o = at;
-    let mut from = 4;
-    let mut left = byte(table, 1);
+    let mut from = HEADER_AT;
+    let mut left = byte(table, HEADER_COUNT_AT);
     while 0 < left {
         o = put_two(out, o, word(table, from) as u16);
-        from += 2;
+        from += CODE_SIZE;
         left -= 1;
     }
     o
@@ -340,7 +377,7 @@ fn put_head(out: &mut [u8], table: &[u8], scopes: u16) -> usize
     ensures { λ r. ⌜ Wrote (now (out .entry)) 0 (headBytes (now (table .entry)) scopes) (now (out .exit)) r ⌝ }
 {
     let o = put_byte(out, 0, layout(table));
-    let o = put_byte(out, o, byte(table, 1) as u8);
+    let o = put_byte(out, o, byte(table, HEADER_COUNT_AT) as u8);
     let o = put_two(out, o, scopes);
     put_codes(out, o, table)
 }
@@ -349,13 +386,13 @@ fn put_scope(out: &mut [u8], at: usize, key: usize, rows: u16) -> usize
     requires { ⌜ key < 2 ^ 24 ⌝ }
     ensures { λ r. ⌜ Wrote (now (out .entry)) at (kindOf key ∷ twoBytes (codeOf key) ++ twoBytes rows) (now (out .exit)) r ⌝ }
 {
-    let o = put_byte(out, at, (key / 65536) as u8);
-    let o = put_two(out, o, (key % 65536) as u16);
+    let o = put_byte(out, at, (key / CODES) as u8);
+    let o = put_two(out, o, (key % CODES) as u16);
     put_two(out, o, rows)
 }
 
 fn put_contents(out: &mut [u8], at: usize, one: &[u8], other: &[u8]) -> usize
-    requires { ⌜ Formed (now one) × Formed (now other) × (scopesAgree (t.scopes (now one)) (t.scopes (now other)) ≡ true) ⌝ }
+    requires { ⌜ Agreed (now one) (now other) ⌝ }
     ensures { λ r. ⌜ Wrote (now (out .entry)) at (contentsBytes (joinScopes (t.scopes (now (one .entry))) (t.scopes (now (other .entry))))) (now (out .exit)) r ⌝ }
 {
     let mut a = scopes_of(one);
@@ -380,7 +417,7 @@ fn put_row(out: &mut [u8], at: usize, row: Row) -> usize
 }
 
 fn put_rows(out: &mut [u8], at: usize, one: &[u8], front: Rows, other: &[u8], back: Rows) -> usize
-    requires { ⌜ RowsWalk (now one) front × RowsWalk (now other) back ⌝ }
+    requires { ⌜ Walks RowsWalk (now one) front (now other) back ⌝ }
     ensures { λ r. ⌜ Wrote (now (out .entry)) at (tiesBytes (joinRows (rowsIn (now (one .entry)) front) (rowsIn (now (other .entry)) back))) (now (out .exit)) r ⌝ }
 {
     let mut a = front;
@@ -396,7 +433,7 @@ fn put_rows(out: &mut [u8], at: usize, one: &[u8], front: Rows, other: &[u8], ba
 }
 
 fn put_bodies(out: &mut [u8], at: usize, one: &[u8], other: &[u8]) -> usize
-    requires { ⌜ Formed (now one) × Formed (now other) ⌝ }
+    requires { ⌜ Formed (now one) (now other) ⌝ }
     ensures { λ r. ⌜ Wrote (now (out .entry)) at (bodiesBytes (joinScopes (t.scopes (now (one .entry))) (t.scopes (now (other .entry))))) (now (out .exit)) r ⌝ }
 {
     let mut a = scopes_of(one);
@@ -417,24 +454,27 @@ pub fn join(one: &[u8], other: &[u8], out: &mut [u8]) -> Answer
     ensures { λ r. ⌜ now (out .exit) ≡ joinExit (now (one .entry)) (now (other .entry)) (now (out .entry)) .out ⌝ }
 {
     if !well_formed(one) {
-        return refused(8);
+        return refused(BAD_TABLE);
     }
     if !well_formed(other) {
-        return refused(8);
+        return refused(BAD_TABLE);
     }
     if !same_head(one, other) {
-        return refused(16);
+        return refused(OTHER_HEAD);
     }
     let sized = count_scopes(one, other);
     if !sized.agreed {
-        return refused(17);
+        return refused(TWO_ROWS);
     }
-    if 64 < sized.scopes {
-        return refused(18);
+    if MOST_SCOPES < sized.scopes {
+        return refused(MORE_SCOPES);
     }
-    let size = 4 + 2 * byte(one, 1) + 5 * sized.scopes + 4 * sized.rows;
+    let size = HEADER_AT
+        + CODE_SIZE * byte(one, HEADER_COUNT_AT)
+        + SCOPE_SIZE * sized.scopes
+        + ROW_SIZE * sized.rows;
     if out.len() < size {
-        return refused(9);
+        return refused(NO_ROOM_FOR_TEXT);
     }
     let at = put_head(out, one, sized.scopes as u16);
     let at = put_contents(out, at, one, other);

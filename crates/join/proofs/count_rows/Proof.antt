@@ -13,25 +13,34 @@ abbrev μ-loop : tie.MeasureT-loop
 μ-loop one other a₀ b₀ rows₀ a b rows = a .left + b .left
 
 loop-holds : tie.Need-loop-holds Inv-loop μ-loop
-loop-holds c = counted-none (c .before .before .pre .0) (c .before .before .pre .1)
+loop-holds c = counted-none (c .before .before .pre)
 
 add-if1 : tie.Need-add-if1 Inv-loop μ-loop
-add-if1 c = omega (arith, c .before .before .loop .inv .one-walk .few, c .before .before .loop .inv .other-walk .few)
+add-if1 c = let w = c .before .before .loop .inv .walks in omega (arith, w .one-walk .few, w .other-walk .few)
 
 row-turn-requires : tie.Need-row-turn-requires Inv-loop μ-loop
-row-turn-requires c κs = (c .before .before .before .loop .inv .one-walk, c .before .before .before .loop .inv .other-walk, c .if1 .taken)
+row-turn-requires c κs = record { walks = c .before .before .before .loop .inv .walks; more = c .if1 .taken }
 
 returns : tie.Need-returns Inv-loop μ-loop
-returns c = sym (counted-clash (c .before .before .before .before .before .before .loop .inv) (c .before .before .row-turn .ensures) (not-true _ (c .if2 .taken)))
+returns c =
+    let at-loop : tie.At-loop Inv-loop μ-loop = search in
+    sym (counted-clash (at-loop .loop .inv) (c .before .before .row-turn .ensures) (not-true _ (c .if2 .taken)))
 
 add-rows : tie.Need-add-rows Inv-loop μ-loop
-add-rows c = omega (arith, counted-few (c .before .before .before .before .before .before .loop .inv))
+add-rows c =
+    let at-loop : tie.At-loop Inv-loop μ-loop = search in
+    omega (arith, counted-few (at-loop .loop .inv))
 
 loop-less : tie.Need-loop-less Inv-loop μ-loop
-loop-less c = c .before .before .before .before .row-turn .ensures .fewer
+loop-less c =
+    let after-row-turn : tie.After-row-turn Inv-loop μ-loop = search in
+    after-row-turn .row-turn .ensures .fewer
 
 loop-again : tie.Need-loop-again Inv-loop μ-loop
-loop-again c = counted-next (c .before .before .before .before .before .before .before .before .loop .inv) (c .before .before .before .before .row-turn .ensures) (not-false _ (c .before .before .if2 .left))
+loop-again c =
+    let after-row-turn : tie.After-row-turn Inv-loop μ-loop = search in
+    let at-loop : tie.At-loop Inv-loop μ-loop = search in
+    counted-next (at-loop .loop .inv) (after-row-turn .row-turn .ensures) (not-false _ (c .before .before .if2 .left))
 
 returns-2 : tie.Need-returns-2 Inv-loop μ-loop
 returns-2 c = sym (counted-all (c .before .before .before .loop .inv) (omega arith))

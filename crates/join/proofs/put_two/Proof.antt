@@ -4,7 +4,9 @@ use Rattle.join.proofs.put_two.Statement.{statement}
 use Rattle.join.proofs.put_two.Tie as tie
 
 returns : tie.Need-returns
-returns c = c .before .before .before .before .before .before .put-byte .ensures ⨟ c .before .before .put-byte2 .ensures
+returns c =
+    let after-put-byte : tie.After-put-byte = search in
+    after-put-byte .put-byte .ensures ⨟ c .before .before .put-byte2 .ensures
 
 pub put-two-spec : {M : Type 1} → statement M
 put-two-spec =

@@ -11,7 +11,9 @@ returns : tie.Need-returns
 returns c = sym (other-layout _ _ (λ e. c .if1 .taken (c .before .before .layout .ensures ∙ e ∙ sym (c .before .layout2 .ensures))))
 
 -- past the first test
-one-layout : (c : tie.Else1) → layout (c .before .before .before .before .before .args .one .now) ≡ layout (c .before .before .before .before .before .args .other .now)
+one-layout : (c : tie.Else1) →
+    let start : tie.Start = search in
+    layout (start .args .one .now) ≡ layout (start .args .other .now)
 one-layout c = sym (c .before .before .layout .ensures) ∙ c .if1 .left ∙ c .before .layout2 .ensures
 
 returns-2 : tie.Need-returns-2
@@ -19,10 +21,12 @@ returns-2 c = sym (other-count _ _ (one-layout (c .before .before .before)) (λ 
 
 returns-3 : tie.Need-returns-3
 returns-3 c =
-    let a = c .before .before .before .before .before .before .before .before .before .args in
+    let else1 : tie.Else1 = search in
+    let start : tie.Start = search in
+    let a = start .args in
     c .same-codes .ensures
     ∙ ap (λ (n : ℕ). same (codesAt (a .one .now) 4 n) (codesAt (a .other .now) 4 n)) (c .before .before .before .byte .ensures .is)
-    ∙ sym (same-count _ _ (one-layout (c .before .before .before .before)) (sym (c .before .before .before .byte .ensures .is) ∙ c .before .if2 .left ∙ c .before .before .byte2 .ensures .is))
+    ∙ sym (same-count _ _ (one-layout else1) (sym (c .before .before .before .byte .ensures .is) ∙ c .before .if2 .left ∙ c .before .before .byte2 .ensures .is))
 
 pub same-head-spec : {M : Type 1} → statement M
 same-head-spec =

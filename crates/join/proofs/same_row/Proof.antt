@@ -7,7 +7,9 @@ returns : tie.Need-returns
 returns c = sym (row-apart (c .before .before .before .args .x) (c .before .before .before .args .y) (c .if1 .taken))
 
 returns-2 : tie.Need-returns-2
-returns-2 c = sym (row-kinds (c .before .before .before .before .before .args .x) (c .before .before .before .before .before .args .y) (c .before .before .if1 .left))
+returns-2 c =
+    let start : tie.Start = search in
+    sym (row-kinds (start .args .x) (start .args .y) (c .before .before .if1 .left))
 
 pub same-row-spec : {M : Type 1} → statement M
 same-row-spec =

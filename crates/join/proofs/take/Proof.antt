@@ -6,7 +6,9 @@ use Rattle.join.proofs.take.Statement.{statement}
 use Rattle.join.proofs.take.Tie as tie
 
 returns : tie.Need-returns
-returns c = ap (λ (n : ℕ). takenBy (c .before .before .before .before .before .before .args .a) n) (c .before .before .before .word .ensures .is)
+returns c =
+    let start : tie.Start = search in
+    ap (λ (n : ℕ). takenBy (start .args .a) n) (c .before .before .before .word .ensures .is)
 
 pub take-spec : {M : Type 1} → statement M
 take-spec =
