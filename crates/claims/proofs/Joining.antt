@@ -2,7 +2,7 @@
 use Prim.Native.Nat.{ℕ, _≤_}
 use native.Mathlib.Omega.{arith}
 use mathlib.Core.Path.{_≡_, refl, sym, ap, subst, _∙_}
-use mathlib.Core.Bool.{Bool, true, false, cond, not, _&&_}
+use mathlib.Core.Bool.{Bool, true, false, cond, not, _&&_, true≢false}
 use mathlib.Core.List.{List, _++_}
 use mathlib.Core.Logic.{_⊎_, inl, inr, _↔_}
 use mathlib.Core.Option.{Option, none, some}
@@ -12,17 +12,17 @@ use borrow.Author.Tests.{lt-ltb, le-ltb, ltb-true, ltb-false}
 use Rattle.rules.specs.Lists.{_>>=_}
 use Rattle.rules.specs.Bytes.{Bytes}
 use Rattle.rules.specs.Answer.{answer}
-use Rattle.rules.specs.CodeTable.{Tie, Scope, idOf, key, scopes, wellFormed, Holds}
+use Rattle.rules.specs.CodeTable.{Tie, Scope, scopes, wellFormed, Holds}
 use Rattle.rules.specs.Read2000.{Spot}
 use Rattle.rules.specs.Texts.{TextExit, textExit}
-use Rattle.rules.specs.Join.{joinScopes, sameRow, rowsAgree, scopesAgree, tableBytes, sameHead, joined, refuse, joinExit, result}
+use Rattle.rules.specs.Join.{joinScopes, scopesAgree, tableBytes, sameHead, joined, refuse, joinExit, result}
 use Rattle.rules.specs.declared.Answer.{Answer}
 use Rattle.rules.proofs.ListLaws.{and-l, and-r, none-some}
-use Rattle.joinlaws.proofs.AgreeLaws.{apart, agree-there}
 use Rattle.joinlaws.proofs.TableBytesLaws.{layout-back, header-back, scopes-read, table-formed, written-again}
-use Rattle.joinlaws.proofs.JoinLaws.{one-row, row-itself, one-key, good-there, good-fits}
-use Rattle.joinlaws.proofs.JoinedLaws.{head-same, same-head, good, at-most, Joins, exit-joins, result-joins, layout-joined, header-joined, scopes-joined, formed-joined, bytes-joined, joins-result, joins-itself, joined-itself, exit-turned, grouped, regrouped}
+use Rattle.joinlaws.proofs.JoinLaws.{good-fits}
+use Rattle.joinlaws.proofs.JoinedLaws.{head-same, same-head, at-most, Joins, exit-joins, result-joins, layout-joined, header-joined, scopes-joined, formed-joined, bytes-joined, joins-result, joins-itself, joined-itself, exit-turned, grouped, regrouped}
 use Rattle.joinlaws.proofs.LongestTable.{longest, longest-formed, longest-length, longest-bytes}
+use Rattle.joinlaws.proofs.ClashLaws.{apart-rows, agreed-rows}
 use Rattle.joinlaws.proofs.JoinedHolds.{joined-scope, joined-row, extends-first, extends-second}
 use Rattle.claims.specs.Demand1.{Refused}
 use Rattle.claims.specs.Demand3.{Successor, Learned, RowSays, Lent, SameRoom}
@@ -185,9 +185,6 @@ behind a b out t e =
     subst (λ (u : List ℕ). joinExit a b out .out ≡ u ++ drop (length u) out) (sym (h .1)) w
 
 -- ---- the answers
-true-false : {P : Type 0} → true ≡ false → P
-true-false e = absurd (let z : _≡_ {A = ℕ} 0 1 = cc in omega arith)
-
 module _ (a b : List ℕ) (l : Alike a b) where
   fa : wellFormed a ≡ true
   fa = and-l (wellFormed a) (wellFormed b) (l .formed)
@@ -196,30 +193,12 @@ module _ (a b : List ℕ) (l : Alike a b) where
   fb = and-r (wellFormed a) (wellFormed b) (l .formed)
 
   no-clash : scopesAgree (scopes a) (scopes b) ≡ true → ¬ Clash a b
-  no-clash g c =
-      let x : Scope = c .in-a .scope in
-      let y : Scope = c .in-b .scope in
-      let k : x .kind ≡ y .kind = c .in-a .its-kind ∙ sym (c .in-b .its-kind) in
-      let d : x .code ≡ y .code = c .in-a .its-code ∙ sym (c .in-b .its-code) in
-      let e : key x ≡ key y = omega arith in
-      let rows = agree-there key rowsAgree (scopes a) (scopes b) g x y (c .in-a .listed) (c .in-b .listed) e in
-      c .differ (one-row (c .row) (c .row′) (c .one-id) (agree-there idOf sameRow (x .rows) (y .rows) rows (c .row) (c .row′) (c .in-a .row) (c .in-b .row) (c .one-id)))
+  no-clash g c = c .differ (agreed-rows a b g (c .in-a) (c .in-b) (c .one-id))
 
   clash : scopesAgree (scopes a) (scopes b) ≡ false → Clash a b
   clash g =
-      let p = apart key rowsAgree (scopes a) (scopes b) g in
-      let q = apart idOf sameRow (p .left .rows) (p .right .rows) (p .fails) in
-      let o = one-key (p .left) (p .right) (good-there (scopes a) (good a fa) (p .left) (p .in-left)) (good-there (scopes b) (good b fb) (p .right) (p .in-right)) (p .one-number) in
-      record {
-        kind = p .left .kind;
-        code = p .left .code;
-        row = q .left;
-        row′ = q .right;
-        in-a = record { scope = p .left; listed = p .in-left; its-kind = refl; its-code = refl; row = q .in-left };
-        in-b = record { scope = p .right; listed = p .in-right; its-kind = sym (o .kind); its-code = sym (o .code); row = q .in-right };
-        one-id = q .one-number;
-        differ = λ e. true-false (sym (row-itself (q .right)) ∙ ap (λ (r : Tie). sameRow r (q .right)) (sym e) ∙ q .fails);
-      }
+      let c = apart-rows a b fa fb g in
+      record { kind = c .kind; code = c .code; row = c .row; row′ = c .other; in-a = c .in-one; in-b = c .in-other; one-id = c .one-id; differ = c .differ }
 
 is-false : (s : Bool) → (s ≡ true → ⊥) → s ≡ false
 is-false true h = absurd (h refl)
@@ -272,7 +251,7 @@ module _ (a b out : List ℕ) where
     where
       go : (s : Bool) → sameHead a b ≡ s → JoinAnswer a b out (cond (not s) (refuse 16 out) after16 .answer)
       go true e = let h = same-head a b e in told17 (record { formed = w; one-layout = h .0; same-header = h .1 })
-      go false e = JoinAnswer.sixteen w (λ h. true-false (sym (head-same a b (h .0) (h .1)) ∙ e))
+      go false e = JoinAnswer.sixteen w (λ h. true≢false (sym (head-same a b (h .0) (h .1)) ∙ e))
 
   told : JoinAnswer a b out (joinExit a b out .answer)
   unfolding joinExit

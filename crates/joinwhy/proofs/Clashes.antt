@@ -2,23 +2,23 @@
 use Prim.Native.Nat.{ℕ}
 use native.Mathlib.Omega.{arith}
 use mathlib.Core.Path.{_≡_, refl, sym, ap, subst, _∙_}
-use mathlib.Core.Bool.{Bool, true, false, cond, not, _&&_}
+use mathlib.Core.Bool.{Bool, true, false, cond, not, _&&_, true≢false}
 use mathlib.Core.List.{List, [], _∷_, List·Memᴰ, List·Memᴰ·head, List·Memᴰ·tail}
 use mathlib.Core.Option.{Option, none, some}
+use borrow.Author.Tests.{not-false}
 use lib.Dec.{ltb}
 use lib.ListN.{length}
 use Rattle.rules.specs.Lists.{_>>=_, find}
+use Rattle.rules.specs.Answer.{badTable, noRoomForText, otherHead, twoRows, moreScopes}
 use Rattle.rules.specs.Texts.{TextExit, textExit}
-use Rattle.rules.specs.CodeTable.{Tie, Scope, key, idOf, scopes, wellFormed, isTied, scopeRows, rowOf}
-use Rattle.rules.specs.Join.{sameRow, rowsAgree, scopesAgree, joinScopes, sameHead, joined, refuse, joinExit}
+use Rattle.rules.specs.CodeTable.{Tie, Scope, scopes, wellFormed, isTied, scopeRows, rowOf}
+use Rattle.rules.specs.Join.{sameRow, scopesAgree, joinScopes, sameHead, joined, refuse, joinExit}
 use Rattle.rules.proofs.ListLaws.{and-l, and-r, none-some}
 use Rattle.rules.proofs.CodeTableLaws.{found-held, held-found}
-use Rattle.joinlaws.proofs.AgreeLaws.{apart, agree-there}
-use Rattle.joinlaws.proofs.JoinLaws.{one-key, one-row, row-itself, good-there}
-use Rattle.joinlaws.proofs.JoinedLaws.{good}
+use Rattle.joinlaws.proofs.JoinLaws.{one-row, row-itself}
+use Rattle.joinlaws.proofs.ClashLaws.{apart-rows, agreed-rows}
 use Rattle.joinwhy.specs.Why.{Clash, against, orElse, rowsClash, scopesClash, firstClash, Clashes}
-use Rattle.joinwhy.proofs.Rows.{no-way}
-use Rattle.joinwhy.proofs.Scopes.{not-false, first-formed}
+use Rattle.joinwhy.proofs.Scopes.{first-formed}
 
 -- ---- what is found is a clash
 -- an option made of two
@@ -94,7 +94,7 @@ found-clashes t t′ c e = go (wellFormed t && wellFormed t′) e
           in-one = record { scope = i .scope; listed = i .listed; its-kind = k; its-code = d; row = f .row };
           in-other = g .0;
           one-id = sym (g .1);
-          differ = λ q. no-way (sym (row-itself (c .row)) ∙ ap (sameRow (c .row)) q ∙ a .1);
+          differ = λ q. true≢false (sym (row-itself (c .row)) ∙ ap (sameRow (c .row)) q ∙ a .1);
         }
 
     go : (b : Bool) → cond b (scopesClash t′ (scopes t)) none ≡ some c → Clashes t t′ c
@@ -136,25 +136,14 @@ module _ (t t′ : List ℕ) (w : wellFormed t ≡ true) (w′ : wellFormed t′
       k .differ (one-row (c .row) (c .other) (k .one-id) (against-none _ (c .row) (c .other) n′ (subst (λ (i : ℕ). rowOf t′ (c .kind) (c .code) i ≡ some (c .other)) (sym (k .one-id)) f)))
 
   -- ---- exactly where the scopes don't agree
-  clash-of : scopesAgree (scopes t) (scopes t′) ≡ false → (c : Clash) × Clashes t t′ c
-  clash-of g =
-      let p = apart key rowsAgree (scopes t) (scopes t′) g in
-      let q = apart idOf sameRow (p .left .rows) (p .right .rows) (p .fails) in
-      let o = one-key (p .left) (p .right) (good-there (scopes t) (good t w) (p .left) (p .in-left)) (good-there (scopes t′) (good t′ w′) (p .right) (p .in-right)) (p .one-number) in (
-        record { kind = p .left .kind; code = p .left .code; row = q .left; other = q .right },
-        record {
-          in-one = record { scope = p .left; listed = p .in-left; its-kind = refl; its-code = refl; row = q .in-left };
-          in-other = record { scope = p .right; listed = p .in-right; its-kind = sym (o .kind); its-code = sym (o .code); row = q .in-right };
-          one-id = q .one-number;
-          differ = λ e. no-way (sym (row-itself (q .right)) ∙ ap (λ (r : Tie). sameRow r (q .right)) (sym e) ∙ q .fails);
-        },
-      )
-
   pub found-where-apart : scopesAgree (scopes t) (scopes t′) ≡ false → (c : Clash) × (firstClash t t′ ≡ some c)
   found-where-apart g = go (firstClash t t′) refl
     where
       go : (o : Option Clash) → firstClash t t′ ≡ o → (c : Clash) × (firstClash t t′ ≡ some c)
-      go none e = let k = clash-of g in absurd (none-clashes e (k .0) (k .1))
+      go none e =
+          let k = apart-rows t t′ w w′ g in
+          let c : Clash = record { kind = k .kind; code = k .code; row = k .row; other = k .other } in
+          absurd (none-clashes e c (record { in-one = k .in-one; in-other = k .in-other; one-id = k .one-id; differ = k .differ }))
       go (some c) e = (c, e)
 
 pub apart-where-found : (t t′ : List ℕ) (c : Clash) → firstClash t t′ ≡ some c → scopesAgree (scopes t) (scopes t′) ≡ false
@@ -162,25 +151,17 @@ apart-where-found t t′ c e = go (scopesAgree (scopes t) (scopes t′)) refl
   where
     go : (b : Bool) → scopesAgree (scopes t) (scopes t′) ≡ b → b ≡ false
     go false g = refl
-    go true g =
-        let k = found-clashes t t′ c e in
-        let x : Scope = k .in-one .scope in
-        let y : Scope = k .in-other .scope in
-        let i : x .kind ≡ y .kind = k .in-one .its-kind ∙ sym (k .in-other .its-kind) in
-        let j : x .code ≡ y .code = k .in-one .its-code ∙ sym (k .in-other .its-code) in
-        let q : key x ≡ key y = omega arith in
-        let rows = agree-there key rowsAgree (scopes t) (scopes t′) g x y (k .in-one .listed) (k .in-other .listed) q in
-        absurd (k .differ (one-row (c .row) (c .other) (k .one-id) (agree-there idOf sameRow (x .rows) (y .rows) rows (c .row) (c .other) (k .in-one .row) (k .in-other .row) (k .one-id))))
+    go true g = let k = found-clashes t t′ c e in absurd (k .differ (agreed-rows t t′ g (k .in-one) (k .in-other) (k .one-id)))
 
 -- ---- exactly where joining answers 17
--- a refusal by another number was passed
-passed : (n : ℕ) (b : Bool) (out : List ℕ) (e : TextExit) → (n ≡ 17 → ⊥) → cond b (refuse n out) e .answer .number ≡ 17 → (b ≡ false) × (e .answer .number ≡ 17)
+-- it isn't the refusal by another number
+passed : (n : ℕ) (b : Bool) (out : List ℕ) (e : TextExit) → (n ≡ twoRows → ⊥) → cond b (refuse n out) e .answer .number ≡ twoRows → (b ≡ false) × (e .answer .number ≡ twoRows)
 passed n true out e d h = absurd (d h)
 passed n false out e d h = (refl, h)
 
-never : (x out : List ℕ) → textExit x out .answer .number ≡ 17 → ⊥
+never : (x out : List ℕ) → textExit x out .answer .number ≡ twoRows → ⊥
 unfolding textExit
-never x out h = let p = passed 9 (ltb (length out) (length x)) out _ (λ q. omega arith) h in let z : _≡_ {A = ℕ} 0 17 = p .1 in omega arith
+never x out h = let p = passed noRoomForText (ltb (length out) (length x)) out _ (λ q. omega arith) h in let z : _≡_ {A = ℕ} 0 17 = p .1 in omega arith
 
 both-formed : (t t′ : List ℕ) (c : Clash) → firstClash t t′ ≡ some c → (wellFormed t && wellFormed t′) ≡ true
 unfolding firstClash
@@ -191,20 +172,20 @@ both-formed t t′ c e = go (wellFormed t && wellFormed t′) e
     go false h = absurd (none-some h)
 
 module _ (t t′ out : List ℕ) where
-  pub found-on-17 : joinExit t t′ out .answer .number ≡ 17 → (c : Clash) × (firstClash t t′ ≡ some c)
+  pub found-on-17 : joinExit t t′ out .answer .number ≡ twoRows → (c : Clash) × (firstClash t t′ ≡ some c)
   unfolding joinExit
   found-on-17 e =
-      let p = passed 8 (not (wellFormed t && wellFormed t′)) out _ (λ q. omega arith) e in
-      let q = passed 16 (not (sameHead t t′)) out _ (λ z. omega arith) (p .1) in
+      let p = passed badTable (not (wellFormed t && wellFormed t′)) out _ (λ q. omega arith) e in
+      let q = passed otherHead (not (sameHead t t′)) out _ (λ z. omega arith) (p .1) in
       let w = not-false (wellFormed t && wellFormed t′) (p .0) in
       go w (scopesAgree (scopes t) (scopes t′)) refl (q .1)
     where
       go : (wellFormed t && wellFormed t′) ≡ true → (b : Bool) → scopesAgree (scopes t) (scopes t′) ≡ b
-          → cond (not b) (refuse 17 out) (cond (ltb 64 (length (joinScopes (scopes t) (scopes t′)))) (refuse 18 out) (textExit (joined t t′) out)) .answer .number ≡ 17
+          → cond (not b) (refuse twoRows out) (cond (ltb 64 (length (joinScopes (scopes t) (scopes t′)))) (refuse moreScopes out) (textExit (joined t t′) out)) .answer .number ≡ twoRows
           → (c : Clash) × (firstClash t t′ ≡ some c)
-      go w true g h = absurd (never (joined t t′) out (passed 18 (ltb 64 (length (joinScopes (scopes t) (scopes t′)))) out _ (λ z. omega arith) h .1))
+      go w true g h = absurd (never (joined t t′) out (passed moreScopes (ltb 64 (length (joinScopes (scopes t) (scopes t′)))) out _ (λ z. omega arith) h .1))
       go w false g h = found-where-apart t t′ (and-l (wellFormed t) (wellFormed t′) w) (and-r (wellFormed t) (wellFormed t′) w) g
 
-  pub answers-17 : (c : Clash) → firstClash t t′ ≡ some c → sameHead t t′ ≡ true → joinExit t t′ out .answer .number ≡ 17
+  pub answers-17 : (c : Clash) → firstClash t t′ ≡ some c → sameHead t t′ ≡ true → joinExit t t′ out .answer .number ≡ twoRows
   unfolding joinExit
   answers-17 c e h = rw (both-formed t t′ c e, h, apart-where-found t t′ c e)

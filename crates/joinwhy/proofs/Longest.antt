@@ -8,10 +8,12 @@ use mathlib.Core.Option.{Option, none, some}
 use borrow.Author.Tests.{eqb-true}
 use lib.Dec.{ltb, eqb}
 use lib.ListN.{length, length-append}
+use Rattle.rules.specs.Answer.{otherHead, twoRows}
 use Rattle.rules.specs.CodeTable.{layout, header, headerCount, wellFormed}
 use Rattle.rules.proofs.CodeTableLaws.{formed}
+use Rattle.joinlaws.proofs.TableBytesLaws.{length-codesAt}
 use Rattle.listing.proofs.Longest.{hex-length}
-use Rattle.tabletext.proofs.Longest.{length-codes, scope-name-short, type-short, row-short}
+use Rattle.tabletext.proofs.Longest.{scope-name-short, type-short, row-short}
 use Rattle.joinwhy.specs.Why.{Clash, codeWords, headLine, firstClash, clashLines, why}
 
 codes-short : (cs : List ℕ) → length (codeWords cs) ≤ 5 * length cs
@@ -23,7 +25,7 @@ head-short : (t : List ℕ) → wellFormed t ≡ true → length (headLine t) �
 unfolding headLine
 head-short t w =
     let few : headerCount t ≤ 4 = formed t w .few-headers in
-    simp length-append (omega (arith, hex-length 2 (layout t), codes-short (header t), length-codes t 4 (headerCount t)))
+    simp length-append (omega (arith, hex-length 2 (layout t), codes-short (header t), length-codesAt t 4 (headerCount t)))
 
 clash-short : (o : Option Clash) → length (clashLines o) ≤ 131
 unfolding clashLines
@@ -33,14 +35,14 @@ clash-short (some c) =
     (omega (arith, scope-name-short (c .kind) (c .code), type-short (c .kind) (c .code) (ltb (c .kind) 2) refl, row-short (c .row), row-short (c .other)))
 
 -- answer 16 is of two well-formed tables
-pub why-short : (n : ℕ) (t t′ : List ℕ) → (n ≡ 16 → (wellFormed t ≡ true) × (wellFormed t′ ≡ true)) → length (why n t t′) ≤ 131
+pub why-short : (n : ℕ) (t t′ : List ℕ) → (n ≡ otherHead → (wellFormed t ≡ true) × (wellFormed t′ ≡ true)) → length (why n t t′) ≤ 131
 unfolding why
-why-short n t t′ w = go (eqb n 16) refl
+why-short n t t′ w = go (eqb n otherHead) refl
   where
     rows : (b : Bool) → length (cond b (clashLines (firstClash t t′)) []) ≤ 131
     rows true = clash-short (firstClash t t′)
     rows false = omega arith
 
-    go : (b : Bool) → eqb n 16 ≡ b → length (cond b (headLine t ++ headLine t′) (cond (eqb n 17) (clashLines (firstClash t t′)) [])) ≤ 131
-    go true e = let f = w (eqb-true n 16 e) in simp length-append (omega (arith, head-short t (f .0), head-short t′ (f .1)))
-    go false e = rows (eqb n 17)
+    go : (b : Bool) → eqb n otherHead ≡ b → length (cond b (headLine t ++ headLine t′) (cond (eqb n twoRows) (clashLines (firstClash t t′)) [])) ≤ 131
+    go true e = let f = w (eqb-true n otherHead e) in simp length-append (omega (arith, head-short t (f .0), head-short t′ (f .1)))
+    go false e = rows (eqb n twoRows)

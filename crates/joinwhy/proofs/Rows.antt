@@ -1,10 +1,8 @@
--- Rows held against those of the other table, one after another.
-use Prim.Native.Nat.{ℕ, zero, suc, _+_, _-_, _≤_, _<_}
-use native.Mathlib.Nat.{not-suc-le-zero}
-use native.Mathlib.Numerals.{sub-one}
+-- Rows held against those of the other table, one after another, and what the loop keeps that does it.
+use Prim.Native.Nat.{ℕ, _+_, _*_, _-_, _≤_, _<_, _^_}
 use native.Mathlib.Omega.{arith}
 use mathlib.Core.Path.{_≡_, refl, sym, ap, _∙_}
-use mathlib.Core.Bool.{true, false, cond}
+use mathlib.Core.Bool.{true, false, cond, true≢false}
 use mathlib.Core.List.{List}
 use mathlib.Core.Option.{Option, none, some}
 use borrow.Author.Tests.{eq-eqb, ne-eqb, eqb-true}
@@ -12,6 +10,8 @@ use Rattle.rules.specs.Lists.{_>>=_, find}
 use Rattle.rules.specs.CodeTable.{Tie, tieAt, tiesAt, isTied}
 use Rattle.rules.specs.Join.{sameRow}
 use Rattle.rules.proofs.ListLaws.{found-there}
+use Rattle.joinlaws.proofs.TableBytesLaws.{no-ties}
+use Rattle.codetable.proofs.Steps.{ties-next}
 use Rattle.coderows.specs.Look as look
 use Rattle.coderows.specs.declared.Row.the-variants.{Tied, Untied}
 use Rattle.joinwhy.specs.declared.Row.{Row}
@@ -19,9 +19,6 @@ use Rattle.joinwhy.specs.declared.Another.{Another}
 use Rattle.joinwhy.specs.declared.Pair.{Pair}
 use Rattle.joinwhy.specs.Why.{Clash, against, orElse, rowsClash}
 use Rattle.joinwhy.specs.Found.{tieOf, asRow, asAnother, asPair}
-
-pub no-way : {P : Type 0} → true ≡ false → P
-no-way e = absurd (let z : _≡_ {A = ℕ} 0 1 = cc in omega arith)
 
 -- ---- one row
 abbrev tie : ℕ → ℕ → ℕ → Tie
@@ -47,7 +44,7 @@ tied rs i x k e = go (find (isTied i) rs) refl e
         let c : r .kind ≡ k = cc in
         q ∙ ap some (λ n. tie (a n) (b n) (c n))
 
-module _ (rs : List Tie) (r : Tie) (x k : ℕ) (e : look.asRow (find (isTied (r .id)) rs) ≡ Tied x k) where
+module _ (rs : List Tie) (r : Tie) {x k : ℕ} (e : look.asRow (find (isTied (r .id)) rs) ≡ Tied x k) where
   pub tied-same : x ≡ r .target → k ≡ r .kind → against rs r ≡ none
   unfolding against
   tied-same a b = rw (tied rs (r .id) x k e, eq-eqb (r .target) x (sym a), eq-eqb (r .kind) k (sym b))
@@ -61,37 +58,43 @@ module _ (rs : List Tie) (r : Tie) (x k : ℕ) (e : look.asRow (find (isTied (r 
   tied-kind a b = rw (tied rs (r .id) x k e, eq-eqb (r .target) x (sym a), ne-eqb (r .kind) k (λ q. b (sym q)))
 
 -- ---- one after another
-pub rows-done : (kind code : ℕ) (rs : List Tie) (t : List ℕ) (at left : ℕ) → left ≤ 0 → rowsClash kind code rs (tiesAt t at left) ≡ none
-unfolding rowsClash tiesAt
-rows-done kind code rs t at zero h = refl
-rows-done kind code rs t at (suc n) h = absurd (not-suc-le-zero h)
+-- of n rows so many are left from `place` on, and those in front of them clash with none of rs
+pub record RowsTo (kind code : ℕ) (rs : List Tie) (t : List ℕ) (start n place left : ℕ) : Type 0 where
+  pub ends : place + 4 * left < 2 ^ 59
+  pub rest : rowsClash kind code rs (tiesAt t start n) ≡ rowsClash kind code rs (tiesAt t place left)
 
-module _ (kind code : ℕ) (rs : List Tie) (t : List ℕ) (row : Row) (a : Another) (e : a ≡ asAnother (against rs (tieOf row))) where
-  -- what is found in front, and the search behind it
-  abbrev front : Option Tie → Option Clash → Option Clash
-  front o rest = orElse (o >>= λ r′. some (record { kind = kind; code = code; row = tieOf row; other = r′ })) rest
+pub no-row-tried : {kind code : ℕ} {rs : List Tie} {t : List ℕ} {start n : ℕ} → start + 4 * n < 2 ^ 59 → RowsTo kind code rs t start n start n
+no-row-tried h = record { ends = h; rest = refl }
 
-  next : (at left : ℕ) → 0 < left → tieOf row ≡ tieAt t at
-      → rowsClash kind code rs (tiesAt t at left) ≡ front (against rs (tieOf row)) (rowsClash kind code rs (tiesAt t (at + 4) (left - 1)))
-  unfolding rowsClash tiesAt
-  next at zero h q = absurd (not-suc-le-zero h)
-  next at (suc n) h q = rw (q, sub-one)
+module _ {kind code : ℕ} {rs : List Tie} {t : List ℕ} {start n place left : ℕ} (K : RowsTo kind code rs t start n place left) where
+  pub all-rows-tried : left ≤ 0 → rowsClash kind code rs (tiesAt t start n) ≡ none
+  unfolding rowsClash
+  all-rows-tried h = K .rest ∙ rw (no-ties t place left h)
 
-  pub rows-hit : (at left : ℕ) → 0 < left → tieOf row ≡ tieAt t at → a .found ≡ true
-      → record { found = true; kind = kind; code = code; row = row; other = a .row } ≡ asPair (rowsClash kind code rs (tiesAt t at left))
-  unfolding asAnother asPair orElse
-  rows-hit at left h q f = rw (next at left h q) (go (against rs (tieOf row)) e)
-    where
-      go : (o : Option Tie) → a ≡ asAnother o
-          → record { found = true; kind = kind; code = code; row = row; other = a .row } ≡ asPair (front o (rowsClash kind code rs (tiesAt t (at + 4) (left - 1))))
-      go none g = no-way (sym f ∙ ap (λ (z : Another). z .found) g)
-      go (some r′) g = ap (λ (z : Another). let p : Pair = record { found = true; kind = kind; code = code; row = row; other = z .row } in p) g
+  module _ (row : Row) {a : Another} (more : 0 < left) (here : tieOf row ≡ tieAt t place) (e : a ≡ asAnother (against rs (tieOf row))) where
+    -- what is found in front, and the search after it
+    abbrev front : Option Tie → Option Clash → Option Clash
+    front o rest = orElse (o >>= λ r′. some (record { kind = kind; code = code; row = tieOf row; other = r′ })) rest
 
-  pub rows-miss : (at left : ℕ) → 0 < left → tieOf row ≡ tieAt t at → a .found ≡ false
-      → rowsClash kind code rs (tiesAt t at left) ≡ rowsClash kind code rs (tiesAt t (at + 4) (left - 1))
-  unfolding asAnother orElse
-  rows-miss at left h q f = next at left h q ∙ go (against rs (tieOf row)) e
-    where
-      go : (o : Option Tie) → a ≡ asAnother o → front o (rowsClash kind code rs (tiesAt t (at + 4) (left - 1))) ≡ rowsClash kind code rs (tiesAt t (at + 4) (left - 1))
-      go none g = refl
-      go (some r′) g = no-way (sym (ap (λ (z : Another). z .found) g) ∙ f)
+    abbrev later : Option Clash
+    later = rowsClash kind code rs (tiesAt t (place + 4) (left - 1))
+
+    next : rowsClash kind code rs (tiesAt t start n) ≡ front (against rs (tieOf row)) later
+    unfolding rowsClash
+    next = K .rest ∙ rw (ties-next t place left more, ← here)
+
+    pub row-clashes : a .found ≡ true → record { found = true; kind = kind; code = code; row = row; other = a .row } ≡ asPair (rowsClash kind code rs (tiesAt t start n))
+    unfolding asAnother asPair orElse
+    row-clashes f = rw next (go (against rs (tieOf row)) e)
+      where
+        go : (o : Option Tie) → a ≡ asAnother o → record { found = true; kind = kind; code = code; row = row; other = a .row } ≡ asPair (front o later)
+        go none g = absurd (true≢false (sym f ∙ ap (λ (z : Another). z .found) g))
+        go (some r′) g = ap (λ (z : Another). let p : Pair = record { found = true; kind = kind; code = code; row = row; other = z .row } in p) g
+
+    pub row-passes : a .found ≡ false → RowsTo kind code rs t start n (place + 4) (left - 1)
+    unfolding asAnother orElse
+    row-passes f = let l = K .ends in record { ends = omega arith; rest = next ∙ go (against rs (tieOf row)) e }
+      where
+        go : (o : Option Tie) → a ≡ asAnother o → front o later ≡ later
+        go none g = refl
+        go (some r′) g = absurd (true≢false (sym (ap (λ (z : Another). z .found) g) ∙ f))

@@ -1,64 +1,60 @@
--- Scopes gone through one after another, for the first row that clashes.
-use Prim.Native.Nat.{ℕ, zero, suc, _+_, _*_, _-_, _≤_, _<_}
-use native.Mathlib.Nat.{not-suc-le-zero}
-use native.Mathlib.Numerals.{sub-one}
+-- Scopes gone through one after another for the first row that clashes, what the loop keeps that does it, and what is said of what it finds.
+use Prim.Native.Nat.{ℕ, _+_, _*_, _-_, _≤_, _<_, _^_}
+use native.Mathlib.Omega.{arith}
 use mathlib.Core.Path.{_≡_, refl, sym, ap, _∙_}
-use mathlib.Core.Bool.{Bool, true, false, cond, not, _&&_}
+use mathlib.Core.Bool.{Bool, true, false, cond, _&&_, true≢false}
 use mathlib.Core.List.{List, []}
 use mathlib.Core.Option.{Option, none, some}
-use Rattle.rules.specs.Bytes.{byte, u16}
 use Rattle.rules.specs.CodeTable.{Tie, tiesAt, scopesAt, scopes, scopeRows, wellFormed}
+use Rattle.joinlaws.proofs.TableBytesLaws.{no-scopes}
+use Rattle.codetable.proofs.Steps.{ScopeRead, Counts, scopes-next}
 use Rattle.joinwhy.specs.declared.Pair.{Pair}
 use Rattle.joinwhy.specs.Why.{Clash, orElse, rowsClash, scopesClash, firstClash, clashLines}
 use Rattle.joinwhy.specs.Found.{asPair, pairLines}
-use Rattle.joinwhy.proofs.Rows.{no-way}
 
-pub scopes-done : (t′ t : List ℕ) (at body left : ℕ) → left ≤ 0 → scopesClash t′ (scopesAt t at body left) ≡ none
-unfolding scopesClash scopesAt
-scopes-done t′ t at body zero h = refl
-scopes-done t′ t at body (suc n) h = absurd (not-suc-le-zero h)
+-- so many scopes are left, those in front of them have no row that clashes with one of t′
+pub record ScopesTo (t′ t : List ℕ) (place body left : ℕ) : Type 0 where
+  pub ends : place + 5 * left < 2 ^ 32
+  pub bodies-end : body + 262144 * left < 2 ^ 58
+  pub rest : scopesClash t′ (scopes t) ≡ scopesClash t′ (scopesAt t place body left)
 
-module _ (t′ t : List ℕ) (at body left : ℕ) {k c n : ℕ} (h : 0 < left) (ek : k ≡ byte t at) (ec : c ≡ u16 t (at + 1)) (en : n ≡ u16 t (at + 3))
-    (rs : List Tie) (er : rs ≡ scopeRows t′ k c) (p : Pair) (e : p ≡ asPair (rowsClash k c rs (tiesAt t body n))) where
-  abbrev rest : Option Clash
-  rest = scopesClash t′ (scopesAt t (at + 5) (body + 4 * n) (left - 1))
+pub no-scope-tried : (t′ : List ℕ) {t : List ℕ} {h n : ℕ} → Counts t h n → h < 256 → n < 65536 → ScopesTo t′ t (4 + 2 * h) (4 + 2 * h + 5 * n) n
+no-scope-tried t′ C a b = record { ends = omega arith; bodies-end = omega arith; rest = rw (C .headers-is, C .scopes-is) }
 
-  next : scopesClash t′ (scopesAt t at body left) ≡ orElse (rowsClash k c rs (tiesAt t body n)) rest
-  unfolding scopesClash scopesAt
-  next = rw er (go left h)
-    where
-      go : (l : ℕ) → 0 < l → scopesClash t′ (scopesAt t at body l) ≡ orElse (rowsClash k c (scopeRows t′ k c) (tiesAt t body n)) (scopesClash t′ (scopesAt t (at + 5) (body + 4 * n) (l - 1)))
-      go zero q = absurd (not-suc-le-zero q)
-      go (suc m) q = rw (ek, ec, en, sub-one)
+module _ {t′ t : List ℕ} {place body left : ℕ} (K : ScopesTo t′ t place body left) where
+  pub all-scopes-tried : left ≤ 0 → scopesClash t′ (scopes t) ≡ none
+  unfolding scopesClash
+  all-scopes-tried h = K .rest ∙ rw (no-scopes t place body left h)
 
-  pub scopes-hit : p .found ≡ true → p ≡ asPair (scopesClash t′ (scopesAt t at body left))
-  unfolding asPair orElse
-  scopes-hit f = rw next (go (rowsClash k c rs (tiesAt t body n)) e)
-    where
-      go : (o : Option Clash) → p ≡ asPair o → p ≡ asPair (orElse o rest)
-      go none g = no-way (sym f ∙ ap (λ (z : Pair). z .found) g)
-      go (some x) g = g
+  module _ {k c n : ℕ} {rs : List Tie} {p : Pair} (R : ScopeRead t place left k c n) (er : rs ≡ scopeRows t′ k c) (e : p ≡ asPair (rowsClash k c rs (tiesAt t body n))) where
+    abbrev later : Option Clash
+    later = scopesClash t′ (scopesAt t (place + 5) (body + 4 * n) (left - 1))
 
-  pub scopes-miss : p .found ≡ false → scopesClash t′ (scopesAt t at body left) ≡ rest
-  unfolding asPair orElse
-  scopes-miss f = next ∙ go (rowsClash k c rs (tiesAt t body n)) e
-    where
-      go : (o : Option Clash) → p ≡ asPair o → orElse o rest ≡ rest
-      go none g = refl
-      go (some x) g = no-way (sym (ap (λ (z : Pair). z .found) g) ∙ f)
+    next : scopesClash t′ (scopes t) ≡ orElse (rowsClash k c rs (tiesAt t body n)) later
+    unfolding scopesClash
+    next = K .rest ∙ rw (scopes-next t place body left (R .more), ← (R .kind-is), ← (R .code-is), ← (R .count-is), ← er)
+
+    pub scope-clashes : p .found ≡ true → p ≡ asPair (scopesClash t′ (scopes t))
+    unfolding asPair orElse
+    scope-clashes f = rw next (go (rowsClash k c rs (tiesAt t body n)) e)
+      where
+        go : (o : Option Clash) → p ≡ asPair o → p ≡ asPair (orElse o later)
+        go none g = absurd (true≢false (sym f ∙ ap (λ (z : Pair). z .found) g))
+        go (some x) g = g
+
+    pub scope-passes : n < 65536 → p .found ≡ false → ScopesTo t′ t (place + 5) (body + 4 * n) (left - 1)
+    unfolding asPair orElse
+    scope-passes few f =
+        let a = K .ends in
+        let b = K .bodies-end in
+        let m = R .more in
+        record { ends = omega arith; bodies-end = omega arith; rest = next ∙ go (rowsClash k c rs (tiesAt t body n)) e }
+      where
+        go : (o : Option Clash) → p ≡ asPair o → orElse o later ≡ later
+        go none g = refl
+        go (some x) g = absurd (true≢false (sym (ap (λ (z : Pair). z .found) g) ∙ f))
 
 -- ---- the tables
-pub not-true : (b : Bool) → not b ≡ true → b ≡ false
-not-true true e = no-way (sym e)
-not-true false e = refl
-
-pub not-false : (b : Bool) → not b ≡ false → b ≡ true
-not-false true e = refl
-not-false false e = no-way e
-
-pub scopes-from : (t′ t : List ℕ) {h n : ℕ} → h ≡ byte t 1 → n ≡ u16 t 2 → scopesClash t′ (scopes t) ≡ scopesClash t′ (scopesAt t (4 + 2 * h) (4 + 2 * h + 5 * n) n)
-scopes-from t′ t eh en = rw (eh, en)
-
 pub first-formed : (t t′ : List ℕ) → wellFormed t ≡ true → wellFormed t′ ≡ true → firstClash t t′ ≡ scopesClash t′ (scopes t)
 unfolding firstClash
 first-formed t t′ a b = rw (a, b)
@@ -78,10 +74,10 @@ other-bad t t′ b = go (wellFormed t)
 -- ---- what is said of a pair
 pub said-found : (p : Pair) (o : Option Clash) → p ≡ asPair o → p .found ≡ true → pairLines p ≡ clashLines o
 unfolding asPair clashLines
-said-found p none e f = no-way (sym f ∙ ap (λ (z : Pair). z .found) e)
+said-found p none e f = absurd (true≢false (sym f ∙ ap (λ (z : Pair). z .found) e))
 said-found p (some c) e f = ap pairLines e
 
 pub said-none : (p : Pair) (o : Option Clash) → p ≡ asPair o → p .found ≡ false → clashLines o ≡ []
 unfolding asPair clashLines
 said-none p none e f = refl
-said-none p (some c) e f = no-way (sym (ap (λ (z : Pair). z .found) e) ∙ f)
+said-none p (some c) e f = absurd (true≢false (sym (ap (λ (z : Pair). z .found) e) ∙ f))

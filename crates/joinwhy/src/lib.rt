@@ -1,4 +1,4 @@
-// Why two code tables can't be joined; specs/Why.antt says it line by line. The lines are written into a lent buffer at a place; the place behind them is returned.
+// Why two code tables can't be joined; specs/Why.antt says it line by line. The lines are written into a lent buffer at a place; the place after them is returned.
 use coderows::find_scope;
 use coderows::list_scopes;
 use coderows::seek_row;
@@ -16,11 +16,37 @@ ghost use mathlib.Core.Path.{_≡_};
 ghost use Prim.Native.Nat.{_+_, _*_, _<_, _^_};
 ghost use mathlib.Core.Option.{none};
 ghost use Rattle.rules.specs.CodeTable as t;
-ghost use Rattle.coderows.specs.Look.{Listed, Formed, Sorted};
 ghost use Rattle.text.specs.Writer.{Wrote};
 ghost use Rattle.joinwhy.specs.Why as w;
 ghost use Rattle.tabletext.specs.Text.{rowLine};
-ghost use Rattle.joinwhy.specs.Found.{tieOf, rowFrom, asAnother, asPair, pairLines};
+ghost use Rattle.joinwhy.specs.Found.{SortedRows, TwoRows, ListedTable, tieOf, rowFrom, asAnother, asPair, pairLines};
+
+// Where the number of a table's header codes stands, the number of its scopes, and the header codes.
+const HEADER_COUNT_AT: usize = 1;
+
+const SCOPE_COUNT_AT: usize = 2;
+
+const HEADER_AT: usize = 4;
+
+// How many bytes a header code has, a scope of the contents, a row.
+const CODE_SIZE: usize = 2;
+
+const SCOPE_SIZE: usize = 5;
+
+const ROW_SIZE: usize = 4;
+
+// In a scope of the contents the code stands after the kind, and the number of rows after that.
+const CODE_AT: usize = 1;
+
+const ROW_COUNT_AT: usize = 3;
+
+// A list of scopes has three words for each of 64.
+const SCOPE_LIST_WORDS: usize = 192;
+
+// The refusals of which more is said.
+const OTHER_HEAD: u32 = 16;
+
+const TWO_ROWS: u32 = 17;
 
 struct Row {
     id: u8,
@@ -68,7 +94,7 @@ fn no_row() -> Row
 
 // What n rows have for the id of a row, where that is another.
 fn against(table: &[u8], start: usize, n: usize, row: Row) -> Another
-    requires { ⌜ (start + 4 * n < 2 ^ 60) × Sorted (t.tiesAt (now table) start n) ⌝ }
+    requires { ⌜ SortedRows (now table) start n ⌝ }
     ensures { λ r. ⌜ r ≡ asAnother (w.against (t.tiesAt (now (table .entry)) start n) (tieOf row)) ⌝ }
 {
     let sought = seek_row(table, start, n, row.id as usize);
@@ -116,7 +142,7 @@ fn rows_clash(
     kind: u8,
     code: u16,
 ) -> Pair
-    requires { ⌜ (start + 4 * n < 2 ^ 59) × (from + 4 * rows < 2 ^ 60) × Sorted (t.tiesAt (now other) from rows) ⌝ }
+    requires { ⌜ TwoRows start n (now other) from rows ⌝ }
     ensures { λ r. ⌜ r ≡ asPair (w.rowsClash kind code (t.tiesAt (now (other .entry)) from rows) (t.tiesAt (now (one .entry)) start n)) ⌝ }
 {
     let mut place = start;
@@ -134,26 +160,26 @@ fn rows_clash(
                 other,
             };
         }
-        place += 4;
+        place += ROW_SIZE;
         left -= 1;
     }
     no_pair()
 }
 
 // The first row of a table that clashes with one of the other, whose scopes are listed.
-fn scopes_clash(one: &[u8], other: &[u8], listed: &[u32; 192]) -> Pair
-    requires { ⌜ Listed (now other) (now listed) × Formed (now other) ⌝ }
+fn scopes_clash(one: &[u8], other: &[u8], listed: &[u32; SCOPE_LIST_WORDS]) -> Pair
+    requires { ⌜ ListedTable (now other) (now listed) ⌝ }
     ensures { λ r. ⌜ r ≡ asPair (w.scopesClash (now (other .entry)) (t.scopes (now (one .entry)))) ⌝ }
 {
-    let scopes = word(one, 2);
-    let contents = 4 + 2 * byte(one, 1);
+    let scopes = word(one, SCOPE_COUNT_AT);
+    let contents = HEADER_AT + CODE_SIZE * byte(one, HEADER_COUNT_AT);
     let mut place = contents;
-    let mut body = contents + 5 * scopes;
+    let mut body = contents + SCOPE_SIZE * scopes;
     let mut left = scopes;
     while 0 < left {
         let kind = byte(one, place) as u8;
-        let code = word(one, place + 1) as u16;
-        let n = word(one, place + 3);
+        let code = word(one, place + CODE_AT) as u16;
+        let n = word(one, place + ROW_COUNT_AT);
         let scope = find_scope(other, listed, kind, code, 0);
         let theirs = scope.body;
         let from = theirs.start as usize;
@@ -162,8 +188,8 @@ fn scopes_clash(one: &[u8], other: &[u8], listed: &[u32; 192]) -> Pair
         if pair.found {
             return pair;
         }
-        place += 5;
-        body += 4 * n;
+        place += SCOPE_SIZE;
+        body += ROW_SIZE * n;
         left -= 1;
     }
     no_pair()
@@ -178,7 +204,7 @@ fn first_clash(one: &[u8], other: &[u8]) -> Pair
     if !well_formed(other) {
         return no_pair();
     }
-    let mut listed = [0; 192];
+    let mut listed = [0; SCOPE_LIST_WORDS];
     list_scopes(other, &mut listed);
     scopes_clash(one, other, &listed)
 }
@@ -229,7 +255,7 @@ fn put_codes(out: &mut [u8], at: usize, table: &[u8], start: usize, n: usize) ->
     while 0 < left {
         let q = put_byte(out, p, b' ');
         p = put_hex(out, q, 4, word(table, place) as u32);
-        place += 2;
+        place += CODE_SIZE;
         left -= 1;
     }
     p
@@ -241,7 +267,7 @@ fn put_head(out: &mut [u8], at: usize, table: &[u8]) -> usize
     let p = put_text(out, at, b"layout ");
     let p = put_hex(out, p, 2, byte(table, 0) as u32);
     let p = put_text(out, p, b" header");
-    let p = put_codes(out, p, table, 4, byte(table, 1));
+    let p = put_codes(out, p, table, HEADER_AT, byte(table, HEADER_COUNT_AT));
     put_byte(out, p, b'\n')
 }
 
@@ -249,11 +275,11 @@ fn put_head(out: &mut [u8], at: usize, table: &[u8]) -> usize
 pub fn put_why(out: &mut [u8], at: usize, number: u32, one: &[u8], other: &[u8]) -> usize
     ensures { λ r. ⌜ Wrote (now (out .entry)) at (w.why number (now (one .entry)) (now (other .entry))) (now (out .exit)) r ⌝ }
 {
-    if number == 16 {
+    if number == OTHER_HEAD {
         let p = put_head(out, at, one);
         return put_head(out, p, other);
     }
-    if number == 17 {
+    if number == TWO_ROWS {
         return put_clash(out, at, one, other);
     }
     at

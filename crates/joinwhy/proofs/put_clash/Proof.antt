@@ -5,7 +5,9 @@ use Rattle.joinwhy.proofs.put_clash.Statement.{statement}
 use Rattle.joinwhy.proofs.put_clash.Tie as tie
 
 returns : tie.Need-returns
-returns c = let f = c .before .before .before .before .before .first-clash in rw (said-found (f .result) _ (f .ensures) (search)) at (c .before .before .put-pair .ensures)
+returns c =
+    let after-first-clash : tie.After-first-clash = search in
+    let f = after-first-clash .first-clash in rw (said-found (f .result) _ (f .ensures) (search)) at (c .before .before .put-pair .ensures)
 
 returns-2 : tie.Need-returns-2
 returns-2 c = let f = c .before .first-clash in rw (said-none (f .result) _ (f .ensures) (search)) nothing

@@ -8,8 +8,15 @@ use Rattle.joinwhy.proofs.put_head.Tie as tie
 
 returns : tie.Need-returns
 returns c =
-    rw (head-words (now (c .before .before .before .before .before .before .before .before .before .before .before .before .before .before .before .before .before .before .before .before .before .before .before .before .before .before .args .table)) (c .before .before .before .before .before .before .before .before .before .before .before .before .before .before .before .before .before .byte .ensures .is) (c .before .before .before .before .before .before .before .byte2 .ensures .is))
-    (c .before .before .before .before .before .before .before .before .before .before .before .before .before .before .before .before .before .before .before .before .before .put-text .ensures ⨟ c .before .before .before .before .before .before .before .before .before .before .before .before .before .before .before .before .put-hex .ensures ⨟ c .before .before .before .before .before .before .before .before .before .before .before .put-text2 .ensures ⨟ c .before .before .before .before .before .before .put-codes .ensures ⨟ c .before .before .put-byte .ensures)
+    let after-put-codes : tie.After-put-codes = search in
+    let after-byte2 : tie.After-byte2 = search in
+    let after-put-text2 : tie.After-put-text2 = search in
+    let after-put-hex : tie.After-put-hex = search in
+    let after-byte : tie.After-byte = search in
+    let after-put-text : tie.After-put-text = search in
+    let start : tie.Start = search in
+    rw (head-words (now (start .args .table)) (after-byte .byte .ensures .is) (after-byte2 .byte2 .ensures .is))
+    (after-put-text .put-text .ensures ⨟ after-put-hex .put-hex .ensures ⨟ after-put-text2 .put-text2 .ensures ⨟ after-put-codes .put-codes .ensures ⨟ c .before .before .put-byte .ensures)
 
 pub put-head-spec : {M : Type 1} → statement M
 put-head-spec =

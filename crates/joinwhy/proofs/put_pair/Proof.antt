@@ -4,7 +4,12 @@ use Rattle.joinwhy.proofs.put_pair.Statement.{statement}
 use Rattle.joinwhy.proofs.put_pair.Tie as tie
 
 returns : tie.Need-returns
-returns c = c .before .before .before .before .before .before .before .before .before .before .before .before .before .before .before .before .before .before .before .before .before .put-scope-name .ensures ⨟ c .before .before .before .before .before .before .before .before .before .before .before .before .before .before .before .before .put-type-remark .ensures ⨟ c .before .before .before .before .before .before .before .before .before .before .before .before .put-byte .ensures ⨟ c .before .before .before .before .before .before .put-tie .ensures ⨟ c .before .before .put-tie2 .ensures
+returns c =
+    let after-put-tie : tie.After-put-tie = search in
+    let after-put-byte : tie.After-put-byte = search in
+    let after-put-type-remark : tie.After-put-type-remark = search in
+    let after-put-scope-name : tie.After-put-scope-name = search in
+    after-put-scope-name .put-scope-name .ensures ⨟ after-put-type-remark .put-type-remark .ensures ⨟ after-put-byte .put-byte .ensures ⨟ after-put-tie .put-tie .ensures ⨟ c .before .before .put-tie2 .ensures
 
 pub put-pair-spec : {M : Type 1} → statement M
 put-pair-spec =

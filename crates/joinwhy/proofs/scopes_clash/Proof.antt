@@ -1,57 +1,72 @@
-use mathlib.Core.Path.{_≡_, sym, _∙_, ap}
-use Prim.Native.Nat.{_+_, _*_, _<_, _^_}
+use mathlib.Core.Path.{sym, _∙_, ap}
 use native.Mathlib.Omega.{arith}
 use borrow.Author.Needs.{needs}
 use denote.Ref.{now}
-use Rattle.rules.specs.CodeTable.{scopes, scopesAt}
+use Rattle.codetable.proofs.Steps.{ScopeRead}
 use Rattle.coderows.specs.Look.{Finds, bodyRows}
-use Rattle.joinwhy.specs.Why.{scopesClash}
 use Rattle.joinwhy.specs.Found.{asPair}
-use Rattle.joinwhy.proofs.Scopes.{scopes-from, scopes-done, scopes-hit, scopes-miss}
+use Rattle.joinwhy.proofs.Scopes.{ScopesTo, no-scope-tried, all-scopes-tried, scope-clashes, scope-passes}
 use Rattle.joinwhy.proofs.scopes_clash.Statement.{statement}
 use Rattle.joinwhy.proofs.scopes_clash.Tie as tie
 
 abbrev Inv-loop : tie.InvT-loop
-Inv-loop one other listed found contents place₀ body₀ left₀ place body left =
-    (scopesClash other (scopes one) ≡ scopesClash other (scopesAt one place body left)) × (place + 5 * left < 2 ^ 32) × (body + 262144 * left < 2 ^ 58)
+Inv-loop one other listed found contents place₀ body₀ left₀ place body left = ScopesTo other one place body left
 
 abbrev μ-loop : tie.MeasureT-loop
 μ-loop one other listed found contents place₀ body₀ left₀ place body left = left
 
+-- what is read of the next scope
+scope-read : (c : tie.After-word3 Inv-loop μ-loop) →
+    let after-byte2 : tie.After-byte2 Inv-loop μ-loop = search in
+    let after-word2 : tie.After-word2 Inv-loop μ-loop = search in
+    let at-loop : tie.At-loop Inv-loop μ-loop = search in
+    let start : tie.Start Inv-loop μ-loop = search in
+    ScopeRead (now (start .args .one)) (at-loop .loop .place) (at-loop .loop .left) (after-byte2 .byte2 .result) (after-word2 .word2 .result) (c .word3 .result)
+scope-read c =
+    let after-byte2 : tie.After-byte2 Inv-loop μ-loop = search in
+    let after-word2 : tie.After-word2 Inv-loop μ-loop = search in
+    let in-loop : tie.In-loop Inv-loop μ-loop = search in
+    record { more = in-loop .loop-test .taken; kind-is = after-byte2 .byte2 .ensures .is; code-is = after-word2 .word2 .ensures .is; count-is = c .word3 .ensures .is }
+
 -- the rows that were found are the other table's in the same scope
-theirs : (c : tie.After-find-scope Inv-loop μ-loop) → Finds (now (c .before .before .before .before .before .before .before .before .before .before .args .other)) (c .before .before .before .byte2 .result) (c .before .before .word2 .result) (c .find-scope .result .body)
-theirs c = c .find-scope .ensures (c .before .before .before .before .before .before .before .before .before .before .pre .0)
+theirs : (c : tie.After-find-scope Inv-loop μ-loop) →
+    let after-byte2 : tie.After-byte2 Inv-loop μ-loop = search in
+    let after-word2 : tie.After-word2 Inv-loop μ-loop = search in
+    let start : tie.Start Inv-loop μ-loop = search in
+    Finds (now (start .args .other)) (after-byte2 .byte2 .result) (after-word2 .word2 .result) (c .find-scope .result .body)
+theirs c =
+    let start : tie.Start Inv-loop μ-loop = search in
+    c .find-scope .ensures (start .pre .listed)
 
 loop-holds : tie.Need-loop-holds Inv-loop μ-loop
-loop-holds c = (scopes-from (now (c .before .before .before .before .args .other)) (now (c .before .before .before .before .args .one)) (c .byte .ensures .is) (c .before .word .ensures .is), omega arith, omega arith)
+loop-holds c = no-scope-tried _ (record { headers-is = c .byte .ensures .is; scopes-is = c .before .word .ensures .is }) (c .byte .ensures .small) (c .before .word .ensures .small)
 
 rows-clash-requires : tie.Need-rows-clash-requires Inv-loop μ-loop
 unfolding bodyRows
-rows-clash-requires c κs = (omega arith, omega arith, theirs (c .before .before .before) .sorted (c .before .before .before .before .before .before .before .before .before .before .before .before .before .pre .1))
+rows-clash-requires c κs =
+    let start : tie.Start Inv-loop μ-loop = search in
+    record { ends = omega arith; against-them = record { ends = omega arith; sorted = theirs (c .before .before .before) .sorted (start .pre .formed) } }
 
 returns : tie.Need-returns Inv-loop μ-loop
 unfolding bodyRows
 returns c =
-    let l = c .before .before .before .before .before .before .before .before .before .before in
-    let p = c .before .rows-clash in
-    rw (l .loop .inv .0)
-    (scopes-hit (now (c .before .before .before .before .before .before .before .before .before .before .before .before .before .before .before .args .other)) (now (c .before .before .before .before .before .before .before .before .before .before .before .before .before .before .before .args .one)) (l .loop .place) (l .loop .body) (l .loop .left) (c .before .before .before .before .before .before .before .before .before .loop-test .taken) (c .before .before .before .before .before .before .before .before .byte2 .ensures .is) (c .before .before .before .before .before .before .before .word2 .ensures .is) (c .before .before .before .before .before .before .word3 .ensures .is)
-    _ (theirs (c .before .before .before .before .before) .rows (c .before .before .before .before .before .before .before .before .before .before .before .before .before .before .before .pre .1)) (p .result) (p .ensures) (search))
+    let after-find-scope : tie.After-find-scope Inv-loop μ-loop = search in
+    let after-word3 : tie.After-word3 Inv-loop μ-loop = search in
+    let at-loop : tie.At-loop Inv-loop μ-loop = search in
+    let start : tie.Start Inv-loop μ-loop = search in
+    scope-clashes (at-loop .loop .inv) (scope-read after-word3) (theirs after-find-scope .rows (start .pre .formed)) (c .before .rows-clash .ensures) (search)
 
 loop-again : tie.Need-loop-again Inv-loop μ-loop
 unfolding bodyRows
 loop-again c =
-    let l = c .before .before .before .before .before .before .before .before .before .before in
-    let more = c .before .before .before .before .before .before .before .before .before .loop-test .taken in
-    let p = c .before .rows-clash in
-    let e = scopes-miss (now (c .before .before .before .before .before .before .before .before .before .before .before .before .before .before .before .args .other)) (now (c .before .before .before .before .before .before .before .before .before .before .before .before .before .before .before .args .one)) (l .loop .place) (l .loop .body) (l .loop .left) more (c .before .before .before .before .before .before .before .before .byte2 .ensures .is) (c .before .before .before .before .before .before .before .word2 .ensures .is) (c .before .before .before .before .before .before .word3 .ensures .is)
-    _ (theirs (c .before .before .before .before .before) .rows (c .before .before .before .before .before .before .before .before .before .before .before .before .before .before .before .pre .1)) (p .result) (p .ensures) (search) in
-    (l .loop .inv .0 ∙ e, omega (arith, l .loop .inv .1, more), omega (arith, l .loop .inv .2, more, c .before .before .before .before .before .before .word3 .ensures .small))
+    let after-find-scope : tie.After-find-scope Inv-loop μ-loop = search in
+    let after-word3 : tie.After-word3 Inv-loop μ-loop = search in
+    let at-loop : tie.At-loop Inv-loop μ-loop = search in
+    let start : tie.Start Inv-loop μ-loop = search in
+    scope-passes (at-loop .loop .inv) (scope-read after-word3) (theirs after-find-scope .rows (start .pre .formed)) (c .before .rows-clash .ensures) (after-word3 .word3 .ensures .small) (search)
 
 returns-2 : tie.Need-returns-2 Inv-loop μ-loop
-returns-2 c =
-    let l = c .before .before in
-    c .no-pair .ensures ∙ sym (ap asPair (l .loop .inv .0 ∙ scopes-done _ (now (c .before .before .before .before .before .before .before .args .one)) (l .loop .place) (l .loop .body) (l .loop .left) (omega arith)))
+returns-2 c = c .no-pair .ensures ∙ sym (ap asPair (all-scopes-tried (c .before .before .loop .inv) (omega arith)))
 
 pub scopes-clash-spec : {M : Type 1} → statement M
 scopes-clash-spec =
