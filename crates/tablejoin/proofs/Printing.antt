@@ -8,7 +8,7 @@ use borrow.Author.Tests.{lt-ltb, le-ltb, ltb-true, ltb-false}
 use lib.Dec.{ltb}
 use lib.ListN.{length, take, drop, length-append, length-drop}
 use lib.Seq.{take-all, length-take-le}
-use Rattle.rules.specs.Answer.{refusal}
+use Rattle.rules.specs.Answer.{refusal, badTable}
 use Rattle.rules.specs.CodeTable.{wellFormed}
 use Rattle.rules.specs.Listing.{answerLine, tableLength, tableIn, blobIn}
 use Rattle.joinlaws.proofs.JoinedLaws.{at-most}
@@ -20,12 +20,12 @@ use Rattle.tablejoin.specs.Said.{said, joinSaid}
 use Rattle.tablejoin.proofs.Exits.{said-short, said-bad}
 
 module _ (input : List ℕ) where
-  pub input-short : length input < 4 → joinSaid input ≡ answerLine (refusal 8)
+  pub input-short : length input < 4 → joinSaid input ≡ answerLine (refusal badTable)
   unfolding joinSaid
   input-short h = rw (lt-ltb (length input) 4 h)
 
   module _ (begins : 4 ≤ length input) where
-    pub input-cut : length input < 4 + tableLength input → joinSaid input ≡ answerLine (refusal 8)
+    pub input-cut : length input < 4 + tableLength input → joinSaid input ≡ answerLine (refusal badTable)
     unfolding joinSaid
     input-cut h = rw (le-ltb (length input) 4 begins, lt-ltb (length input) (4 + tableLength input) h)
 
@@ -61,10 +61,10 @@ either-long : (t t′ : List ℕ) (b : Bool) → ltb 65100 (length t) ≡ b → 
 either-long t t′ true e h = rw (too-long t (ltb-true 65100 (length t) e))
 either-long t t′ false e h = let l = ltb-false 65100 (length t) e in rw (too-long t′ (omega arith)) (and-false (wellFormed t))
 
-input-long : (input : List ℕ) → 130205 ≤ length input → joinSaid input ≡ answerLine (refusal 8)
+input-long : (input : List ℕ) → 130205 ≤ length input → joinSaid input ≡ answerLine (refusal badTable)
 input-long input h = go (ltb (length input) (4 + tableLength input)) refl
   where
-    go : (b : Bool) → ltb (length input) (4 + tableLength input) ≡ b → joinSaid input ≡ answerLine (refusal 8)
+    go : (b : Bool) → ltb (length input) (4 + tableLength input) ≡ b → joinSaid input ≡ answerLine (refusal badTable)
     go true e = input-cut input (omega arith) (ltb-true _ _ e)
     go false e =
         let l : 4 + tableLength input ≤ length input = ltb-false _ _ e in
@@ -77,14 +77,14 @@ said-all : {room : ℕ} {read all : List ℕ} → 130204 < room → Began room r
 said-all r whole = refl
 said-all r (filled {read} h rest) = input-long read (omega arith) ∙ sym (input-long (read ++ rest) (simp length-append (omega arith)))
 
-refusal-short : length (answerLine (refusal 8)) ≤ 65151
-refusal-short = omega (arith, answer-short (refusal 8) (omega arith) (omega arith) (omega arith) (omega arith))
+refusal-short : length (answerLine (refusal badTable)) ≤ 65151
+refusal-short = omega (arith, answer-short (refusal badTable) (omega arith) (omega arith) (omega arith) (omega arith))
 
 bounded : (input : List ℕ) → length (joinSaid input) ≤ 65151
 unfolding joinSaid
 bounded input = go (ltb (length input) 4) (ltb (length input) (4 + tableLength input))
   where
-    go : (a b : Bool) → length (cond a (answerLine (refusal 8)) (cond b (answerLine (refusal 8)) (said (tableIn input) (blobIn input)))) ≤ 65151
+    go : (a b : Bool) → length (cond a (answerLine (refusal badTable)) (cond b (answerLine (refusal badTable)) (said (tableIn input) (blobIn input)))) ≤ 65151
     go true b = refusal-short
     go false true = refusal-short
     go false false = said-short (tableIn input) (blobIn input)

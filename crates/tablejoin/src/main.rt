@@ -1,4 +1,4 @@
-// Joins the two code tables that standard input holds behind the length of the first; specs/Said.antt says what is printed.
+// Joins the two code tables that standard input holds after the length of the first; specs/Said.antt says what is printed.
 use libc::STDIN_FILENO;
 use libc::STDOUT_FILENO;
 use listing::answer_line;
@@ -6,19 +6,35 @@ use text::put_text;
 use text::refused;
 ghost use mathlib.Core.Path.{_≡_};
 ghost use mathlib.Core.List.{List};
-ghost use Prim.Native.Nat.{ℕ, _≤_, _<_};
-ghost use lib.ListN.{length};
+ghost use Prim.Native.Nat.{ℕ};
 ghost use Rattle.rules.specs.Answer.{refusal};
 ghost use Rattle.rules.specs.Listing.{answerLine};
 ghost use Rattle.text.specs.Writer.{Wrote};
 ghost use Rattle.tabletext.specs.Input.{Began};
-ghost use Rattle.tablejoin.specs.Said.{said, joinSaid};
+ghost use Rattle.tablejoin.specs.Said.{said, joinSaid, Lent};
 
-// The answer to two tables, and behind it the joined table or why there is none.
+// The refusal of a table that isn't well formed.
+const BAD_TABLE: u32 = 8;
+
+// A well-formed table has no more bytes.
+const LONGEST_TABLE: usize = 65100;
+
+// The longest line of an answer, and with the longest table after it.
+const LONGEST_LINE: usize = 51;
+
+const LONGEST_SAID: usize = LONGEST_LINE + LONGEST_TABLE;
+
+// The first table's length takes four bytes.
+const LENGTH_SIZE: usize = 4;
+
+// One byte more is read than two tables can have with the length, so that longer input is told.
+const SPACE: usize = LENGTH_SIZE + 2 * LONGEST_TABLE + 1;
+
+// The answer to two tables, and after it the joined table or why there is none.
 fn write_said(one: &[u8], other: &[u8], out: &mut [u8]) -> usize
     ensures { λ r. ⌜ Wrote (now (out .entry)) 0 (said (now (one .entry)) (now (other .entry))) (now (out .exit)) r ⌝ }
 {
-    let mut table = [0; 65100];
+    let mut table = [0; LONGEST_TABLE];
     let a = join::join(one, other, &mut table);
     let p = answer_line(out, 0, a);
     if a.number != 0 {
@@ -31,22 +47,22 @@ fn write_said(one: &[u8], other: &[u8], out: &mut [u8]) -> usize
 fn write_refusal(out: &mut [u8]) -> usize
     ensures { λ r. ⌜ Wrote (now (out .entry)) 0 (answerLine (refusal 8)) (now (out .exit)) r ⌝ }
 {
-    let a = refused(8);
+    let a = refused(BAD_TABLE);
     answer_line(out, 0, a)
 }
 
 fn write_input(input: &[u8], out: &mut [u8]) -> usize
     ensures { λ r. ⌜ Wrote (now (out .entry)) 0 (joinSaid (now (input .entry))) (now (out .exit)) r ⌝ }
 {
-    if input.len() < 4 {
+    if input.len() < LENGTH_SIZE {
         return write_refusal(out);
     }
     let size = leaf::u32_at(input, 0) as usize;
-    if input.len() - 4 < size {
+    if input.len() - LENGTH_SIZE < size {
         return write_refusal(out);
     }
-    let start = 4 + size;
-    write_said(&input[4..start], &input[start..], out)
+    let start = LENGTH_SIZE + size;
+    write_said(&input[LENGTH_SIZE..start], &input[start..], out)
 }
 
 // Prints what is said of all that standard input has, of which `input` was read into room for `room` bytes.
@@ -57,7 +73,7 @@ fn print(input: &[u8], room: usize, text: &[u8])
 }
 
 fn run(space: &mut [u8], out: &mut [u8])
-    requires { ⌜ (130204 < length (now space)) × (65151 ≤ length (now out)) ⌝ }
+    requires { ⌜ Lent (now space) (now out) ⌝ }
 {
     let room = space.len();
     let size = io::read_full(STDIN_FILENO, space);
@@ -66,9 +82,8 @@ fn run(space: &mut [u8], out: &mut [u8])
     print(input, room, &out[..end]);
 }
 
-// Two tables that are well formed have at most 65,100 bytes each, and their length four: one byte more is read, so that longer input is told.
 fn main() {
-    let mut space = [0; 130205];
-    let mut out = [0; 65151];
+    let mut space = [0; SPACE];
+    let mut out = [0; LONGEST_SAID];
     run(&mut space, &mut out);
 }

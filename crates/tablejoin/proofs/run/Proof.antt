@@ -13,7 +13,9 @@ slice-aggregate-print : tie.Need-slice-aggregate-print
 slice-aggregate-print c = let w = c .before .before .before .write-input in sym (length-take-le (w .result) _ (within (w .ensures)))
 
 print-requires : tie.Need-print-requires
-print-requires c κs = let p = c .before .before .before .before .before .before .before .before .before .before .before .before .pre in all-printed (p .0) (c .before .before .before .write-input .ensures) (p .1)
+print-requires c κs =
+    let start : tie.Start = search in
+    let p = start .pre in all-printed (p .reads-all) (c .before .before .before .write-input .ensures) (p .says-all)
 
 pub run-spec : {M : Type 1} → statement M
 run-spec =

@@ -14,26 +14,37 @@ use Rattle.tablejoin.proofs.write_said.Tie as tie
 returns : tie.Need-returns
 unfolding room
 returns c =
-    let a = c .before .before .before .before .before .before .before .before .before .before .before .before .before .before .before .before .args in
-    let j = c .before .before .before .before .before .before .before .before .before .before .before .join in
-    rw (said-refused (now (a .one)) (now (a .other)) (j .result) (j .ensures .0) (λ e. omega arith)) (c .before .before .before .before .before .before .before .before .answer-line .ensures ⨟ c .before .before .put-why .ensures)
+    let after-answer-line : tie.After-answer-line = search in
+    let after-join : tie.After-join = search in
+    let start : tie.Start = search in
+    let a = start .args in
+    let j = after-join .join in
+    rw (said-refused (now (a .one)) (now (a .other)) (j .ensures .0) (λ e. omega arith)) (after-answer-line .answer-line .ensures ⨟ c .before .before .put-why .ensures)
 
 array-share-prefix-table : tie.Need-array-share-prefix-table
 unfolding room
 array-share-prefix-table c =
-    let a = c .before .before .before .before .before .before .before .before .before .before .before .before .before .before .args in
-    let j = c .before .before .before .before .before .before .before .before .before .join in
-    omega (arith, first-fits (now (a .one)) (now (a .other)) (j .result) (j .ensures .0) (omega (arith, c .before .before .if1 .left)), j .kept, length-replicate {A = ℕ} 65100 0)
+    let after-join : tie.After-join = search in
+    let start : tie.Start = search in
+    let a = start .args in
+    let j = after-join .join in
+    omega (arith, first-fits (now (a .one)) (now (a .other)) (j .ensures .0) (omega (arith, c .before .before .if1 .left)), j .kept, length-replicate {A = ℕ} 65100 0)
 
 slice-aggregate-put-text : tie.Need-slice-aggregate-put-text
-slice-aggregate-put-text c = sym (length-take-le (c .before .before .before .before .before .before .before .before .before .before .join .result .first) _ (array-share-prefix-table (c .before)))
+slice-aggregate-put-text c =
+    let after-join : tie.After-join = search in
+    sym (length-take-le (after-join .join .result .first) _ (array-share-prefix-table (c .before)))
 
 returns-2 : tie.Need-returns-2
 unfolding room
 returns-2 c =
-    let a = c .before .before .before .before .before .before .before .before .before .before .before .before .before .before .before .before .before .before .args in
-    let j = c .before .before .before .before .before .before .before .before .before .before .before .before .before .join in
-    rw (said-joined (now (a .one)) (now (a .other)) (j .result) _ (j .ensures .0) (j .ensures .1) (omega (arith, c .before .before .before .before .before .before .if1 .left))) (c .before .before .before .before .before .before .before .before .before .before .answer-line .ensures ⨟ c .before .before .put-text .ensures)
+    let else1 : tie.Else1 = search in
+    let after-answer-line : tie.After-answer-line = search in
+    let after-join : tie.After-join = search in
+    let start : tie.Start = search in
+    let a = start .args in
+    let j = after-join .join in
+    rw (said-joined (now (a .one)) (now (a .other)) (j .ensures .0) (j .ensures .1) (omega (arith, else1 .if1 .left))) (after-answer-line .answer-line .ensures ⨟ c .before .before .put-text .ensures)
 
 pub write-said-spec : {M : Type 1} → statement M
 write-said-spec =
