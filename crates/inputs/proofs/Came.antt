@@ -1,7 +1,7 @@
 -- All that standard input had, by what was read of it and whether more came.
 use mathlib.Core.Path.{_≡_, refl, ap, _∙_}
 use mathlib.Core.Bool.{Bool, true, false}
-use mathlib.Core.List.{List, _∷_, _++_}
+use mathlib.Core.List.{List}
 use Prim.Native.Nat.{ℕ, _+_, _≤_, _<_}
 use native.Mathlib.Omega.{arith}
 use borrow.Rule.Slice.PartMut.{putMid, take-put}
@@ -20,7 +20,7 @@ pub more-came : {read input : List ℕ} {more : Bool} → Begun read more input 
 more-came whole e = let z : _≡_ {A = ℕ} 0 1 = cc in absurd (omega arith)
 more-came (longer {read} b rest) e = simp length-append (omega arith)
 
--- what was read is written first, and what comes is put behind it
+-- what was read is written first, and what comes is put after it
 module _ {read old new : List ℕ} {e : ℕ} (w : Wrote old 0 read new e) (k : ℕ) (ys : List ℕ) where
   ends : length read ≤ length old → length read ≡ e
   ends h = let q : 0 + length read ≤ length old = omega arith in omega (arith, next w q)

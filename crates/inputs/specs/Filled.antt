@@ -1,4 +1,4 @@
--- A buffer with the bytes that were read, and those that came behind them.
+-- A buffer with the bytes that were read, and those that came after them.
 use mathlib.Core.Path.{_≡_}
 use mathlib.Core.List.{List}
 use Prim.Native.Nat.{ℕ, _≤_}

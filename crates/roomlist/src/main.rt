@@ -10,6 +10,14 @@ ghost use Rattle.rules.specs.Answer.{longest};
 ghost use Rattle.text.specs.Writer.{Wrote};
 ghost use Rattle.roomlist.specs.Rooms.{Small, blobBytes, infoBytes, blobLine, infoLine, lengthLine, roomLines};
 
+// A word of a row has four bytes, and so has the length that is read.
+const WORD_SIZE: u32 = 4;
+
+const LENGTH_SIZE: usize = 4;
+
+// Room for all that is printed.
+const LINES_ROOM: usize = 512;
+
 // ---- the bytes of rows
 // The widths of rows as numbers of 32 bits.
 const CONTROL_WORDS: u32 = rows::CONTROL_WIDTH as u32;
@@ -22,14 +30,14 @@ fn blob_bytes(room: Room) -> u32
     requires { ⌜ Small room ⌝ }
     ensures { λ r. ⌜ r ≡ blobBytes room ⌝ }
 {
-    4 * (CONTROL_WORDS * room.controls + PROPERTY_WORDS * room.properties)
+    WORD_SIZE * (CONTROL_WORDS * room.controls + PROPERTY_WORDS * room.properties)
 }
 
 fn info_bytes(rows: u32) -> u32
     requires { ⌜ rows ≤ longest ⌝ }
     ensures { λ r. ⌜ r ≡ infoBytes rows ⌝ }
 {
-    4 * (INFO_WORDS * rows)
+    WORD_SIZE * (INFO_WORDS * rows)
 }
 
 // ---- lines
@@ -84,10 +92,10 @@ fn print(length: u32, lines: &[u8])
 }
 
 fn main() {
-    let mut input = [0; 4];
+    let mut input = [0; LENGTH_SIZE];
     io::read_full(STDIN_FILENO, &mut input);
     let length = leaf::u32_at(&input, 0);
-    let mut out = [0; 512];
+    let mut out = [0; LINES_ROOM];
     let end = put_rooms(&mut out, length);
     print(length, &out[..end]);
 }

@@ -15,7 +15,8 @@ part-read-full-start c = let h = within (c .before .before .put-text .ensures) i
 
 returns : tie.Need-returns
 returns c =
-    let p = c .before .before .before .before .before .before .put-text in
+    let after-put-text : tie.After-put-text = search in
+    let p = after-put-text .put-text in
     let r = c .before .before .read-full in
     filled (p .ensures) (length (p .last .0) - p .result) (r .last .1 .0) (r .result) (omega (arith, within (p .ensures)))
 

@@ -1,5 +1,4 @@
 use mathlib.Core.Path.{sym}
-use Prim.Native.Nat.{ℕ}
 use native.Mathlib.Omega.{arith}
 use borrow.Author.Needs.{needs}
 use lib.ListN.{length-replicate}
@@ -17,8 +16,9 @@ slice-aggregate-print c = let w = c .before .before .put-rooms in sym (length-ta
 
 print-requires : tie.Need-print-requires
 print-requires c κs =
+    let after-u32-at : tie.After-u32-at = search in
     let w = c .before .before .put-rooms in
-    held (w .ensures) (simp length-replicate (omega (arith, lines-short (c .before .before .before .before .u32-at .result) (omega arith))))
+    held (w .ensures) (simp length-replicate (omega (arith, lines-short (after-u32-at .u32-at .result) (omega arith))))
 
 pub main-spec : {M : Type 1} → statement M
 main-spec =

@@ -6,16 +6,16 @@ use Rattle.roomlist.proofs.put_blob.Tie as tie
 
 returns : tie.Need-returns
 returns c =
-    let c7 = c .before .before in
-    let c6 = c7 .before .before .before .before .before in
-    let c5 = c6 .before .before .before .before .before in
-    let c4 = c5 .before .before .before .before .before in
-    let c3 = c4 .before .before .before .before in
-    let c2 = c3 .before .before .before .before .before in
-    let c1 = c2 .before .before .before .before in
-    blob-wrote _ _ (c6 .before .blob-bytes .ensures)
-    (c1 .put-text .ensures) (c2 .put-decimal .ensures) (c3 .put-text2 .ensures) (c4 .put-decimal2 .ensures)
-    (c5 .put-text3 .ensures) (c6 .put-decimal3 .ensures) (c7 .put-text4 .ensures)
+    let after-put-decimal3 : tie.After-put-decimal3 = search in
+    let after-blob-bytes : tie.After-blob-bytes = search in
+    let after-put-text3 : tie.After-put-text3 = search in
+    let after-put-decimal2 : tie.After-put-decimal2 = search in
+    let after-put-text2 : tie.After-put-text2 = search in
+    let after-put-decimal : tie.After-put-decimal = search in
+    let after-put-text : tie.After-put-text = search in
+    blob-wrote _ _ (after-blob-bytes .blob-bytes .ensures)
+    (after-put-text .put-text .ensures) (after-put-decimal .put-decimal .ensures) (after-put-text2 .put-text2 .ensures) (after-put-decimal2 .put-decimal2 .ensures)
+    (after-put-text3 .put-text3 .ensures) (after-put-decimal3 .put-decimal3 .ensures) (c .before .before .put-text4 .ensures)
 
 same-length : tie.Need-same-length
 same-length c = same (returns c)

@@ -6,13 +6,14 @@ use Rattle.roomlist.proofs.put_info.Tie as tie
 
 returns : tie.Need-returns
 returns c =
-    let c5 = c .before .before in
-    let c4 = c5 .before .before .before .before .before in
-    let c3 = c4 .before .before .before .before .before in
-    let c2 = c3 .before .before .before .before .before in
-    let c1 = c2 .before .before .before .before in
-    info-wrote _ (c4 .before .info-bytes .ensures)
-    (c1 .put-text .ensures) (c2 .put-decimal .ensures) (c3 .put-text2 .ensures) (c4 .put-decimal2 .ensures) (c5 .put-text3 .ensures)
+    let after-put-decimal2 : tie.After-put-decimal2 = search in
+    let after-info-bytes : tie.After-info-bytes = search in
+    let after-put-text2 : tie.After-put-text2 = search in
+    let after-put-decimal : tie.After-put-decimal = search in
+    let after-put-text : tie.After-put-text = search in
+    info-wrote _ (after-info-bytes .info-bytes .ensures)
+    (after-put-text .put-text .ensures) (after-put-decimal .put-decimal .ensures) (after-put-text2 .put-text2 .ensures) (after-put-decimal2 .put-decimal2 .ensures)
+    (c .before .before .put-text3 .ensures)
 
 same-length : tie.Need-same-length
 same-length c = same (returns c)

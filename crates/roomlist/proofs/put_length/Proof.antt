@@ -6,10 +6,9 @@ use Rattle.roomlist.proofs.put_length.Tie as tie
 
 returns : tie.Need-returns
 returns c =
-    let c3 = c .before .before in
-    let c2 = c3 .before .before .before .before .before in
-    let c1 = c2 .before .before .before .before in
-    length-wrote _ (c1 .put-text .ensures) (c2 .put-decimal .ensures) (c3 .put-text2 .ensures)
+    let after-put-decimal : tie.After-put-decimal = search in
+    let after-put-text : tie.After-put-text = search in
+    length-wrote _ (after-put-text .put-text .ensures) (after-put-decimal .put-decimal .ensures) (c .before .before .put-text2 .ensures)
 
 same-length : tie.Need-same-length
 same-length c = same (returns c)

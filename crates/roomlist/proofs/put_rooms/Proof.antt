@@ -1,7 +1,6 @@
-use mathlib.Core.Path.{sym, subst}
 use borrow.Author.Needs.{needs}
 use Rattle.text.proofs.Chain.{same, _⨟_}
-use Rattle.roomlist.specs.Rooms.{Small, roomLines}
+use Rattle.roomlist.specs.Rooms.{roomLines}
 use Rattle.roomlist.proofs.Longest.{small-2000, small-later, small-either, small-info}
 use Rattle.roomlist.proofs.put_rooms.Statement.{statement}
 use Rattle.roomlist.proofs.put_rooms.Tie as tie
@@ -21,16 +20,19 @@ put-info-requires c κs = rw (c .type-info-room .ensures) (small-info _)
 returns : tie.Need-returns
 unfolding roomLines
 returns c =
-    let info = c .before .before in
-    let later = info .before .before .before .before .before in
-    let old = later .before .before .before .before .before .before in
-    let either = old .before .before .before .before .before .before in
-    let head = either .before .before .before .before .before .before in
-    head .put-length .ensures
-    ⨟ (rw (either .before .room-for .ensures) at (either .put-blob .ensures))
-    ⨟ (rw (old .before .room-2000 .ensures) at (old .put-blob2 .ensures))
-    ⨟ (rw (later .before .room-later .ensures) at (later .put-blob3 .ensures))
-    ⨟ (rw (info .before .type-info-room .ensures) at (info .put-info .ensures))
+    let after-type-info-room : tie.After-type-info-room = search in
+    let after-put-blob3 : tie.After-put-blob3 = search in
+    let after-room-later : tie.After-room-later = search in
+    let after-put-blob2 : tie.After-put-blob2 = search in
+    let after-room-2000 : tie.After-room-2000 = search in
+    let after-put-blob : tie.After-put-blob = search in
+    let after-room-for : tie.After-room-for = search in
+    let after-put-length : tie.After-put-length = search in
+    after-put-length .put-length .ensures
+    ⨟ (rw (after-room-for .room-for .ensures) at (after-put-blob .put-blob .ensures))
+    ⨟ (rw (after-room-2000 .room-2000 .ensures) at (after-put-blob2 .put-blob2 .ensures))
+    ⨟ (rw (after-room-later .room-later .ensures) at (after-put-blob3 .put-blob3 .ensures))
+    ⨟ (rw (after-type-info-room .type-info-room .ensures) at (c .before .before .put-info .ensures))
 
 same-length : tie.Need-same-length
 same-length c = same (returns c)
