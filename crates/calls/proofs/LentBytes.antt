@@ -60,7 +60,8 @@ stream-told result w κs qs a vss =
     let L : Pr w = w .𝓖 .A .lft (κs .1 .0) (qs .1 .0) in
     let L′ : Pr w = toks (w .𝓤) (w .𝓖 .A) 2 (κs .1 .1) (qs .1 .1) in
     let P : Pr w = sem (w .𝓤) (w .H) (w .𝓖 .A) (ShrSlice (named 0) (κs .0) u8 .own (a .0) (vss .0)) in
-    let Q : Pr w = sem (w .𝓤) (w .H) (w .𝓖 .A) (owns (MutSlice (named 2) (κs .1 .1 .0) u32 ∷ MutSlice (named 3) (κs .1 .1 .1 .0) u32 ∷ []) (a .1 .1) (vss .1 .1)) in
+    let lent = κs .1 .1 in
+    let Q : Pr w = sem (w .𝓤) (w .H) (w .𝓖 .A) (owns (MutSlice (named 2) (lent .0) u32 ∷ MutSlice (named 3) (lent .1 .0) u32 ∷ []) (a .1 .1) (vss .1 .1)) in
     via (w .𝓤) (sep (w .𝓤) L O)
     (mono∗ (w .𝓤)
     (via (w .𝓤) (sep (w .𝓤) L L′) (snd∗ (w .𝓤) (w .𝓖 .A .lft (κs .0) (qs .0)) (sep (w .𝓤) L L′)) (fst∗ (w .𝓤) L L′))

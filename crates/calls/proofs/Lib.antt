@@ -1,3 +1,4 @@
+-- Proofs of what specs/ promises of calls; Promises has them all, and the other files what they rest on.
 pub mod Promises
 pub mod Always
 pub mod LentBytes

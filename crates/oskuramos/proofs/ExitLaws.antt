@@ -1,4 +1,4 @@
--- What `read_blob` shows, taken apart.
+-- What `read_blob` shows, taken apart: the answer as it is handed over, and the two slices.
 use Prim.Native.Nat.{ℕ}
 use mathlib.Core.Path.{_≡_, ap}
 use mathlib.Core.List.{List}
@@ -7,5 +7,5 @@ use Rattle.rules.specs.declared.Answer.{Answer}
 use Rattle.blob.specs.Exit.{exited}
 use Rattle.oskuramos.specs.Handed.{handedAnswer}
 
-pub apart : (a : Answer) (controls properties : List ℕ) (x : Exit) → exited a controls properties ≡ x → (handedAnswer a ≡ handedAnswer (x .answer)) × ((controls ≡ x .controls) × (properties ≡ x .properties))
-apart a controls properties x e = (ap (λ y. handedAnswer (y .answer)) e, (ap (λ y. y .controls) e, ap (λ y. y .properties) e))
+pub apart : {a : Answer} {controls properties : List ℕ} {x : Exit} → exited a controls properties ≡ x → (handedAnswer a ≡ handedAnswer (x .answer)) × ((controls ≡ x .controls) × (properties ≡ x .properties))
+apart e = (ap (λ y. handedAnswer (y .answer)) e, (ap (λ y. y .controls) e, ap (λ y. y .properties) e))

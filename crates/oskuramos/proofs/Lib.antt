@@ -1,2 +1,3 @@
+-- Laws that the proofs of the exported functions cite.
 pub mod ExitLaws
 pub mod PartLaws

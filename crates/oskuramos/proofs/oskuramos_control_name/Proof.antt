@@ -7,32 +7,26 @@ use borrow.Author.Needs.{needs}
 use Rattle.oskuramos.proofs.oskuramos_control_name.Statement.{statement}
 use Rattle.oskuramos.proofs.oskuramos_control_name.Tie as tie
 
-part-or-requires : tie.Need-part-or-requires
-part-or-requires c κs = search needs
-
-part-or-requires-2 : tie.Need-part-or-requires-2
-part-or-requires-2 c κs = search needs
-
-part-or-requires-3 : tie.Need-part-or-requires-3
-part-or-requires-3 c κs = search needs
-
 returns : tie.Need-returns
 returns c =
-    let a = c .before .before .before .before .args in
+    let start : tie.Start = search in
+    let a = start .args in
     c .part-or .ensures ∙ by-stream (a .stream .now) (a .label .now) (a .start) (a .length) (a .mark) (either (a .mark) (c .before .match .keys1))
 
 returns-2 : tie.Need-returns-2
 returns-2 c =
-    let a = c .before .before .before .before .args in
+    let start : tie.Start = search in
+    let a = start .args in
     c .part-or2 .ensures ∙ by-label (a .stream .now) (a .label .now) (a .start) (a .length) (a .mark) (omega arith)
 
 returns-3 : tie.Need-returns-3
 returns-3 c =
-    let a = c .before .before .before .before .args in
+    let start : tie.Start = search in
+    let a = start .args in
     let m = c .before .match .rest in
     c .part-or3 .ensures ∙ by-none (a .stream .now) (a .label .now) (a .start) (a .length) (a .mark) (λ e. m .0 .1 (inl e)) (λ e. m .0 .1 (inr e)) (m .1)
 
 pub oskuramos-control-name-spec : {M : Type 1} → statement M
 oskuramos-control-name-spec =
     tie.close
-    (tie.spec part-or-requires part-or-requires-2 part-or-requires-3 returns returns-2 returns-3)
+    (tie.spec (λ c κs. search needs) (λ c κs. search needs) (λ c κs. search needs) returns returns-2 returns-3)

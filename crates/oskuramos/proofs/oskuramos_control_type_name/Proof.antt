@@ -4,15 +4,9 @@ use borrow.Author.Needs.{needs}
 use Rattle.oskuramos.proofs.oskuramos_control_type_name.Statement.{statement}
 use Rattle.oskuramos.proofs.oskuramos_control_type_name.Tie as tie
 
-control-type-name-requires : tie.Need-control-type-name-requires
-control-type-name-requires c κs = search needs
-
-handed-name-requires : tie.Need-handed-name-requires
-handed-name-requires c κs = search needs
-
 returns : tie.Need-returns
 returns c = c .handed-name .ensures ∙ ap handedName (c .before .control-type-name .ensures)
 
 pub oskuramos-control-type-name-spec : {M : Type 1} → statement M
 oskuramos-control-type-name-spec =
-    tie.close (tie.spec control-type-name-requires handed-name-requires returns)
+    tie.close (tie.spec (λ c κs. search needs) (λ c κs. search needs) returns)

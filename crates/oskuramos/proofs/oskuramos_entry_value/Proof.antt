@@ -4,15 +4,9 @@ use borrow.Author.Needs.{needs}
 use Rattle.oskuramos.proofs.oskuramos_entry_value.Statement.{statement}
 use Rattle.oskuramos.proofs.oskuramos_entry_value.Tie as tie
 
-entry-value-requires : tie.Need-entry-value-requires
-entry-value-requires c κs = search needs
-
-handed-value-requires : tie.Need-handed-value-requires
-handed-value-requires c κs = search needs
-
 returns : tie.Need-returns
 returns c = c .handed-value .ensures ∙ ap handedValue (c .before .entry-value .ensures)
 
 pub oskuramos-entry-value-spec : {M : Type 1} → statement M
 oskuramos-entry-value-spec =
-    tie.close (tie.spec entry-value-requires handed-value-requires returns)
+    tie.close (tie.spec (λ c κs. search needs) (λ c κs. search needs) returns)

@@ -4,15 +4,6 @@ use borrow.Author.Needs.{needs}
 use Rattle.oskuramos.proofs.oskuramos_read_type_info.Statement.{statement}
 use Rattle.oskuramos.proofs.oskuramos_read_type_info.Tie as tie
 
-read-type-info-requires : tie.Need-read-type-info-requires
-read-type-info-requires c κs = search needs
-
-handed-answer-requires : tie.Need-handed-answer-requires
-handed-answer-requires c κs = search needs
-
-same-length : tie.Need-same-length
-same-length c = search needs
-
 returns : tie.Need-returns
 returns c =
     let e = c .before .before .before .read-type-info .ensures in
@@ -20,4 +11,4 @@ returns c =
 
 pub oskuramos-read-type-info-spec : {M : Type 1} → statement M
 oskuramos-read-type-info-spec =
-    tie.close (tie.spec read-type-info-requires handed-answer-requires same-length returns)
+    tie.close (tie.spec (λ c κs. search needs) (λ c κs. search needs) (λ c. search needs) returns)

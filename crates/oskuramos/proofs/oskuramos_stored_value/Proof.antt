@@ -4,15 +4,9 @@ use borrow.Author.Needs.{needs}
 use Rattle.oskuramos.proofs.oskuramos_stored_value.Statement.{statement}
 use Rattle.oskuramos.proofs.oskuramos_stored_value.Tie as tie
 
-stored-value-requires : tie.Need-stored-value-requires
-stored-value-requires c κs = search needs
-
-handed-value-requires : tie.Need-handed-value-requires
-handed-value-requires c κs = search needs
-
 returns : tie.Need-returns
 returns c = c .handed-value .ensures ∙ ap handedValue (c .before .stored-value .ensures)
 
 pub oskuramos-stored-value-spec : {M : Type 1} → statement M
 oskuramos-stored-value-spec =
-    tie.close (tie.spec stored-value-requires handed-value-requires returns)
+    tie.close (tie.spec (λ c κs. search needs) (λ c κs. search needs) returns)

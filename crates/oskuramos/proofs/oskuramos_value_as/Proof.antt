@@ -4,14 +4,8 @@ use borrow.Author.Needs.{needs}
 use Rattle.oskuramos.proofs.oskuramos_value_as.Statement.{statement}
 use Rattle.oskuramos.proofs.oskuramos_value_as.Tie as tie
 
-value-as-requires : tie.Need-value-as-requires
-value-as-requires c κs = search needs
-
-handed-value-requires : tie.Need-handed-value-requires
-handed-value-requires c κs = search needs
-
 returns : tie.Need-returns
 returns c = c .handed-value .ensures ∙ ap handedValue (c .before .value-as .ensures)
 
 pub oskuramos-value-as-spec : {M : Type 1} → statement M
-oskuramos-value-as-spec = tie.close (tie.spec value-as-requires handed-value-requires returns)
+oskuramos-value-as-spec = tie.close (tie.spec (λ c κs. search needs) (λ c κs. search needs) returns)

@@ -4,14 +4,8 @@ use borrow.Author.Needs.{needs}
 use Rattle.oskuramos.proofs.oskuramos_value_name.Statement.{statement}
 use Rattle.oskuramos.proofs.oskuramos_value_name.Tie as tie
 
-value-name-requires : tie.Need-value-name-requires
-value-name-requires c κs = search needs
-
-handed-name-requires : tie.Need-handed-name-requires
-handed-name-requires c κs = search needs
-
 returns : tie.Need-returns
 returns c = c .handed-name .ensures ∙ ap handedName (c .before .value-name .ensures)
 
 pub oskuramos-value-name-spec : {M : Type 1} → statement M
-oskuramos-value-name-spec = tie.close (tie.spec value-name-requires handed-name-requires returns)
+oskuramos-value-name-spec = tie.close (tie.spec (λ c κs. search needs) (λ c κs. search needs) returns)

@@ -7,9 +7,6 @@ use borrow.Author.Needs.{needs}
 use Rattle.oskuramos.proofs.part_or.Statement.{statement}
 use Rattle.oskuramos.proofs.part_or.Tie as tie
 
-add-if1 : tie.Need-add-if1
-add-if1 c = search needs
-
 returns : tie.Need-returns
 unfolding partOr
 returns c = let a = c .before .args in sym (rw (lt-leb (a .start + a .length) (a .size) (omega arith)))
@@ -19,4 +16,4 @@ unfolding partOr
 returns-2 c = let a = c .before .args in sym (rw (le-leb (a .start + a .length) (a .size) (omega arith)))
 
 pub part-or-spec : {M : Type 1} → statement M
-part-or-spec = tie.close (tie.spec add-if1 returns returns-2)
+part-or-spec = tie.close (tie.spec (λ c. search needs) returns returns-2)
