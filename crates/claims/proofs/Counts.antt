@@ -1,4 +1,4 @@
--- Counts are the reading's.
+-- The counts of an answer are those of the reading, and on 0 the rows lent have room for it.
 use Prim.Native.Nat.{ℕ, _*_, _/_, _≤_}
 use native.Mathlib.Omega.{arith}
 use mathlib.Core.Path.{_≡_, refl, sym, ap, _∙_}
