@@ -60,7 +60,7 @@ returns-4 : tie.Need-returns-4
 returns-4 c = shown (exit-clash (counted (c .before .before .before)) (not-true _ (c .before .if4 .taken))) (c .refused4 .ensures)
 
 returns-5 : tie.Need-returns-5
-returns-5 c = shown (exit-many (passed (c .before .before .before)) (c .before .if5 .taken)) (c .refused5 .ensures)
+returns-5 c = shown (exit-many (passed (c .before .before .before)) (omega (arith, c .before .if5 .taken))) (c .refused5 .ensures)
 
 add-size-3 : tie.Need-add-size-3
 add-size-3 c =
@@ -75,7 +75,7 @@ returns-6 c =
     let else4 : tie.Else4 = search in
     let p = passed else4 in
     let l = size-is p (after-byte .byte .ensures .is) in
-    shown (exit-text p _ (else5 .if5 .left) ∙ no-room-exit _ _ (omega (arith, l, c .before .if6 .taken))) (c .refused6 .ensures)
+    shown (exit-text p _ (omega (arith, else5 .if5 .left)) ∙ no-room-exit _ _ (omega (arith, l, c .before .if6 .taken))) (c .refused6 .ensures)
 
 put-contents-requires : tie.Need-put-contents-requires
 put-contents-requires c κs =
@@ -107,7 +107,7 @@ returns-7 c =
     let l = size-is p (after-byte .byte .ensures .is) in
     let w = wrote-as (after-put-head .put-head .ensures ⨟ after-put-contents .put-contents .ensures ⨟ after-put-bodies .put-bodies .ensures) (parts-are p) in
     shown
-    (exit-text p _ (else5 .if5 .left) ∙ room-exit _ _ w (omega (arith, l, else6 .if6 .left)))
+    (exit-text p _ (omega (arith, else5 .if5 .left)) ∙ room-exit _ _ w (omega (arith, l, else6 .if6 .left)))
     (c .wrote .ensures ∙ ap (λ (n : ℕ). answer 0 n 0 0) l)
 
 pub join-spec : {M : Type 1} → statement M
