@@ -1,3 +1,4 @@
--- Laws of a larger Blob's listing; the public ones serve the program that prints it.
+-- Laws of a Blob's listing; the public ones serve the programs that print it.
 pub mod BlobLaws
 pub mod InputLaws
+pub mod Whole

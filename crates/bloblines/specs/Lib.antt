@@ -1,2 +1,3 @@
--- What the writer of a larger Blob's listing says.
+-- What the writers of a Blob's listing say.
 pub mod Blobs
+pub mod Listed

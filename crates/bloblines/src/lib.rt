@@ -1,90 +1,39 @@
-// The listing of a Blob behind its code table, read into lent rows and written whole into a lent buffer.
+// The listing of a Blob after its code table, read into rows and written whole into a lent buffer.
+use listing::Kind;
 use listing::refusal_line;
-ghost use Rattle.rules.specs.NameTables.{controlTypeNames};
-ghost use Rattle.rules.specs.Rows.{controlWidth, propertyWidth};
-ghost use Rattle.rules.specs.Listing.{controlLine, propertyLine};
-ghost use Rattle.names.specs.Lookup.{Lent, AllLent};
+use rows::CONTROL_WIDTH;
+use rows::PROPERTY_WIDTH;
+ghost use Rattle.names.specs.Lookup.{Lent};
 ghost use Rattle.text.specs.Writer.{Wrote};
-ghost use Rattle.listing.specs.Shown.{linesTo};
 ghost use Rattle.bloblines.specs.Blobs.{linesIn, listedIn, mostIn, Written};
+ghost use Rattle.bloblines.specs.Listed.{listed};
 
-// The C lines of the first `count` rows.
-fn control_lines(
-    out: &mut [u8],
-    at: usize,
-    rows: &[u32],
-    count: u32,
-    type_ids: &[u16],
-    type_rows: &[[u8; 26]],
-) -> usize
-    requires { ⌜ Lent controlTypeNames (now «type_ids») (now «type_rows») ⌝ }
-    ensures { λ r. ⌜ Wrote (now (out .entry)) at (linesTo controlLine controlWidth count (now (rows .entry))) (now (out .exit)) r ⌝ }
-{
-    let mut p = at;
-    let mut n = 0;
-    while n < count {
-        p = listing::control_line(out, p, rows, n, type_ids, type_rows);
-        n += 1;
-    }
-    p
-}
+// The longest Blob that is listed.
+const LONGEST_BLOB: usize = 4194304;
 
-// The P lines of the first `count` rows.
-fn property_lines<'a>(
-    out: &mut [u8],
-    at: usize,
-    stream: &[u8],
-    rows: &[u32],
-    count: u32,
-    text_ids: &[u16],
-    text_rows: &'a [[u8; 26]],
-    number_ids: &[u16],
-    number_rows: &'a [[u8; 26]],
-    bytes_ids: &[u16],
-    bytes_rows: &'a [[u8; 26]],
-) -> usize
-    requires { ⌜ AllLent (now «text_ids») (now «text_rows») (now «number_ids») (now «number_rows») (now «bytes_ids») (now «bytes_rows») ⌝ }
-    ensures { λ r. ⌜ Wrote (now (out .entry)) at (linesTo (propertyLine (now (stream .entry))) propertyWidth count (now (rows .entry))) (now (out .exit)) r ⌝ }
-{
-    let mut p = at;
-    let mut n = 0;
-    while n < count {
-        p = listing::property_line(
-            out,
-            p,
-            stream,
-            rows,
-            n,
-            text_ids,
-            text_rows,
-            number_ids,
-            number_rows,
-            bytes_ids,
-            bytes_rows,
-        );
-        n += 1;
-    }
-    p
-}
+// The longest input of document 01's program, and how many controls and properties that has room for.
+const LONGEST_INPUT: usize = 32768;
+
+const CONTROL_ROOM: usize = 256;
+
+const PROPERTY_ROOM: usize = 1024;
+
+// The answers to an input that is too long, and to one without a whole code table.
+const TOO_LONG: u32 = 5;
+
+const BAD_TABLE: u32 = 8;
 
 // Reads a Blob into the lent rows and writes its lines.
-fn blob_lines<'a>(
+fn blob_lines(
     table: &[u8],
     stream: &[u8],
     controls: &mut [u32],
     properties: &mut [u32],
-    text_ids: &[u16],
-    text_rows: &'a [[u8; 26]],
-    number_ids: &[u16],
-    number_rows: &'a [[u8; 26]],
-    bytes_ids: &[u16],
-    bytes_rows: &'a [[u8; 26]],
-    type_ids: &[u16],
-    type_rows: &'a [[u8; 26]],
+    index: &[u32],
+    letters: &[u8],
     out: &mut [u8],
 ) -> usize
-    requires { ⌜ AllLent (now «text_ids») (now «text_rows») (now «number_ids») (now «number_rows») (now «bytes_ids») (now «bytes_rows») ⌝ }
-    requires { ⌜ Lent controlTypeNames (now «type_ids») (now «type_rows») ⌝ }
+    requires { ⌜ Lent (now index) (now letters) ⌝ }
     ensures { λ r. ⌜ Written (now (out .entry)) (linesIn (now (table .entry)) (now (stream .entry)) (now (controls .entry)) (now (properties .entry))) (mostIn (now (controls .entry)) (now (properties .entry))) (now (out .exit)) r ⌝ }
 {
     let a = blob::read_blob(table, stream, controls, properties);
@@ -92,66 +41,81 @@ fn blob_lines<'a>(
     if a.number != 0 {
         return p;
     }
-    let p = control_lines(out, p, controls, a.first, type_ids, type_rows);
-    property_lines(
+    let p = listing::lines(
+        Kind::Control,
+        out,
+        p,
+        stream,
+        controls,
+        a.first,
+        index,
+        letters,
+    );
+    listing::lines(
+        Kind::Property,
         out,
         p,
         stream,
         properties,
         a.second,
-        text_ids,
-        text_rows,
-        number_ids,
-        number_rows,
-        bytes_ids,
-        bytes_rows,
+        index,
+        letters,
     )
 }
 
 // Writes the listing of an input from the start of `out` on, as far as there is room, and returns where it ends.
 // The input is the length of the code table, the code table, a Blob.
-pub fn write_listing<'a>(
+pub fn write_listing(
     input: &[u8],
     controls: &mut [u32],
     properties: &mut [u32],
-    text_ids: &[u16],
-    text_rows: &'a [[u8; 26]],
-    number_ids: &[u16],
-    number_rows: &'a [[u8; 26]],
-    bytes_ids: &[u16],
-    bytes_rows: &'a [[u8; 26]],
-    type_ids: &[u16],
-    type_rows: &'a [[u8; 26]],
+    index: &[u32],
+    letters: &[u8],
     out: &mut [u8],
 ) -> usize
-    requires { ⌜ AllLent (now «text_ids») (now «text_rows») (now «number_ids») (now «number_rows») (now «bytes_ids») (now «bytes_rows») ⌝ }
-    requires { ⌜ Lent controlTypeNames (now «type_ids») (now «type_rows») ⌝ }
+    requires { ⌜ Lent (now index) (now letters) ⌝ }
     ensures { λ r. ⌜ Written (now (out .entry)) (listedIn (now (input .entry)) (now (controls .entry)) (now (properties .entry))) (mostIn (now (controls .entry)) (now (properties .entry))) (now (out .exit)) r ⌝ }
 {
     if input.len() < 4 {
-        return refusal_line(out, 8);
+        return refusal_line(out, BAD_TABLE);
     }
     let size = leaf::u32_at(input, 0) as usize;
     if input.len() - 4 < size {
-        return refusal_line(out, 8);
+        return refusal_line(out, BAD_TABLE);
     }
     let start = 4 + size;
-    if 4194304 < input.len() - start {
-        return refusal_line(out, 5);
+    if LONGEST_BLOB < input.len() - start {
+        return refusal_line(out, TOO_LONG);
     }
     blob_lines(
         &input[4..start],
         &input[start..],
         controls,
         properties,
-        text_ids,
-        text_rows,
-        number_ids,
-        number_rows,
-        bytes_ids,
-        bytes_rows,
-        type_ids,
-        type_rows,
+        index,
+        letters,
         out,
     )
+}
+
+// The same in the room of document 01's program. `more` says that bytes came after the input, and is a refusal.
+pub fn write_form_listing(
+    input: &[u8],
+    more: bool,
+    index: &[u32],
+    letters: &[u8],
+    out: &mut [u8],
+) -> usize
+    requires { ⌜ Lent (now index) (now letters) ⌝ }
+    ensures { λ r. ⌜ Wrote (now (out .entry)) 0 (listed (now (input .entry)) more) (now (out .exit)) r ⌝ }
+{
+    if more {
+        return refusal_line(out, TOO_LONG);
+    }
+    if LONGEST_INPUT < input.len() {
+        return refusal_line(out, TOO_LONG);
+    }
+    let mut controls = [0; CONTROL_ROOM * CONTROL_WIDTH];
+    let mut properties = [0; PROPERTY_ROOM * PROPERTY_WIDTH];
+    write_listing(input, &mut controls, &mut properties, index, letters, out)
 }

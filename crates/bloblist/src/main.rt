@@ -1,4 +1,4 @@
-// Lists the Blob that standard input holds behind its code table, as `formlist` does, for larger Blobs.
+// Lists the Blob that standard input holds after its code table, as `formlist` does, for larger Blobs.
 use libc::STDIN_FILENO;
 use libc::STDOUT_FILENO;
 use rows::CONTROL_WIDTH;
@@ -44,7 +44,7 @@ fn large_lines() -> [u8; 26017843]
     [0; 26017843]
 }
 
-// Prints the listing of standard input, of which `input` was read and `more` tells whether bytes came behind it.
+// Prints the listing of standard input, of which `input` was read and `more` tells whether bytes came after it.
 fn print(input: &[u8], more: bool, listed: &[u8])
     requires { ⌜ ((whole : List ℕ) → Begun (now input) more whole → now listed ≡ blobListing whole) ⌝ }
 {
@@ -59,32 +59,13 @@ fn refuse(input: &[u8])
     print(input, true, &out[..end]);
 }
 
-// Writes the listing with the names of the name tables.
+// Writes the listing with the names of the directory.
 fn write(input: &[u8], controls: &mut [u32], properties: &mut [u32], out: &mut [u8]) -> usize
     ensures { λ r. ⌜ Written (now (out .entry)) (listedIn (now (input .entry)) (now (controls .entry)) (now (properties .entry))) (mostIn (now (controls .entry)) (now (properties .entry))) (now (out .exit)) r ⌝ }
 {
-    let text_ids = nametables::text_ids();
-    let text_rows = nametables::text_rows();
-    let number_ids = nametables::number_ids();
-    let number_rows = nametables::number_rows();
-    let bytes_ids = nametables::bytes_ids();
-    let bytes_rows = nametables::bytes_rows();
-    let type_ids = nametables::control_type_ids();
-    let type_rows = nametables::control_type_rows();
-    bloblines::write_listing(
-        input,
-        controls,
-        properties,
-        &text_ids,
-        &text_rows,
-        &number_ids,
-        &number_rows,
-        &bytes_ids,
-        &bytes_rows,
-        &type_ids,
-        &type_rows,
-        out,
-    )
+    let index = nametables::index();
+    let letters = nametables::letters();
+    bloblines::write_listing(input, controls, properties, &index, &letters, out)
 }
 
 fn list(input: &[u8], controls: &mut [u32], properties: &mut [u32], out: &mut [u8])
@@ -104,7 +85,7 @@ fn list_small(input: &[u8])
     list(input, &mut controls, &mut properties, &mut out);
 }
 
-// Of a longer input `head` is the start; `more` says that it is the longest that is read, and that bytes came behind it.
+// Of a longer input `head` is the start; `more` says that it is the longest that is read, and that bytes came after it.
 // As it calls itself it is compiled apart, so that no shorter input needs its stack of 37 MB.
 fn list_large(head: &[u8], more: bool)
     requires { ⌜ (more ≡ true → longestInput ≤ length (now head)) ⌝ }

@@ -5,7 +5,7 @@ use Rattle.rules.specs.Lists.{text}
 use Rattle.rules.specs.Bytes.{part}
 use Rattle.rules.specs.Listing.{word, markWord, valueColumn}
 
--- the first fields of a line, a blank behind each
+-- the first fields of a line, a blank after each
 abbrev pub fields : List (List ℕ) → List ℕ
 fields [] = []
 fields (a ∷ r) = a ++ (text " " ++ fields r)

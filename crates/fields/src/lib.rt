@@ -1,4 +1,4 @@
-// The fields of a line. Each is written into a lent buffer; the place behind it is returned.
+// The fields of a line. Each is written into a lent buffer; the place after it is returned.
 use rules::Property;
 use text::put_byte;
 use text::put_decimal;
@@ -15,7 +15,7 @@ ghost use Rattle.rules.specs.NameTables.{controlTypeNames};
 ghost use Rattle.rules.specs.Names.{nameIn, namesFor};
 ghost use Rattle.rules.specs.Reading.{propertyRow};
 ghost use Rattle.rules.specs.Listing.{orDash, nameColumn};
-ghost use Rattle.names.specs.Lookup.{Lent, AllLent};
+ghost use Rattle.names.specs.Lookup.{Lent};
 ghost use Rattle.text.specs.Writer.{Wrote};
 ghost use Rattle.fields.specs.Parts.{fields, shownFields};
 
@@ -26,7 +26,7 @@ pub fn put_end(out: &mut [u8], at: usize) -> usize
     put_byte(out, at, b'\n')
 }
 
-// What both kinds of row begin with: a letter, the row's number, its first word in hex; a blank behind each.
+// What both kinds of row begin with: a letter, the row's number, its first word in hex; a blank after each.
 pub fn put_head(out: &mut [u8], at: usize, letter: u8, n: u32, code: u32) -> usize
     ensures { λ r. ⌜ Wrote (now (out .entry)) at (fields ((letter ∷ []) ∷ decimal n ∷ hex 4 code ∷ [])) (now (out .exit)) r ⌝ }
 {
@@ -49,45 +49,35 @@ fn put_name(out: &mut [u8], at: usize, name: &[u8]) -> usize
 }
 
 // No table has an id of more than 16 bits.
-pub fn put_type_name(out: &mut [u8], at: usize, ids: &[u16], rows: &[[u8; 26]], code: u32) -> usize
-    requires { ⌜ Lent controlTypeNames (now ids) (now rows) ⌝ }
+pub fn put_type_name(out: &mut [u8], at: usize, index: &[u32], letters: &[u8], code: u32) -> usize
+    requires { ⌜ Lent (now index) (now letters) ⌝ }
     ensures { λ r. ⌜ Wrote (now (out .entry)) at (orDash (nameIn controlTypeNames code)) (now (out .exit)) r ⌝ }
 {
     if 0xffff < code {
         return put_byte(out, at, b'-');
     }
-    put_name(out, at, names::name_in(ids, rows, code as u16))
+    put_name(out, at, names::type_name_in(index, letters, code as u16))
 }
 
-pub fn put_value_name<'a>(
+pub fn put_value_name(
     out: &mut [u8],
     at: usize,
-    text_ids: &[u16],
-    text_rows: &'a [[u8; 26]],
-    number_ids: &[u16],
-    number_rows: &'a [[u8; 26]],
-    bytes_ids: &[u16],
-    bytes_rows: &'a [[u8; 26]],
+    index: &[u32],
+    letters: &[u8],
     mark: u32,
     id: u32,
 ) -> usize
-    requires { ⌜ AllLent (now «text_ids») (now «text_rows») (now «number_ids») (now «number_rows») (now «bytes_ids») (now «bytes_rows») ⌝ }
+    requires { ⌜ Lent (now index) (now letters) ⌝ }
     ensures { λ r. ⌜ Wrote (now (out .entry)) at (orDash (nameIn (namesFor mark) id)) (now (out .exit)) r ⌝ }
 {
     if 0xffff < id {
         return put_byte(out, at, b'-');
     }
-    let name = names::value_name_in(
-        text_ids,
-        text_rows,
-        number_ids,
-        number_rows,
-        bytes_ids,
-        bytes_rows,
-        mark,
-        id as u16,
-    );
-    put_name(out, at, name)
+    put_name(
+        out,
+        at,
+        names::value_name_in(index, letters, mark, id as u16),
+    )
 }
 
 // How many characters a control's name has; a control without one is numbered.

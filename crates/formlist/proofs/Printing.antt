@@ -11,7 +11,7 @@ use Rattle.text.specs.Writer.{Wrote}
 use Rattle.listing.specs.Bound.{longestIn, longestType, longestName, longestListing}
 use Rattle.listing.proofs.Placed.{held}
 use Rattle.listing.proofs.Printed.{listing-long}
-use Rattle.lister.specs.Listed.{listed}
+use Rattle.bloblines.specs.Listed.{listed}
 use Rattle.inputs.specs.Begun.{Begun, whole, longer}
 use Rattle.listbound.proofs.Bounded.{listing-bounded}
 

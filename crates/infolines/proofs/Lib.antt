@@ -1,5 +1,3 @@
 -- Laws of a TypeInfo stream's listing; the public ones serve the program that prints it.
-pub mod NameLaws
-pub mod LineLaws
 pub mod Printed
 pub mod Longest

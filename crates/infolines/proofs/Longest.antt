@@ -20,7 +20,8 @@ use Rattle.typeinfo.proofs.NulLaws.{name-within, next-within}
 use Rattle.typeinfo.proofs.EntryLaws.{inside}
 use Rattle.listing.specs.Bound.{longestIn, longestType, longestAnswer}
 use Rattle.listing.proofs.Longest.{Word32, type-short, decimal-short, hex-length, answer-short}
-use Rattle.infolines.specs.Infos.{isShown, nameByte, nameBytes, infoLine, infoPrinted, infoMost}
+use Rattle.infolines.specs.Infos.{infoPrinted, infoMost}
+use Rattle.listing.specs.InfoLine.{isShown, nameByte, nameBytes, infoLine}
 use Rattle.infolines.proofs.Printed.{decide, read, many}
 
 -- ---- a line

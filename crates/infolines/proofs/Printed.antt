@@ -21,7 +21,8 @@ use Rattle.typeinfo.specs.Entries.{reportedAt}
 use Rattle.typeinfo.proofs.EntryLaws.{at-most}
 use Rattle.listing.specs.Shown.{linesTo}
 use Rattle.listing.proofs.Printed.{lines-written}
-use Rattle.infolines.specs.Infos.{infoLine, infoPrinted, longestInfo, infoListing}
+use Rattle.infolines.specs.Infos.{infoPrinted, longestInfo, infoListing}
+use Rattle.listing.specs.InfoLine.{infoLine}
 
 -- ---- answers
 -- an answer by the tests of its definition, of which n entries are reported

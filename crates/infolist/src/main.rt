@@ -31,7 +31,7 @@ fn large_lines() -> [u8; 33554483]
     [0; 33554483]
 }
 
-// Prints the listing of standard input, of which `input` was read and `more` tells whether bytes came behind it.
+// Prints the listing of standard input, of which `input` was read and `more` tells whether bytes came after it.
 fn print(input: &[u8], more: bool, listed: &[u8])
     requires { ⌜ ((whole : List ℕ) → Begun (now input) more whole → now listed ≡ infoListing whole) ⌝ }
 {
@@ -49,9 +49,9 @@ fn refuse(input: &[u8])
 fn list(input: &[u8], rows: &mut [u32], out: &mut [u8])
     requires { ⌜ Roomy (now input) (now rows) (now out) ⌝ }
 {
-    let type_ids = nametables::control_type_ids();
-    let type_names = nametables::control_type_rows();
-    let end = infolines::write_infos(input, rows, &type_ids, &type_names, out);
+    let index = nametables::index();
+    let letters = nametables::letters();
+    let end = infolines::write_infos(input, rows, &index, &letters, out);
     print(input, false, &out[..end]);
 }
 
@@ -63,7 +63,7 @@ fn list_small(input: &[u8])
     list(input, &mut rows, &mut out);
 }
 
-// Of a longer stream `head` is the start; `more` says that it is the longest that is read, and that bytes came behind it.
+// Of a longer stream `head` is the start; `more` says that it is the longest that is read, and that bytes came after it.
 // As it calls itself it is compiled apart, so that no shorter stream needs its stack of 46 MB.
 fn list_large(head: &[u8], more: bool)
     requires { ⌜ (more ≡ true → longestInfo ≤ length (now head)) ⌝ }

@@ -1,3 +1,4 @@
 -- What the writers of the listing say.
+pub mod InfoLine
 pub mod Shown
 pub mod Bound

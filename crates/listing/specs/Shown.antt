@@ -3,9 +3,22 @@ use Prim.Native.Nat.{ℕ, zero, suc}
 use mathlib.Core.Bool.{cond}
 use mathlib.Core.List.{List, [], _++_}
 use lib.Dec.{eqb}
-use Rattle.rules.specs.Rows.{controlWidth, propertyWidth, rowAt}
+use Rattle.rules.specs.Rows.{controlWidth, propertyWidth, typeInfoWidth, rowAt}
 use Rattle.rules.specs.Blob.{Exit}
 use Rattle.rules.specs.Listing.{answerLine, controlLine, propertyLine}
+use Rattle.listing.specs.InfoLine.{infoLine}
+use Rattle.listing.specs.declared.Kind.{Kind}
+
+-- ---- by what the rows are of
+abbrev pub lineOf : Kind → List ℕ → ℕ → List ℕ → List ℕ
+lineOf Kind.Control stream = controlLine
+lineOf Kind.Property stream = propertyLine stream
+lineOf Kind.Info stream = infoLine stream
+
+abbrev pub widthOf : Kind → ℕ
+widthOf Kind.Control = controlWidth
+widthOf Kind.Property = propertyWidth
+widthOf Kind.Info = typeInfoWidth
 
 -- the lines of the first k rows of a slice, each `width` words wide
 unfoldable pub linesTo : (ℕ → List ℕ → List ℕ) → ℕ → ℕ → List ℕ → List ℕ

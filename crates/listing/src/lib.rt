@@ -1,4 +1,4 @@
-// The lines of the listing. Each is written into a lent buffer at a place; the place behind it is returned.
+// The lines of the listings. Each is written into a lent buffer at a place; the place after it is returned.
 use fields::put_chars;
 use fields::put_end;
 use fields::put_head;
@@ -6,17 +6,22 @@ use fields::put_shown;
 use fields::put_type_name;
 use fields::put_value_name;
 use rows::get_control;
+use rows::get_info;
 use rows::get_property;
 use rules::Answer;
 use text::put_byte;
 use text::put_decimal;
+use text::put_hex;
 use text::put_text;
+use values::value_bytes;
+ghost use mathlib.Core.Path.{_≡_};
 ghost use Rattle.rules.specs.Answer.{refusal};
-ghost use Rattle.rules.specs.NameTables.{controlTypeNames};
-ghost use Rattle.rules.specs.Rows.{controlWidth, propertyWidth, rowAt};
-ghost use Rattle.rules.specs.Listing.{answerLine, controlLine, propertyLine};
-ghost use Rattle.names.specs.Lookup.{Lent, AllLent};
+ghost use Rattle.rules.specs.Rows.{controlWidth, propertyWidth, typeInfoWidth, rowAt};
+ghost use Rattle.rules.specs.Listing.{orDash, answerLine, controlLine, propertyLine};
+ghost use Rattle.names.specs.Lookup.{Lent};
 ghost use Rattle.text.specs.Writer.{Wrote};
+ghost use Rattle.listing.specs.InfoLine.{isShown, nameByte, nameBytes, infoLine};
+ghost use Rattle.listing.specs.Shown.{lineOf, widthOf, linesTo};
 
 pub fn answer_line(out: &mut [u8], at: usize, a: Answer) -> usize
     ensures { λ r. ⌜ Wrote (now (out .entry)) at (answerLine a) (now (out .exit)) r ⌝ }
@@ -49,21 +54,21 @@ pub fn refusal_line(out: &mut [u8], number: u32) -> usize
     )
 }
 
-// The C line of control row `n`. The names of control types are lent.
-pub fn control_line(
+// The C line of control row `n`. The directory of names is lent.
+fn control_line(
     out: &mut [u8],
     at: usize,
     rows: &[u32],
     n: u32,
-    type_ids: &[u16],
-    type_names: &[[u8; 26]],
+    index: &[u32],
+    letters: &[u8],
 ) -> usize
-    requires { ⌜ Lent controlTypeNames (now «type_ids») (now «type_names») ⌝ }
+    requires { ⌜ Lent (now index) (now letters) ⌝ }
     ensures { λ r. ⌜ Wrote (now (out .entry)) at (controlLine n (rowAt controlWidth n (now (rows .entry)))) (now (out .exit)) r ⌝ }
 {
     let row = get_control(rows, n);
     let p = put_head(out, at, b'C', n, row.type_code);
-    let p = put_type_name(out, p, type_ids, type_names, row.type_code);
+    let p = put_type_name(out, p, index, letters, row.type_code);
     let p = put_byte(out, p, b' ');
     let p = put_chars(out, p, row.mark, row.size);
     let p = put_byte(out, p, b' ');
@@ -73,39 +78,146 @@ pub fn control_line(
     put_end(out, p)
 }
 
-// The P line of property row `n`. The names of values are lent.
-pub fn property_line<'a>(
+// The P line of property row `n`.
+fn property_line(
     out: &mut [u8],
     at: usize,
     stream: &[u8],
     rows: &[u32],
     n: u32,
-    text_ids: &[u16],
-    text_names: &'a [[u8; 26]],
-    number_ids: &[u16],
-    number_names: &'a [[u8; 26]],
-    bytes_ids: &[u16],
-    bytes_names: &'a [[u8; 26]],
+    index: &[u32],
+    letters: &[u8],
 ) -> usize
-    requires { ⌜ AllLent (now «text_ids») (now «text_names») (now «number_ids») (now «number_names») (now «bytes_ids») (now «bytes_names») ⌝ }
+    requires { ⌜ Lent (now index) (now letters) ⌝ }
     ensures { λ r. ⌜ Wrote (now (out .entry)) at (propertyLine (now (stream .entry)) n (rowAt propertyWidth n (now (rows .entry)))) (now (out .exit)) r ⌝ }
 {
     let row = get_property(rows, n);
     let v = row.value;
     let p = put_head(out, at, b'P', n, row.id);
-    let p = put_value_name(
-        out,
-        p,
-        text_ids,
-        text_names,
-        number_ids,
-        number_names,
-        bytes_ids,
-        bytes_names,
-        v.mark,
-        row.id,
-    );
+    let p = put_value_name(out, p, index, letters, v.mark, row.id);
     let p = put_byte(out, p, b' ');
     let p = put_shown(out, p, stream, row);
     put_end(out, p)
+}
+
+// ---- the names of a TypeInfo stream
+fn is_shown(b: u8) -> bool
+    ensures { λ r. ⌜ r ≡ isShown b ⌝ }
+{
+    if b < 0x20 {
+        return false;
+    }
+    if 0x7e < b {
+        return false;
+    }
+    b != b'\\'
+}
+
+fn put_name_byte(out: &mut [u8], at: usize, b: u8) -> usize
+    ensures { λ r. ⌜ Wrote (now (out .entry)) at (nameByte b) (now (out .exit)) r ⌝ }
+{
+    if is_shown(b) {
+        return put_byte(out, at, b);
+    }
+    let p = put_byte(out, at, b'\\');
+    put_hex(out, p, 2, b as u32)
+}
+
+fn put_name_bytes(out: &mut [u8], at: usize, s: &[u8]) -> usize
+    ensures { λ r. ⌜ Wrote (now (out .entry)) at (nameBytes (now (s .entry))) (now (out .exit)) r ⌝ }
+{
+    let mut o = at;
+    let mut i = 0;
+    while i < s.len() {
+        o = put_name_byte(out, o, s[i]);
+        i += 1;
+    }
+    o
+}
+
+fn put_name(out: &mut [u8], at: usize, s: &[u8]) -> usize
+    ensures { λ r. ⌜ Wrote (now (out .entry)) at (orDash (nameBytes (now (s .entry)))) (now (out .exit)) r ⌝ }
+{
+    if s.len() == 0 {
+        put_byte(out, at, b'-')
+    } else {
+        put_name_bytes(out, at, s)
+    }
+}
+
+// The T line of TypeInfo row `n`.
+fn info_line(
+    out: &mut [u8],
+    at: usize,
+    stream: &[u8],
+    rows: &[u32],
+    n: u32,
+    index: &[u32],
+    letters: &[u8],
+) -> usize
+    requires { ⌜ Lent (now index) (now letters) ⌝ }
+    ensures { λ r. ⌜ Wrote (now (out .entry)) at (infoLine (now (stream .entry)) n (rowAt typeInfoWidth n (now (rows .entry)))) (now (out .exit)) r ⌝ }
+{
+    let row = get_info(rows, n);
+    let name = value_bytes(stream, row.start, row.size);
+    let p = put_head(out, at, b'T', n, row.type_code);
+    let p = put_type_name(out, p, index, letters, row.type_code);
+    let p = put_byte(out, p, b' ');
+    let p = put_decimal(out, p, row.index);
+    let p = put_byte(out, p, b' ');
+    let p = put_decimal(out, p, row.size);
+    let p = put_byte(out, p, b' ');
+    let p = put_name(out, p, name);
+    put_end(out, p)
+}
+
+// ---- the lines of rows
+// What the rows are of.
+pub enum Kind {
+    Control,
+    Property,
+    Info,
+}
+
+fn line(
+    kind: Kind,
+    out: &mut [u8],
+    at: usize,
+    stream: &[u8],
+    rows: &[u32],
+    n: u32,
+    index: &[u32],
+    letters: &[u8],
+) -> usize
+    requires { ⌜ Lent (now index) (now letters) ⌝ }
+    ensures { λ r. ⌜ Wrote (now (out .entry)) at (lineOf kind (now (stream .entry)) n (rowAt (widthOf kind) n (now (rows .entry)))) (now (out .exit)) r ⌝ }
+{
+    match kind {
+        Kind::Control => control_line(out, at, rows, n, index, letters),
+        Kind::Property => property_line(out, at, stream, rows, n, index, letters),
+        Kind::Info => info_line(out, at, stream, rows, n, index, letters),
+    }
+}
+
+// The lines of the first `count` rows.
+pub fn lines(
+    kind: Kind,
+    out: &mut [u8],
+    at: usize,
+    stream: &[u8],
+    rows: &[u32],
+    count: u32,
+    index: &[u32],
+    letters: &[u8],
+) -> usize
+    requires { ⌜ Lent (now index) (now letters) ⌝ }
+    ensures { λ r. ⌜ Wrote (now (out .entry)) at (linesTo (lineOf kind (now (stream .entry))) (widthOf kind) count (now (rows .entry))) (now (out .exit)) r ⌝ }
+{
+    let mut p = at;
+    let mut n = 0;
+    while n < count {
+        p = line(kind, out, p, stream, rows, n, index, letters);
+        n += 1;
+    }
+    p
 }

@@ -30,11 +30,13 @@ rising n (x ∷ s) t (suc p) (suc q) l h =
     rising (x + 1) s (right (leb n x) (ascends (x + 1) s) t) p q (le-of-suc-le-suc l) (le-of-suc-le-suc h)
 
 pub record Bracket (s : List ℕ) (x lo hi : ℕ) : Type 0 where
+  pub ordered : lo ≤ hi
+  pub inside : hi ≤ length s
   pub below : (k : ℕ) → k < lo → getD s k 0 < x
   pub above : (k : ℕ) → hi ≤ k → k < length s → x < getD s k 0
 
 pub start : (s : List ℕ) (x : ℕ) → Bracket s x 0 (length s)
-start s x = record { below = λ k h. absurd (omega arith); above = λ k h l. absurd (omega arith) }
+start s x = record { ordered = omega arith; inside = omega arith; below = λ k h. absurd (omega arith); above = λ k h l. absurd (omega arith) }
 
 placed-from : (s : List ℕ) (x i : ℕ) → i < length s → getD s i 0 ≡ x → ((j : ℕ) → j < i → getD s j 0 ≡ x → ⊥) → i ≡ placeIn s x
 unfolding placeIn
@@ -56,8 +58,8 @@ module _ (s : List ℕ) (x mid : ℕ) (asc : T (ascends 0 s)) (inside : mid < le
       let i : mid ≡ k = omega arith in
       subst (λ (n : ℕ). getD s n 0 < x) i h
 
-  pub up : {lo hi : ℕ} → Bracket s x lo hi → getD s mid 0 < x → Bracket s x (mid + 1) hi
-  up b h = record { below = λ k g. up-by h k g (ltb k mid) refl; above = b .above }
+  pub up : {lo hi : ℕ} → mid < hi → Bracket s x lo hi → getD s mid 0 < x → Bracket s x (mid + 1) hi
+  up l b h = record { ordered = omega arith; inside = b .inside; below = λ k g. up-by h k g (ltb k mid) refl; above = b .above }
 
   down-by : x < getD s mid 0 → (k : ℕ) → mid ≤ k → k < length s → (b : Bool) → ltb mid k ≡ b → x < getD s k 0
   down-by h k l m true e = omega (arith, rising 0 s asc mid k (ltb-true mid k e) m)
@@ -66,8 +68,8 @@ module _ (s : List ℕ) (x mid : ℕ) (asc : T (ascends 0 s)) (inside : mid < le
       let i : mid ≡ k = omega arith in
       subst (λ (n : ℕ). x < getD s n 0) i h
 
-  pub down : {lo hi : ℕ} → Bracket s x lo hi → x < getD s mid 0 → Bracket s x lo mid
-  down b h = record { below = b .below; above = λ k m n. down-by h k m n (ltb mid k) refl }
+  pub down : {lo hi : ℕ} → lo ≤ mid → Bracket s x lo hi → x < getD s mid 0 → Bracket s x lo mid
+  down l b h = record { ordered = l; inside = omega arith; below = b .below; above = λ k m n. down-by h k m n (ltb mid k) refl }
 
   -- nothing before `mid` is x
   pub placed : getD s mid 0 ≡ x → mid ≡ placeIn s x

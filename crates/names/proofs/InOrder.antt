@@ -1,21 +1,40 @@
--- The four tables keep the tables' rule: each is computed once, here.
-use lib.Dec.{T}
-use Rattle.rules.specs.Lists.{all, ascends}
-use Rattle.rules.specs.NameTables.{textNames, numberNames, bytesNames, controlTypeNames}
-use Rattle.names.specs.Lookup.{right}
+-- The four tables in the directory: that each stands there in order is computed once, here.
+use mathlib.Core.Path.{_≡_, refl}
+use Prim.Native.Nat.{ℕ, _+_}
+use lib.Dec.{leb→le}
+use lib.ListN.{length}
+use Rattle.rules.specs.Lists.{ascends}
+use Rattle.rules.specs.NameTables.{Table, textNames, numberNames, bytesNames, controlTypeNames}
+use Rattle.nametables.specs.Directory.{allNames}
+use Rattle.names.specs.Lookup.{Stand, rowsIn}
 
-pub texts : T (right textNames)
-unfolding right all ascends textNames
-texts = tt
+-- a table's rows are those from `from` to `to`
+pub record Rows (from to : ℕ) (table : Table) : Type 0 where
+  pub stand : Stand from to
+  pub are : rowsIn from to ≡ table
 
-pub numbers : T (right numberNames)
-unfolding right all ascends numberNames
-numbers = tt
+-- ---- where each begins
+abbrev numbers-from : ℕ
+numbers-from = length textNames
 
-pub bytes : T (right bytesNames)
-unfolding right all ascends bytesNames
-bytes = tt
+abbrev bytes-from : ℕ
+bytes-from = numbers-from + length numberNames
 
-pub control-types : T (right controlTypeNames)
-unfolding right all ascends controlTypeNames
-control-types = tt
+abbrev types-from : ℕ
+types-from = bytes-from + length bytesNames
+
+pub texts : Rows 0 numbers-from textNames
+unfolding allNames ascends textNames numberNames bytesNames controlTypeNames
+texts = record { stand = record { ordered = leb→le _ _ tt; inside = leb→le _ _ tt; ascending = tt }; are = refl }
+
+pub numbers : Rows numbers-from bytes-from numberNames
+unfolding allNames ascends textNames numberNames bytesNames controlTypeNames
+numbers = record { stand = record { ordered = leb→le _ _ tt; inside = leb→le _ _ tt; ascending = tt }; are = refl }
+
+pub bytes : Rows bytes-from types-from bytesNames
+unfolding allNames ascends textNames numberNames bytesNames controlTypeNames
+bytes = record { stand = record { ordered = leb→le _ _ tt; inside = leb→le _ _ tt; ascending = tt }; are = refl }
+
+pub control-types : Rows types-from (length allNames) controlTypeNames
+unfolding allNames ascends textNames numberNames bytesNames controlTypeNames
+control-types = record { stand = record { ordered = leb→le _ _ tt; inside = leb→le _ _ tt; ascending = tt }; are = refl }

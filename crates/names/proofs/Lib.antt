@@ -1,6 +1,7 @@
+-- Laws of look-up; what is said of the lent directory stands in Directory and InOrder alone.
 pub mod Both
-pub mod Zeros
 pub mod Bracket
-pub mod Rows
+pub mod Directory
 pub mod Marks
 pub mod InOrder
+pub mod ByValue

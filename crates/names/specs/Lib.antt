@@ -1,1 +1,2 @@
+-- What the look-ups say.
 pub mod Lookup

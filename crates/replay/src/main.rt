@@ -139,27 +139,9 @@ fn replay_names(id: u32, out: &mut [u8]) {
 }
 
 fn replay_listing(input: &[u8], out: &mut [u8]) {
-    let text_ids = nametables::text_ids();
-    let text_rows = nametables::text_rows();
-    let number_ids = nametables::number_ids();
-    let number_rows = nametables::number_rows();
-    let bytes_ids = nametables::bytes_ids();
-    let bytes_rows = nametables::bytes_rows();
-    let type_ids = nametables::control_type_ids();
-    let type_rows = nametables::control_type_rows();
-    let end = lister::write_listing(
-        input,
-        false,
-        &text_ids,
-        &text_rows,
-        &number_ids,
-        &number_rows,
-        &bytes_ids,
-        &bytes_rows,
-        &type_ids,
-        &type_rows,
-        out,
-    );
+    let index = nametables::index();
+    let letters = nametables::letters();
+    let end = bloblines::write_form_listing(input, false, &index, &letters, out);
     io::write_all(STDOUT_FILENO, front(out, end));
 }
 

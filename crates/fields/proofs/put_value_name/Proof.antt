@@ -6,10 +6,15 @@ use Rattle.fields.proofs.put_value_name.Statement.{statement}
 use Rattle.fields.proofs.put_value_name.Tie as tie
 
 returns : tie.Need-returns
-returns c = let a = c .before .before .before .before .before .before .before .before .before .args in rw (dash (namesFor (a .mark)) (values (a .mark)) (a .id) (omega arith)) (c .before .before .put-byte .ensures)
+returns c =
+    let start : tie.Start = search in
+    let a = start .args in
+    rw (dash (namesFor (a .mark)) (values (a .mark)) (a .id) (omega arith)) (c .before .before .put-byte .ensures)
 
 returns-2 : tie.Need-returns-2
-returns-2 c = rw (c .before .before .before .before .value-name-in .ensures) at (c .before .before .put-name .ensures)
+returns-2 c =
+    let after-value-name-in : tie.After-value-name-in = search in
+    rw (after-value-name-in .value-name-in .ensures) at (c .before .before .put-name .ensures)
 
 pub put-value-name-spec : {M : Type 1} → statement M
 put-value-name-spec =

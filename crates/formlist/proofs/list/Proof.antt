@@ -8,16 +8,19 @@ use Rattle.formlist.proofs.list.Statement.{statement}
 use Rattle.formlist.proofs.list.Tie as tie
 
 slice-reshare-prefix-print : tie.Need-slice-reshare-prefix-print
-slice-reshare-prefix-print c = within (c .before .before .write-listing .ensures)
+slice-reshare-prefix-print c = within (c .before .before .write-form-listing .ensures)
 
 slice-aggregate-print : tie.Need-slice-aggregate-print
-slice-aggregate-print c = let w = c .before .before .before .write-listing in sym (length-take-le (w .result) _ (within (w .ensures)))
+slice-aggregate-print c = let w = c .before .before .before .write-form-listing in sym (length-take-le (w .result) _ (within (w .ensures)))
 
 print-requires : tie.Need-print-requires
 print-requires c κs =
-    let p = c .before .before .before .before .before .before .before .before .before .before .before .before .before .before .before .before .before .pre .1 .1 in
-    let r = c .before .before .before .before .before .before .before .before .before .read-full in
-    all-printed (c .before .before .before .write-listing .ensures) (p .1) λ e. omega (arith, c .before .before .before .before .before .before .has-more .ensures e, r .ensures .1, r .kept, p .0)
+    let asked : tie.After-has-more = search in
+    let read : tie.After-read-full = search in
+    let start : tie.Start = search in
+    let room = start .pre .1 in
+    let r = read .read-full in
+    all-printed (c .before .before .before .write-form-listing .ensures) (room .for-lines) λ e. omega (arith, asked .has-more .ensures e, r .ensures .1, r .kept, room .for-input)
 
 pub list-spec : {M : Type 1} → statement M
 list-spec =

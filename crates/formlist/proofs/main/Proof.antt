@@ -2,35 +2,22 @@ use Prim.Native.Nat.{ℕ}
 use native.Mathlib.Omega.{arith}
 use borrow.Author.Needs.{needs}
 use lib.ListN.{length-replicate}
-use Rattle.names.proofs.InOrder.{texts, numbers, bytes, control-types}
 use Rattle.formlist.proofs.Printing.{bound}
 use Rattle.formlist.proofs.main.Statement.{statement}
 use Rattle.formlist.proofs.main.Tie as tie
 
 list-requires : tie.Need-list-requires
 list-requires c κs =
-    let t = c .before .before .before .before .before .before .before .before .before .before in
-    let b = t .before .before in
-    let n = b .before .before in
-    let x = n .before .before in (
-      record {
-        texts = record { in-order = texts; ids-are = x .before .text-ids .ensures; rows-are = x .text-rows .ensures };
-        numbers = record { in-order = numbers; ids-are = n .before .number-ids .ensures; rows-are = n .number-rows .ensures };
-        bytes = record { in-order = bytes; ids-are = b .before .bytes-ids .ensures; rows-are = b .bytes-rows .ensures };
-      },
-      (
-        record { in-order = control-types; ids-are = t .before .control-type-ids .ensures; rows-are = t .control-type-rows .ensures },
-        (length-replicate {A = ℕ} 32768 0, simp length-replicate (omega (arith, bound))),
-      ),
+    let spelled : tie.After-letters = search in
+    let indexed : tie.After-index = search in (
+      record { index-is = indexed .index .ensures; letters-are = spelled .letters .ensures },
+      record { for-input = length-replicate {A = ℕ} 32768 0; for-lines = simp length-replicate (omega (arith, bound)) },
     )
 
 pub main-spec : {M : Type 1} → statement M
 main-spec =
     tie.close
     (tie.spec
-    (λ c κs. search needs) (λ c κs. search needs) (λ c κs. search needs) (λ c κs. search needs) (λ c κs. search needs)
-    (λ c κs. search needs) (λ c κs. search needs) (λ c κs. search needs) (λ c. search needs) (λ c. search needs)
-    (λ c. search needs) (λ c. search needs) (λ c. search needs) (λ c. search needs) (λ c. search needs) (λ c. search needs)
-    (λ c. search needs) (λ c. search needs)
+    (λ c κs. search needs) (λ c κs. search needs) (λ c. search needs) (λ c. search needs) (λ c. search needs) (λ c. search needs)
     list-requires
     (λ c. search needs))

@@ -6,19 +6,23 @@ use Rattle.infolines.proofs.write_infos.Tie as tie
 
 returns : tie.Need-returns
 returns c =
-    let w = c .before .before .before .before in
-    let r = w .before .before .before .before in
-    let a = r .before .before .before .before .before .before .args in
-    refused (a .stream .now) (a .rows .now) (r .read-type-info .result) (r .read-type-info .ensures .0) (w .answer-line .ensures) (λ e. omega arith)
+    let answered : tie.After-answer-line = search in
+    let read : tie.After-read-type-info = search in
+    let start : tie.Start = search in
+    let a = start .args in
+    let r = read .read-type-info in
+    refused (a .stream .now) (a .rows .now) (r .result) (r .ensures .0) (answered .answer-line .ensures) (λ e. omega arith)
 
 returns-2 : tie.Need-returns-2
 returns-2 c =
-    let l = c .before .before in
-    let w = l .before .before .before .before .before .before .before in
-    let r = w .before .before .before .before in
-    let a = r .before .before .before .before .before .before .args in
-    wrote-all (a .stream .now) (a .rows .now) (r .read-type-info .result) (r .read-type-info .ensures .0) (w .answer-line .ensures)
-    (omega (arith, l .before .before .before .if1 .left)) _ (r .read-type-info .ensures .1) (l .info-lines .ensures)
+    let taken : tie.Else1 = search in
+    let answered : tie.After-answer-line = search in
+    let read : tie.After-read-type-info = search in
+    let start : tie.Start = search in
+    let a = start .args in
+    let r = read .read-type-info in
+    wrote-all (a .stream .now) (a .rows .now) (r .result) (r .ensures .0) (answered .answer-line .ensures)
+    (omega (arith, taken .if1 .left)) _ (r .ensures .1) (c .before .before .lines .ensures)
 
 pub write-infos-spec : {M : Type 1} → statement M
 write-infos-spec =

@@ -5,30 +5,40 @@ use Rattle.listing.proofs.Rows.{control-wrote}
 use Rattle.listing.proofs.control_line.Statement.{statement}
 use Rattle.listing.proofs.control_line.Tie as tie
 
+-- the places that are too far from the end to be found from there
+head-of : tie.After-put-type-name → tie.After-put-head
+head-of c = search
+
+row-of : tie.After-put-head → tie.After-get-control
+row-of c = search
+
+start-of : tie.After-get-control → tie.Start
+start-of c = search
+
 returns : tie.Need-returns
+unfolding head-of row-of start-of
 returns c =
-    let c9 = c .before .before in
-    let c8 = c9 .before .before .before .before in
-    let c7 = c8 .before .before .before .before in
-    let c6 = c7 .before .before .before .before in
-    let c5 = c6 .before .before .before .before in
-    let c4 = c5 .before .before .before .before in
-    let c3 = c4 .before .before .before .before in
-    let c2 = c3 .before .before .before .before in
-    let c1 = c2 .before .before .before .before in
-    let w = c1 .before .before in
-    let a = w .before .before .before .before .args in
-    control-wrote (a .n) (rowAt controlWidth (a .n) (a .rows .now))
-    (w .get-control .ensures)
-    (c1 .put-head .ensures)
-    (c2 .put-type-name .ensures)
-    (c3 .put-byte .ensures)
-    (c4 .put-chars .ensures)
-    (c5 .put-byte2 .ensures)
-    (c6 .put-decimal .ensures)
-    (c7 .put-byte3 .ensures)
-    (c8 .put-decimal2 .ensures)
-    (c9 .put-end .ensures)
+    let count : tie.After-put-decimal2 = search in
+    let blank-3 : tie.After-put-byte3 = search in
+    let first : tie.After-put-decimal = search in
+    let blank-2 : tie.After-put-byte2 = search in
+    let chars : tie.After-put-chars = search in
+    let blank : tie.After-put-byte = search in
+    let type-name : tie.After-put-type-name = search in
+    let head = head-of type-name in
+    let row = row-of head in
+    let start = start-of row in
+    control-wrote (start .args .n) (rowAt controlWidth (start .args .n) (start .args .rows .now))
+    (row .get-control .ensures)
+    (head .put-head .ensures)
+    (type-name .put-type-name .ensures)
+    (blank .put-byte .ensures)
+    (chars .put-chars .ensures)
+    (blank-2 .put-byte2 .ensures)
+    (first .put-decimal .ensures)
+    (blank-3 .put-byte3 .ensures)
+    (count .put-decimal2 .ensures)
+    (c .before .before .put-end .ensures)
 
 same-length : tie.Need-same-length
 same-length c = same (returns c)

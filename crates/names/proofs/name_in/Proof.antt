@@ -1,27 +1,40 @@
-use mathlib.Core.Path.{ap, _∙_}
+use mathlib.Core.Path.{_∙_}
 use native.Mathlib.Omega.{arith}
-use Rattle.names.specs.Lookup.{beforeZero}
-use Rattle.names.proofs.Rows.{row-at, no-row, before-zero}
+use Rattle.names.proofs.Directory.{ids-there, ids-ascend, there, name-is, no-name}
 use borrow.Author.Needs.{needs}
 use Rattle.names.proofs.name_in.Statement.{statement}
 use Rattle.names.proofs.name_in.Tie as tie
 
+mul-place-in : tie.Need-mul-place-in
+mul-place-in c = let first : tie.Start = search in omega (arith, ids-there (first .pre .0) (first .pre .1))
+
+part-place-in-end : tie.Need-part-place-in-end
+part-place-in-end c = let first : tie.Start = search in ids-there (first .pre .0) (first .pre .1)
+
+place-in-requires : tie.Need-place-in-requires
+place-in-requires c κs = let first : tie.Start = search in ids-ascend (first .pre .0) (first .pre .1)
+
 returns : tie.Need-returns
-returns c t l =
-    let p = c .before .before .before .before in
-    let id = p .before .before .args .id in
-    c .name-of .ensures ∙ ap beforeZero (row-at l id (p .place-in .result) (p .place-in .ensures) (omega arith)) ∙ before-zero l id
+returns c =
+    let first : tie.Start = search in
+    let placed : tie.After-place-in = search in
+    c .row-name .ensures ∙ name-is (first .pre .0) (first .pre .1) (first .args .id) (placed .place-in .result) (placed .place-in .ensures) (omega arith)
 
 returns-2 : tie.Need-returns-2
-returns-2 c t l =
-    let p = c .before .before in
-    c .none-of .ensures ∙ no-row l (p .before .before .args .id) (p .place-in .result) (p .place-in .ensures) (omega arith)
+returns-2 c =
+    let first : tie.Start = search in
+    let placed : tie.After-place-in = search in
+    c .nothing-of .ensures ∙ no-name (first .pre .0) (first .pre .1) (first .args .id) (placed .place-in .result) (placed .place-in .ensures) (omega arith)
 
 pub name-in-spec : {M : Type 1} → statement M
 name-in-spec =
     tie.close
     (tie.spec
-    (λ c κs. search needs) (λ c. search needs) (λ c. search needs) (λ c κs. search needs)
+    mul-place-in
+    (λ c. search needs) (λ c. search needs)
+    part-place-in-end
+    place-in-requires
+    (λ c. search needs) (λ c. search needs) (λ c κs. search needs)
     returns
     (λ c κs. search needs)
     returns-2)

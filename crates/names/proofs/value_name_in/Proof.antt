@@ -1,43 +1,49 @@
-use mathlib.Core.Path.{_∙_}
+use mathlib.Core.Path.{ap, _∙_}
 use native.Mathlib.Omega.{arith}
-use Rattle.rules.specs.NameTables.{textNames, numberNames, bytesNames}
-use Rattle.names.proofs.Rows.{some-row}
+use borrow.Author.Needs.{needs}
+use Rattle.rules.specs.NameTables.{Table, textNames, numberNames, bytesNames, controlTypeNames}
+use Rattle.rules.specs.Names.{nameIn}
+use Rattle.nametables.specs.Directory.{allNames}
+use Rattle.names.proofs.InOrder as in-order
 use Rattle.names.proofs.Marks.{numbers, texts, bytes, none}
 use Rattle.names.proofs.value_name_in.Statement.{statement}
 use Rattle.names.proofs.value_name_in.Tie as tie
 
 name-in-requires : tie.Need-name-in-requires
-name-in-requires c κs = let s = c .before .before .before .before .pre in omega (arith, some-row (s .texts), some-row (s .numbers), some-row (s .bytes))
+unfolding textNames numberNames bytesNames
+name-in-requires c κs = let first : tie.Start = search in (first .pre, in-order.texts .stand)
 
 name-in-requires-2 : tie.Need-name-in-requires-2
-name-in-requires-2 c κs = let s = c .before .before .before .before .pre in omega (arith, some-row (s .texts), some-row (s .numbers), some-row (s .bytes))
+unfolding textNames numberNames bytesNames
+name-in-requires-2 c κs = let first : tie.Start = search in (first .pre, in-order.bytes .stand)
 
 name-in-requires-3 : tie.Need-name-in-requires-3
-name-in-requires-3 c κs = let s = c .before .before .before .before .before .pre in omega (arith, some-row (s .texts), some-row (s .numbers), some-row (s .bytes))
-
-none-of-requires : tie.Need-none-of-requires
-none-of-requires c κs = let s = c .before .before .before .before .before .pre in omega (arith, some-row (s .texts), some-row (s .numbers), some-row (s .bytes))
+unfolding textNames numberNames bytesNames
+name-in-requires-3 c κs = let first : tie.Start = search in (first .pre, in-order.numbers .stand)
 
 returns : tie.Need-returns
+unfolding textNames numberNames bytesNames
 returns c =
-    let s = c .before .before .before .before .before in
-    c .name-in .ensures textNames (s .pre .texts) ∙ texts (s .args .mark) (s .args .id) (c .before .match .keys1)
+    let first : tie.Start = search in
+    c .name-in .ensures ∙ ap (λ (t : Table). nameIn t (first .args .id)) (in-order.texts .are) ∙ texts (first .args .mark) (first .args .id) (c .before .match .keys1)
 
 returns-2 : tie.Need-returns-2
+unfolding textNames numberNames bytesNames
 returns-2 c =
-    let s = c .before .before .before .before .before in
-    c .name-in2 .ensures bytesNames (s .pre .bytes) ∙ bytes (s .args .mark) (s .args .id) (c .before .match .keys2)
+    let first : tie.Start = search in
+    c .name-in2 .ensures ∙ ap (λ (t : Table). nameIn t (first .args .id)) (in-order.bytes .are) ∙ bytes (first .args .mark) (first .args .id) (c .before .match .keys2)
 
 returns-3 : tie.Need-returns-3
+unfolding textNames numberNames bytesNames
 returns-3 c =
-    let s = c .before .before .before .before .before .before in
-    c .name-in3 .ensures numberNames (s .pre .numbers) ∙ numbers (s .args .mark) (s .args .id) (omega arith)
+    let first : tie.Start = search in
+    c .name-in3 .ensures ∙ ap (λ (t : Table). nameIn t (first .args .id)) (in-order.numbers .are) ∙ numbers (first .args .mark) (first .args .id) (omega arith)
 
 returns-4 : tie.Need-returns-4
 returns-4 c =
-    let m = c .before .before in
-    let s = m .before .before .before .before in
-    c .none-of .ensures ∙ none (s .args .mark) (s .args .id) (omega arith) (m .match .rest .0 .1) (m .match .rest .1)
+    let first : tie.Start = search in
+    let m = c .before .before .match in
+    c .nothing-of .ensures ∙ none (first .args .mark) (first .args .id) (omega arith) (m .rest .0 .1) (m .rest .1)
 
 pub value-name-in-spec : {M : Type 1} → statement M
 value-name-in-spec =
@@ -46,7 +52,7 @@ value-name-in-spec =
     name-in-requires
     name-in-requires-2
     name-in-requires-3
-    none-of-requires
+    (λ c κs. search needs)
     returns
     returns-2
     returns-3

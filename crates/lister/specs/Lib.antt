@@ -1,2 +1,0 @@
--- What the writer of the listing says.
-pub mod Listed
