@@ -1,11 +1,12 @@
 -- All that standard input had, by what was read of it and whether more came.
-use mathlib.Core.Path.{_≡_, refl, ap, _∙_}
-use mathlib.Core.Bool.{Bool, true, false}
-use mathlib.Core.List.{List}
+use mathlib.Core.Path.{_≡_, refl, sym, ap, _∙_}
+use mathlib.Core.Bool.{Bool, true, false, cond}
+use mathlib.Core.List.{List, _∷_, _++_}
 use Prim.Native.Nat.{ℕ, _+_, _≤_, _<_}
 use native.Mathlib.Omega.{arith}
 use borrow.Rule.Slice.PartMut.{putMid, take-put}
-use lib.ListN.{length, take, length-append}
+use lib.ListN.{length, take, length-append, length-take}
+use lib.Seq.{length-take-le}
 use Rattle.text.specs.Writer.{Wrote}
 use Rattle.text.proofs.Written.{next}
 use Rattle.listing.proofs.Placed.{within, held}
@@ -31,3 +32,18 @@ module _ {read old new : List ℕ} {e : ℕ} (w : Wrote old 0 read new e) (k : �
     behind = λ l. omega (arith, ends l);
     begins = λ l. ap (λ (i : ℕ). take i (putMid e k new ys)) (ends l) ∙ take-put e k new ys (within w) ∙ held w l;
   }
+
+-- ---- a long input that was read into a large buffer
+-- whoever calls itself once, with `more`, has a measure that falls
+pub once : {t : ℕ} (more : Bool) → cond more 0 1 ≡ t → more ≡ false → 0 < t
+once more is first = let e = ap {B = ℕ} (λ (b : Bool). cond b 0 1) first in omega (arith, is)
+
+module _ {read old new : List ℕ} {size : ℕ} (f : Filled read old new size) (kept : length new ≡ length old) where
+  pub inside : size ≤ length new
+  inside = omega (arith, f .within)
+
+  pub part-size : size ≡ length (take size new)
+  part-size = sym (length-take-le size new inside)
+
+  pub part-short : {n : ℕ} → n ≡ length old → length (take size new) ≤ n
+  part-short e = omega (arith, length-take size new)

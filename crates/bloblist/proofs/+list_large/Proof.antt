@@ -1,12 +1,11 @@
-use mathlib.Core.Path.{_≡_, sym, ap, _∙_}
-use mathlib.Core.Bool.{Bool, cond}
+use mathlib.Core.Path.{sym, _∙_}
+use mathlib.Core.Bool.{cond}
 use Prim.Native.Nat.{ℕ, _<_}
 use native.Mathlib.Omega.{arith}
 use borrow.Author.Needs.{needs}
 use borrow.Fn.Kinds.{In}
 use borrow.Fn.PlainCycle.{Measures, is, falls, and}
-use lib.ListN.{length-take}
-use lib.Seq.{length-take-le}
+use Rattle.inputs.proofs.Came.{once, inside, part-size, part-short}
 use Rattle.bloblist.proofs.Printing.{large-roomy}
 use Rattle.bloblist.proofs.list_large.Reads as list-large
 use Rattle.bloblist.proofs.list_large.Kinds as list-large-kinds
@@ -60,24 +59,35 @@ module _ (t : ℕ) where
   refuse-requires c κs = c .before .before .pre .1 (c .if1 .taken)
 
   slice-aggregate-again : list-large-lts.Need-slice-aggregate-list-large (list-large-calls t) (list-large-at t) list-large.Post
-  slice-aggregate-again c = c .before .before .before .before .before .before .before .before .before .large-input .ensures ∙ sym (c .before .before .before .before .fill .kept .0)
+  slice-aggregate-again c =
+      let filled : list-large-lts.After-fill (list-large-calls t) (list-large-at t) list-large.Post = search in
+      let space : list-large-lts.After-large-input (list-large-calls t) (list-large-at t) list-large.Post = search in
+      space .large-input .ensures ∙ sym (filled .fill .kept .0)
 
   again-requires : list-large-lts.Need-list-large-requires (list-large-calls t) (list-large-at t) list-large.Post
   again-requires c κs =
-      let first = ap {B = ℕ} (λ (b : Bool). cond b 0 1) (c .before .before .before .before .before .before .before .before .before .before .if1 .left) in
-      (omega (arith, c .before .before .before .before .before .before .before .before .before .before .before .before .pre .0), λ _. omega (arith, c .before .before .before .before .before .before .before .before .before .large-input .ensures, c .before .before .before .before .fill .kept .0))
+      let filled : list-large-lts.After-fill (list-large-calls t) (list-large-at t) list-large.Post = search in
+      let space : list-large-lts.After-large-input (list-large-calls t) (list-large-at t) list-large.Post = search in
+      let first : list-large-lts.Else1 (list-large-calls t) (list-large-at t) list-large.Post = search in
+      let start : list-large-lts.Start (list-large-calls t) (list-large-at t) list-large.Post = search in
+      (once (start .args .more) (start .pre .0) (first .if1 .left), λ _. omega (arith, space .large-input .ensures, filled .fill .kept .0))
 
   array-share-prefix-space : list-large-lts.Need-array-share-prefix-space (list-large-calls t) (list-large-at t) list-large.Post
-  array-share-prefix-space c = let f = c .before .before .before .fill in omega (arith, f .ensures .within, f .kept .0)
+  array-share-prefix-space c = let f = c .before .before .before .fill in inside (f .ensures) (f .kept .0)
 
   slice-aggregate-list : list-large-lts.Need-slice-aggregate-list (list-large-calls t) (list-large-at t) list-large.Post
-  slice-aggregate-list c = let f = c .before .before .before .before .fill in sym (length-take-le (f .result) _ (omega (arith, f .ensures .within, f .kept .0)))
+  slice-aggregate-list c =
+      let filled : list-large-lts.After-fill (list-large-calls t) (list-large-at t) list-large.Post = search in
+      part-size (filled .fill .ensures) (filled .fill .kept .0)
 
   list-requires : list-large-lts.Need-list-requires (list-large-calls t) (list-large-at t) list-large.Post
   list-requires c κs =
-      let f = c .before .before .before .before .before .before .before .fill in
-      large-roomy (omega (arith, length-take (f .result) (f .last .0), f .kept .0, c .before .before .before .before .before .before .before .before .before .before .before .before .large-input .ensures))
-      (sym (c .before .before .before .before .before .before .before .before .before .before .before .large-controls .ensures)) (sym (c .before .before .before .before .before .before .before .before .before .before .large-properties .ensures)) (omega (arith, c .before .before .before .before .before .before .before .before .before .large-lines .ensures))
+      let filled : list-large-lts.After-fill (list-large-calls t) (list-large-at t) list-large.Post = search in
+      let lines : list-large-lts.After-large-lines (list-large-calls t) (list-large-at t) list-large.Post = search in
+      let properties : list-large-lts.After-large-properties (list-large-calls t) (list-large-at t) list-large.Post = search in
+      let controls : list-large-lts.After-large-controls (list-large-calls t) (list-large-at t) list-large.Post = search in
+      let space : list-large-lts.After-large-input (list-large-calls t) (list-large-at t) list-large.Post = search in
+      large-roomy (part-short (filled .fill .ensures) (filled .fill .kept .0) (space .large-input .ensures)) (sym (controls .large-controls .ensures)) (sym (properties .large-properties .ensures)) (omega (arith, lines .large-lines .ensures))
 
 pub +list-large-spec : {M : Type 1} → statement M
 +list-large-spec = close μ-list-large λ t. list-large-lts.spec (list-large-calls t)
