@@ -7,13 +7,19 @@ use Rattle.bloblist.proofs.list.Statement.{statement}
 use Rattle.bloblist.proofs.list.Tie as tie
 
 slice-reshare-prefix-print : tie.Need-slice-reshare-prefix-print
-slice-reshare-prefix-print c = within (c .before .before .before .before .before .before .write .ensures .wrote)
+slice-reshare-prefix-print c = let written : tie.After-write = search in within (written .write .ensures .wrote)
 
 slice-aggregate-print : tie.Need-slice-aggregate-print
-slice-aggregate-print c = let w = c .before .before .before .before .before .before .before .write in sym (length-take-le (w .result) _ (within (w .ensures .wrote)))
+slice-aggregate-print c =
+    let written : tie.After-write = search in
+    let w = written .write in
+    sym (length-take-le (w .result) _ (within (w .ensures .wrote)))
 
 print-requires : tie.Need-print-requires
-print-requires c κs = all-printed (c .before .before .before .before .before .before .before .write .ensures) (c .before .before .before .before .before .before .before .before .before .before .before .before .before .before .before .pre)
+print-requires c κs =
+    let written : tie.After-write = search in
+    let start : tie.Start = search in
+    all-printed (written .write .ensures) (start .pre)
 
 pub list-spec : {M : Type 1} → statement M
 list-spec =

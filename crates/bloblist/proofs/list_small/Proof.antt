@@ -6,7 +6,9 @@ use Rattle.bloblist.proofs.list_small.Statement.{statement}
 use Rattle.bloblist.proofs.list_small.Tie as tie
 
 list-requires : tie.Need-list-requires
-list-requires c κs = small-roomy (c .before .before .before .before .before .pre) (simp length-replicate (omega arith)) (simp length-replicate (omega arith)) (omega (arith, c .before .before .before .small-lines .ensures))
+list-requires c κs =
+    let start : tie.Start = search in
+    small-roomy (start .pre) (simp length-replicate (omega arith)) (simp length-replicate (omega arith)) (omega (arith, c .before .before .before .small-lines .ensures))
 
 pub list-small-spec : {M : Type 1} → statement M
 list-small-spec =

@@ -5,10 +5,14 @@ use Rattle.fields.proofs.put_chars.Statement.{statement}
 use Rattle.fields.proofs.put_chars.Tie as tie
 
 returns : tie.Need-returns
-returns c = let a = c .before .before .before .before .before .before .args in rw (numbered (a .mark) (a .size) (omega arith)) (c .before .before .put-byte .ensures)
+returns c =
+    let start : tie.Start = search in
+    let a = start .args in rw (numbered (a .mark) (a .size) (omega arith)) (c .before .before .put-byte .ensures)
 
 returns-2 : tie.Need-returns-2
-returns-2 c = let a = c .before .before .before .before .before .before .args in rw (with-name (a .mark) (a .size) (λ e. omega arith)) (c .before .before .put-decimal .ensures)
+returns-2 c =
+    let start : tie.Start = search in
+    let a = start .args in rw (with-name (a .mark) (a .size) (λ e. omega arith)) (c .before .before .put-decimal .ensures)
 
 pub put-chars-spec : {M : Type 1} → statement M
 put-chars-spec =

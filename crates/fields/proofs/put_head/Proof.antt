@@ -5,18 +5,17 @@ use Rattle.fields.proofs.put_head.Tie as tie
 
 returns : tie.Need-returns
 returns c =
-    let c6 = c .before .before in
-    let c5 = c6 .before .before .before .before in
-    let c4 = c5 .before .before .before .before in
-    let c3 = c4 .before .before .before .before in
-    let c2 = c3 .before .before .before .before in
-    let c1 = c2 .before .before .before .before in
-    c1 .put-byte .ensures
-    ⨟ c2 .put-byte2 .ensures
-    ⨟ c3 .put-decimal .ensures
-    ⨟ c4 .put-byte3 .ensures
-    ⨟ c5 .put-hex .ensures
-    ⨟ c6 .put-byte4 .ensures
+    let code : tie.After-put-hex = search in
+    let blank-2 : tie.After-put-byte3 = search in
+    let number : tie.After-put-decimal = search in
+    let blank : tie.After-put-byte2 = search in
+    let letter : tie.After-put-byte = search in
+    letter .put-byte .ensures
+    ⨟ blank .put-byte2 .ensures
+    ⨟ number .put-decimal .ensures
+    ⨟ blank-2 .put-byte3 .ensures
+    ⨟ code .put-hex .ensures
+    ⨟ c .before .before .put-byte4 .ensures
 
 pub put-head-spec : {M : Type 1} → statement M
 put-head-spec =

@@ -7,10 +7,10 @@ use Rattle.fields.proofs.put_shown.Tie as tie
 returns : tie.Need-returns
 unfolding shownFields
 returns c =
-    let c3 = c .before .before in
-    let c2 = c3 .before .before .before .before in
-    let c1 = c2 .before .before .before .before in
-    rw (c1 .before .before .value-bytes .ensures) at (c1 .put-word .ensures ⨟ c2 .put-byte .ensures ⨟ c3 .put-value .ensures)
+    let blank : tie.After-put-byte = search in
+    let word : tie.After-put-word = search in
+    let bytes : tie.After-value-bytes = search in
+    rw (bytes .value-bytes .ensures) at (word .put-word .ensures ⨟ blank .put-byte .ensures ⨟ c .before .before .put-value .ensures)
 
 pub put-shown-spec : {M : Type 1} → statement M
 put-shown-spec =

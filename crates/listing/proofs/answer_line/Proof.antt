@@ -4,29 +4,39 @@ use Rattle.listing.proofs.Rows.{answer-wrote}
 use Rattle.listing.proofs.answer_line.Statement.{statement}
 use Rattle.listing.proofs.answer_line.Tie as tie
 
+-- the places that are too far from the end to be found from there
+blank-of : tie.After-put-decimal → tie.After-put-byte
+blank-of c = search
+
+word-of : tie.After-put-byte → tie.After-put-text
+word-of c = search
+
+start-of : tie.After-put-text → tie.Start
+start-of c = search
+
 returns : tie.Need-returns
+unfolding blank-of word-of start-of
 returns c =
-    let c10 = c .before .before in
-    let c9 = c10 .before .before .before .before in
-    let c8 = c9 .before .before .before .before in
-    let c7 = c8 .before .before .before .before in
-    let c6 = c7 .before .before .before .before in
-    let c5 = c6 .before .before .before .before in
-    let c4 = c5 .before .before .before .before in
-    let c3 = c4 .before .before .before .before in
-    let c2 = c3 .before .before .before .before in
-    let c1 = c2 .before .before .before .before in
-    answer-wrote (c1 .before .before .before .before .args .a)
-    (c1 .put-text .ensures)
-    (c2 .put-byte .ensures)
-    (c3 .put-decimal .ensures)
-    (c4 .put-byte2 .ensures)
-    (c5 .put-decimal2 .ensures)
-    (c6 .put-byte3 .ensures)
-    (c7 .put-decimal3 .ensures)
-    (c8 .put-byte4 .ensures)
-    (c9 .put-decimal4 .ensures)
-    (c10 .put-end .ensures)
+    let third : tie.After-put-decimal4 = search in
+    let blank-4 : tie.After-put-byte4 = search in
+    let second : tie.After-put-decimal3 = search in
+    let blank-3 : tie.After-put-byte3 = search in
+    let first : tie.After-put-decimal2 = search in
+    let blank-2 : tie.After-put-byte2 = search in
+    let number : tie.After-put-decimal = search in
+    let blank = blank-of number in
+    let word = word-of blank in
+    answer-wrote (start-of word .args .a)
+    (word .put-text .ensures)
+    (blank .put-byte .ensures)
+    (number .put-decimal .ensures)
+    (blank-2 .put-byte2 .ensures)
+    (first .put-decimal2 .ensures)
+    (blank-3 .put-byte3 .ensures)
+    (second .put-decimal3 .ensures)
+    (blank-4 .put-byte4 .ensures)
+    (third .put-decimal4 .ensures)
+    (c .before .before .put-end .ensures)
 
 same-length : tie.Need-same-length
 same-length c = same (returns c)

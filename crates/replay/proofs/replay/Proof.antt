@@ -1,19 +1,26 @@
 use mathlib.Core.Path.{_≡_}
+use mathlib.Core.List.{List}
+use Prim.Native.Nat.{ℕ}
 use native.Mathlib.Omega.{arith}
 use borrow.Author.Needs.{needs}
 use lib.ListN.{length}
 use Rattle.replay.proofs.replay.Statement.{statement}
 use Rattle.replay.proofs.replay.Tie as tie
 
+-- each buffer keeps its length
+record Kept (codes₀ input₀ out₀ codes input out : List ℕ) : Type 0 where
+  codes-kept : length codes ≡ length codes₀
+  input-kept : length input ≡ length input₀
+  out-kept : length out ≡ length out₀
+
 abbrev Inv-loop : tie.InvT-loop
-Inv-loop codes₀ input₀ out₀ turns₀ codes-size₀ codes input out turns codes-size =
-    (length codes ≡ length codes₀) × (length input ≡ length input₀) × (length out ≡ length out₀)
+Inv-loop codes₀ input₀ out₀ turns₀ codes-size₀ codes input out turns codes-size = Kept codes₀ input₀ out₀ codes input out
 
 abbrev μ-loop : tie.MeasureT-loop
 μ-loop codes₀ input₀ out₀ turns₀ codes-size₀ codes input out turns codes-size = turns
 
 loop-holds : tie.Need-loop-holds Inv-loop μ-loop
-loop-holds c = (omega arith, omega arith, omega arith)
+loop-holds c = record { codes-kept = omega arith; input-kept = omega arith; out-kept = omega arith }
 
 read-head-requires : tie.Need-read-head-requires Inv-loop μ-loop
 read-head-requires c κs = tt
@@ -28,7 +35,7 @@ returns-2 : tie.Need-returns-2 Inv-loop μ-loop
 returns-2 c = tt
 
 loop-again : tie.Need-loop-again Inv-loop μ-loop
-loop-again c = (omega arith, omega arith, omega arith)
+loop-again c = record { codes-kept = omega arith; input-kept = omega arith; out-kept = omega arith }
 
 read-bytes-requires-2 : tie.Need-read-bytes-requires-2 Inv-loop μ-loop
 read-bytes-requires-2 c κs = tt
@@ -44,8 +51,9 @@ front-requires-2 c κs = tt
 
 loop-again-2 : tie.Need-loop-again-2 Inv-loop μ-loop
 loop-again-2 c =
-    let i = c .before .before .before .before .before .before .before .before .before .before .before .before .before .before .before .before .before .before .before .before .before .loop .inv in
-    (omega (arith, i .0), omega (arith, i .1), omega (arith, i .2))
+    let l : tie.At-loop Inv-loop μ-loop = search in
+    let i = l .loop .inv in
+    record { codes-kept = omega (arith, i .codes-kept); input-kept = omega (arith, i .input-kept); out-kept = omega (arith, i .out-kept) }
 
 returns-4 : tie.Need-returns-4 Inv-loop μ-loop
 returns-4 c = tt
