@@ -25,7 +25,7 @@ inside s (b ∷ x) h = inside (push s b) x (inside-by (ltb (s .1) (length (s .0)
 pub within : {o x n : List ℕ} {e : ℕ} → Wrote o 0 x n e → e ≤ length n
 within {o} {x} {n} {e} w = subst (λ (s : Buffer). s .1 ≤ length (s .0)) (w .is) (inside (o, 0) x (omega arith))
 
--- a text that has room is what the buffer holds up to the place behind it
+-- a text that has room is what the buffer holds up to the place after it
 pub held : {o x n : List ℕ} {e : ℕ} → Wrote o 0 x n e → length x ≤ length o → take e n ≡ x
 held {o} {x} {n} {e} w h =
     let k : 0 + length x ≤ length o = omega arith in

@@ -28,7 +28,7 @@ longestWord = 10
 abbrev pub longestValue : ℕ
 longestValue = 38
 
--- ---- lines: each field with the blank or LF behind it
+-- ---- lines: each field with the blank or LF after it
 abbrev pub longestAnswer : ℕ
 longestAnswer = 6 + 1 + 4 * (longestNumber + 1)
 

@@ -70,7 +70,7 @@ pub fn print_rows(letter: u8, rows: &[u32], width: usize, count: u32, out: &mut 
     }
 }
 
-// The B line: each byte in hex behind a blank.
+// The B line: each byte in hex after a blank.
 pub fn print_bytes(bytes: &[u8], out: &mut [u8]) {
     let mut p = put_byte(out, 0, b'B');
     let mut i = 0;

@@ -161,7 +161,7 @@ fn replay_case(head: Head, codes: &[u8], bytes: &[u8], out: &mut [u8]) {
     }
 }
 
-// Replays frame after frame, as far as whole frames that fit go. A code table stays for the Blobs behind it.
+// Replays frame after frame, as far as whole frames that fit go. A code table stays for the Blobs after it.
 fn replay(codes: &mut [u8], input: &mut [u8], out: &mut [u8]) {
     let mut turns = u64::MAX;
     let mut codes_size = 0;

@@ -1,4 +1,4 @@
-// How the value of a property is shown: the word of its mark, and what it is. Each is written into a lent buffer; the place behind it is returned.
+// How the value of a property is shown: the word of its mark, and what it is. Each is written into a lent buffer; the place after it is returned.
 use text::put_byte;
 use text::put_decimal;
 use text::put_guid;
