@@ -6,43 +6,27 @@ use native.Mathlib.Nat.{not-suc-le-zero}
 use native.Mathlib.Numerals.{sub-one}
 use native.Mathlib.Omega.{arith}
 use borrow.Author.Tests.{lt-ltb, le-ltb, le-leb, lt-leb}
-use lib.ListN.{length, getD, take, replicate, length-append, List·getD-eq-default}
-use lib.Seq.{take-at}
+use lib.ListN.{length, getD, List·getD-eq-default}
 use Rattle.rules.specs.Lists.{text}
 use Rattle.rules.specs.Bytes.{byte, u16}
 use Rattle.rules.specs.Digits.{hex}
 use Rattle.rules.specs.NameTables.{controlTypeNames}
-use Rattle.rules.specs.Names.{nameIn, filled}
+use Rattle.rules.specs.Names.{nameIn}
 use Rattle.rules.specs.CodeTable.{Tie, codesAt, tieAt, tiesAt, scopesAt}
-use Rattle.names.specs.Lookup.{named}
-use Rattle.names.specs.declared.Name.{Name}
 use Rattle.codetable.specs.Reads.{ReadsRow}
 use Rattle.codetable.specs.declared.RowRead.{RowRead}
 use Rattle.tabletext.specs.Text.{remark, kindWords, kindWord, markOf, rowLine, rowLines, scopeName, typeRemark, scopeLine, scopeLines, headerLine, headerLines, tableText}
 
 -- ---- names
-pub no-remark : (n : ℕ) (s : List ℕ) → n ≡ 0 → remark (take n s) ≡ []
+pub no-remark : (s : List ℕ) → length s ≡ 0 → remark s ≡ []
 unfolding remark
-no-remark zero s e = refl
-no-remark (suc n) s e = absurd (omega arith)
+no-remark [] e = refl
+no-remark (b ∷ s) e = absurd (omega arith)
 
-pub a-remark : (n : ℕ) (s : List ℕ) → (n ≡ 0 → ⊥) → n ≤ length s → remark (take n s) ≡ text "  # " ++ take n s
+pub a-remark : (s : List ℕ) → (length s ≡ 0 → ⊥) → remark s ≡ text "  # " ++ s
 unfolding remark
-a-remark zero s h l = absurd (h refl)
-a-remark (suc n) [] h l = absurd (not-suc-le-zero l)
-a-remark (suc n) (b ∷ s) h l = refl
-
-module _ {r : Name} (name : List ℕ) (e : r ≡ named name) where
-  pub in-row : r .len ≤ length (r .bytes)
-  in-row =
-      let a : r .len ≡ length name = ap (λ (x : Name). x .len) e in
-      let b : length (r .bytes) ≡ length (filled name) = ap (λ (x : Name). length (x .bytes)) e in
-      omega (arith, length-append name (replicate (26 - length name) 0))
-
-  pub remark-of : remark (take (r .len) (r .bytes)) ≡ remark name
-  remark-of =
-      ap (λ (x : Name). remark (take (x .len) (x .bytes))) e
-      ∙ ap remark (take-at name (replicate (26 - length name) 0) (length name) refl)
+a-remark [] h = absurd (h refl)
+a-remark (b ∷ s) h = refl
 
 -- ---- rows
 pub bytes-kind : (k : ℕ) → 4 ≤ k → kindWord k ≡ text "bytes"

@@ -7,7 +7,7 @@ use text::put_hex;
 use text::put_text;
 ghost use mathlib.Core.Path.{_≡_};
 ghost use Prim.Native.Nat.{_+_, _*_, _≤_, _<_, _^_};
-ghost use lib.ListN.{length, take};
+ghost use lib.ListN.{length};
 ghost use Rattle.rules.specs.NameTables.{controlTypeNames};
 ghost use Rattle.rules.specs.Names.{nameIn, namesFor};
 ghost use Rattle.rules.specs.CodeTable.{codesAt, tiesAt, scopesAt};
@@ -15,32 +15,35 @@ ghost use Rattle.text.specs.Writer.{Wrote};
 ghost use Rattle.tabletext.specs.Text as t;
 
 // ---- names
-// The first `size` bytes of `row`, behind the sign of a comment.
-fn put_remark(out: &mut [u8], at: usize, row: &[u8], size: usize) -> usize
-    requires { ⌜ size ≤ length (now row) ⌝ }
-    ensures { λ r. ⌜ Wrote (now (out .entry)) at (t.remark (take size (now (row .entry)))) (now (out .exit)) r ⌝ }
+// A name, after the sign of a comment.
+fn put_remark(out: &mut [u8], at: usize, name: &[u8]) -> usize
+    ensures { λ r. ⌜ Wrote (now (out .entry)) at (t.remark (now (name .entry))) (now (out .exit)) r ⌝ }
 {
-    if size == 0 {
+    if name.len() == 0 {
         return at;
     }
     let p = put_text(out, at, b"  # ");
-    put_text(out, p, &row[..size])
+    put_text(out, p, name)
 }
 
 fn put_target_name(out: &mut [u8], at: usize, mark: u32, target: u16) -> usize
     ensures { λ r. ⌜ Wrote (now (out .entry)) at (t.remark (nameIn (namesFor mark) target)) (now (out .exit)) r ⌝ }
 {
-    let name = names::value_name(mark, target);
-    let row = name.bytes;
-    put_remark(out, at, &row, name.len)
+    let index = nametables::index();
+    let letters = nametables::letters();
+    put_remark(
+        out,
+        at,
+        names::value_name_in(&index, &letters, mark, target),
+    )
 }
 
 fn put_type_name(out: &mut [u8], at: usize, code: u16) -> usize
     ensures { λ r. ⌜ Wrote (now (out .entry)) at (t.remark (nameIn controlTypeNames code)) (now (out .exit)) r ⌝ }
 {
-    let name = names::control_type_name(code);
-    let row = name.bytes;
-    put_remark(out, at, &row, name.len)
+    let index = nametables::index();
+    let letters = nametables::letters();
+    put_remark(out, at, names::type_name_in(&index, &letters, code))
 }
 
 // ---- rows
