@@ -65,7 +65,7 @@ module _ (s : List ℕ) where
       go (inl e) = inl (e, rw (e, f .start, f .size))
       go (inr e) = inr (e, rw (e, f .start, f .size))
 
-  named : (p a : ℕ) (n : Node Prop) → FromMatch s p a n → TextNamed (propertyOf s (propertyAt s a) .value) (a + 14) (lengthAt s a) (nameOf s n)
+  pub named : (p a : ℕ) (n : Node Prop) → FromMatch s p a n → TextNamed (propertyOf s (propertyAt s a) .value) (a + 14) (lengthAt s a) (nameOf s n)
   unfolding nameOf find
   named p a n x =
       let id = match-numbers s a (x .match) .1 in
