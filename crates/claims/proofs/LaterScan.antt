@@ -6,18 +6,17 @@ use mathlib.Core.Path.{_≡_, refl, sym, ap, subst, _∙_}
 use mathlib.Core.Bool.{Bool, true, false, cond}
 use mathlib.Core.List.{List, [], _∷_, map}
 use mathlib.Core.Logic.{_⊎_, inl, inr}
-use mathlib.Core.Option.{some}
-use lib.Dec.{eqb}
+use mathlib.Core.Option.{none}
 use lib.ListN.{length, getD, List·getD-append, length-append, length-map}
-use Rattle.rules.specs.Lists.{concat, find}
+use Rattle.rules.specs.Lists.{concat}
 use Rattle.rules.specs.Bytes.{part}
 use Rattle.rules.specs.Utf16.{isUtf16}
 use Rattle.rules.specs.Value.{value, entryValue}
 use Rattle.rules.specs.Tree.{Node}
 use Rattle.rules.specs.Rows.{propertyWidth, rowAt}
-use Rattle.rules.specs.Later.{Prop, lengthAt, endAt, propertyAt, objectGroup, scanFrom, laterOf}
+use Rattle.rules.specs.Later.{Prop, lengthAt, endAt, propertyAt, treeOf, objectGroup, scanFrom, laterOf}
 use Rattle.rules.specs.Reading.{Control, Reading, properties, propertiesOf, controlRow, propertyRow}
-use Rattle.rules.specs.ReadLater.{propertyOf, nameBy, nameOf, controlOf, readLater}
+use Rattle.rules.specs.ReadLater.{propertyOf, textName, scannedName, controlOf, readLater}
 use Rattle.rules.specs.Blob.{Exit, counted}
 use Rattle.rules.specs.declared.Value.{Value}
 use Rattle.rules.specs.declared.Property.{Property}
@@ -46,31 +45,28 @@ module _ (s : List ℕ) where
       go false = inr refl
 
   -- the first property of a match is a Text of id 0x0014
-  record First (a : ℕ) (p : Property) : Type 0 where
-    id : p .id ≡ 0x14
-    text : (p .value .mark ≡ 6) ⊎ (p .value .mark ≡ 8)
-    start : p .start ≡ a + 14
-    size : p .size ≡ lengthAt s a
+  pub record First (a : ℕ) (p : Property) : Type 0 where
+    pub id : p .id ≡ 0x14
+    pub text : (p .value .mark ≡ 6) ⊎ (p .value .mark ≡ 8)
+    pub start : p .start ≡ a + 14
+    pub size : p .size ≡ lengthAt s a
 
-  first-is : (a : ℕ) → At s a → First a (propertyOf s (propertyAt s a))
+  pub first-is : (a : ℕ) → At s a → First a (propertyOf s (propertyAt s a))
   unfolding propertyOf propertyAt
   first-is a m =
       let n = match-numbers s a m in
       record { id = n .1; text = rw (n .2) (text-mark (part s (a + 14) (lengthAt s a))); start = refl; size = refl }
 
-  name-by : (a : ℕ) (p : Property) → First a p → TextNamed (p .value) (a + 14) (lengthAt s a) (nameBy p)
+  name-by : (a : ℕ) (p : Property) → First a p → TextNamed (p .value) (a + 14) (lengthAt s a) (textName p)
   name-by a p f = go (f .text)
     where
-      go : (p .value .mark ≡ 6) ⊎ (p .value .mark ≡ 8) → TextNamed (p .value) (a + 14) (lengthAt s a) (nameBy p)
+      go : (p .value .mark ≡ 6) ⊎ (p .value .mark ≡ 8) → TextNamed (p .value) (a + 14) (lengthAt s a) (textName p)
       go (inl e) = inl (e, rw (e, f .start, f .size))
       go (inr e) = inr (e, rw (e, f .start, f .size))
 
-  pub named : (p a : ℕ) (n : Node Prop) → FromMatch s p a n → TextNamed (propertyOf s (propertyAt s a) .value) (a + 14) (lengthAt s a) (nameOf s n)
-  unfolding nameOf find
-  named p a n x =
-      let id = match-numbers s a (x .match) .1 in
-      let e : find (λ q. eqb (q .id) 0x14) (n .props) ≡ some (propertyAt s a) = rw (x .first) (unfold propertyAt in rw id) in
-      rw e (name-by a (propertyOf s (propertyAt s a)) (first-is a (x .match)))
+  pub named : (p a : ℕ) (n : Node Prop) → FromMatch s p a n → TextNamed (propertyOf s (propertyAt s a) .value) (a + 14) (lengthAt s a) (scannedName s n)
+  unfolding scannedName
+  named p a n x = rw (x .first) (name-by a (propertyOf s (propertyAt s a)) (first-is a (x .match)))
 
 -- only asked for where there is one
 abbrev no-prop : Prop
@@ -91,8 +87,12 @@ unfolding controlRow
 name-words v n first start size c (inl e) = rw (e .1) (record { mark = inl (e .0, refl); its-start = refl; its-size = refl })
 name-words v n first start size c (inr e) = rw (e .1) (record { mark = inr (e .0, refl); its-start = refl; its-size = refl })
 
+-- a control of the scan
+abbrev controlIn : List ℕ → Node Prop → Control
+controlIn s n = controlOf s (scannedName s) n
+
 module _ (s : List ℕ) (seen : Exit) (rows : Rows (readLater s) seen) (answer : seen .answer ≡ counted 0 (readLater s))
-    (scanned : laterOf s ≡ (objectGroup s .props, scanFrom s (objectGroup s .stop))) where
+    (no-tree : treeOf s ≡ none) (scanned : laterOf s ≡ (objectGroup s .props, scanFrom s (objectGroup s .stop))) where
   abbrev r : Reading
   r = readLater s
 
@@ -100,15 +100,15 @@ module _ (s : List ℕ) (seen : Exit) (rows : Rows (readLater s) seen) (answer :
   stop = objectGroup s .stop
 
   -- ---- the controls are those of the nodes
-  controls-are : r .controls ≡ map (controlOf s) (scanFrom s stop)
+  controls-are : r .controls ≡ map (controlIn s) (scanFrom s stop)
   unfolding readLater
-  controls-are = ap (λ x. map (controlOf s) (x .1)) scanned
+  controls-are = rw (no-tree, scanned)
 
   many : seen .answer .first ≡ length (scanFrom s stop)
   many = ap (λ a. a .first) answer ∙ ap length controls-are ∙ simp length-map
 
-  control-is : (i : ℕ) → i < length (scanFrom s stop) → rowsSeen.controlOf r i ≡ controlOf s (getD (scanFrom s stop) i no-node)
-  control-is i l = ap (λ cs. getD cs i rowsSeen.no-control) controls-are ∙ getD-map (controlOf s) (scanFrom s stop) i no-node rowsSeen.no-control l
+  control-is : (i : ℕ) → i < length (scanFrom s stop) → rowsSeen.controlOf r i ≡ controlIn s (getD (scanFrom s stop) i no-node)
+  control-is i l = ap (λ cs. getD cs i rowsSeen.no-control) controls-are ∙ getD-map (controlIn s) (scanFrom s stop) i no-node rowsSeen.no-control l
 
   -- a place within the group, by the six bytes
   within-is : (a e : ℕ) → Reach s a e → Within s a e
@@ -165,9 +165,9 @@ module _ (s : List ℕ) (seen : Exit) (rows : Rows (readLater s) seen) (answer :
     control-at =
         let c = rows .control-row i there ∙ ap (controlRow i (firstOf r i)) (control-is i l) in
         let f = first-is s a (x .match) in
-        let m = name-words (propertyOf s (propertyAt s a) .value) i (firstOf r i) (a + 14) (lengthAt s a) (controlOf s n) (unfold controlOf in named s stop a n x) in
+        let m = name-words (propertyOf s (propertyAt s a) .value) i (firstOf r i) (a + 14) (lengthAt s a) (controlIn s n) (unfold controlOf in named s stop a n x) in
         record {
-          its-type = ap (λ w. getD w 0 0) c ∙ row-type i (firstOf r i) (controlOf s n) ∙ (unfold controlOf in x .type);
+          its-type = ap (λ w. getD w 0 0) c ∙ row-type i (firstOf r i) (controlIn s n) ∙ (unfold controlOf in x .type);
           its-rows = rw (count-is, rowsSeen.first-is rows i there) (read-rows (Reach s a) (Within s a) (λ e. (within-is a e, reach-is a e)) (n .props) a (x .read) (firstOf r i) property-at);
           has-rows = omega (arith, count-is, has-props);
           first-id = ap (λ w. getD w 0 0) first-row ∙ f .id;

@@ -16,7 +16,7 @@ use Rattle.rules.specs.Bytes.{byte, byteAt, u16, u32}
 use Rattle.rules.specs.Tree.{Node, node}
 use Rattle.rules.specs.Later.{Prop, endAt, trailerAt, propertyAt, isInside, endsGroup, Group, groupOf, groupAt, matchAt, matchesOf, matchesFrom, groupsOf, isEmpty, scanFrom}
 use Rattle.rules.proofs.ListLaws.{and-l, and-r}
-use Rattle.rules.proofs.LaterLaws.{either, inside-true, group-none, group-last, group-more}
+use Rattle.rules.proofs.LaterLaws.{either, inside-true, group-none, group-begins}
 use Rattle.claims.specs.LaterGrammar.{Ending}
 use Rattle.claims.specs.LaterScan.{Match}
 use Rattle.claims.proofs.Has.{_has_from_to_, here, next, byte-there, byte-is, value-is, value-there}
@@ -210,18 +210,6 @@ module _ (s : List ℕ) where
   limit-inside a [] h = omega arith
   limit-inside a (b ∷ r) h = omega (arith, match-numbers b (h .1) .0)
 
-  -- ---- a group by its first property
-  record Begins (a : ℕ) (qs : List Prop) : Type 0 where
-    rest : List Prop
-    is : qs ≡ propertyAt s a ∷ rest
-
-  group-begins : (limit a : ℕ) → limit ≤ length s → isInside s limit a ≡ true → Begins a (groupAt s limit a .props)
-  group-begins limit a l i = go (endsGroup (trailerAt s a)) refl
-    where
-      go : (b : Bool) → endsGroup (trailerAt s a) ≡ b → Begins a (groupAt s limit a .props)
-      go true e = record { rest = []; is = ap (λ g. g .props) (group-last s limit a l i e) }
-      go false e = record { rest = groupAt s limit (endAt s a) .props; is = ap (λ g. g .props) (group-more s limit a l i e) }
-
   -- ---- a group, property by property: those from q on, each inside, up to a trailer that ends it or a property that isn't inside
   pub data Read (Inside : ℕ → Type 0) : List Prop → ℕ → Type 0 where
     unread : {q : ℕ} → ¬ Inside (endAt s q) → Read Inside [] q
@@ -290,7 +278,7 @@ module _ (s : List ℕ) where
 
       go : (b : Bool) → isInside s limit a ≡ b → Kept a r ⊎ Left a r
       go true i =
-          let x = group-begins limit a (limit-inside a r h) i in
+          let x = group-begins s limit a (limit-inside a r h) i in
           inl (record {
             its = qs;
             reported = λ p l. record {

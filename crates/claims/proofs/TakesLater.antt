@@ -13,7 +13,7 @@ use Rattle.rules.specs.Bytes.{u16}
 use Rattle.rules.specs.Tree.{Entry, Entries, end, more, isReported, reported, Node, node, nodesOf}
 use Rattle.rules.specs.Later.{Prop, endAt, trailerAt, isInside, endsGroup, Group, groupOf, groupAt, childrenAt, withChildren, nodeAt, nodesAt, objectGroup, treeOf, matchAt, matchesOf, matchesFrom, groupsOf, isEmpty, scanFrom, nodesBy, laterOf}
 use Rattle.rules.specs.Reading.{properties, propertiesOf}
-use Rattle.rules.specs.ReadLater.{propertyOf, controlOf, readLater}
+use Rattle.rules.specs.ReadLater.{propertyOf, nameIn, controlOf, readLater}
 use Rattle.rules.proofs.ListLaws.{Every, every-if, every-then, every-when, every-at, none-some, and-l, and-r, map-map}
 use Rattle.rules.proofs.LaterLaws.{either, group-grows}
 use Rattle.claims.proofs.Levels.{levels-every}
@@ -156,8 +156,8 @@ module _ (s : List ℕ) where
   counts-later =
       let l : length (map (propertyOf s) (laterOf s .0)) ≡ length (laterOf s .0) = simp length-map in
       let c = each-long (λ n. map (propertyOf s) (n .props)) (λ n. simp length-map) (laterOf s .1) in
-      let m = ap (λ x. length (concat x)) (map-map propertiesOf (controlOf s) (laterOf s .1)) in
-      (simp length-map, length-append (map (propertyOf s) (laterOf s .0)) (concat (map propertiesOf (map (controlOf s) (laterOf s .1)))) ∙ omega arith)
+      let m = ap (λ x. length (concat x)) (map-map propertiesOf (controlOf s (nameIn s (treeOf s))) (laterOf s .1)) in
+      (simp length-map, length-append (map (propertyOf s) (laterOf s .0)) (concat (map propertiesOf (map (controlOf s (nameIn s (treeOf s))) (laterOf s .1)))) ∙ omega arith)
 
   counts-by : (own : List Prop) (ns : List (Node Prop)) → laterOf s ≡ (own, ns) → (length (readLater s .controls) ≡ length ns) × (length (properties (readLater s)) ≡ length own + propsOf ns)
   counts-by own ns e =

@@ -7,14 +7,18 @@ use mathlib.Core.Logic.{_⊎_}
 use mathlib.Core.Option.{none}
 use lib.ListN.{length, getD}
 use Rattle.rules.specs.Bytes.{Bytes}
-use Rattle.rules.specs.Later.{Prop, treeOf}
-use Rattle.rules.specs.Reading.{Control}
-use Rattle.rules.specs.ReadLater.{propertyOf, readLater}
+use Rattle.rules.specs.Later.{Prop, treeOf, laterOf}
+use Rattle.rules.specs.Reading.{Control, Reading}
+use Rattle.rules.specs.ReadLater.{propertyOf, nameOf, controlOf, readLater}
 use Rattle.rules.specs.Blob.{Exit, exit}
 use Rattle.rules.specs.declared.Name.{Name}
 use Rattle.rules.specs.declared.Name.the-variants.{Text, Numbered, Loose}
 use Rattle.claims.specs.RowChecks.{nameMark, nameStart, nameLength, firstRow, propertyCount, shownId, valueMark, valueStart, valueLength}
 use Rattle.claims.specs.LaterTree.{Spelled, Given}
+
+-- ---- the reading by document 01's clause as it stood: "otherwise, in tree and scan alike, it is numbered"
+unfoldable pub readAlike : List ℕ → Reading
+readAlike s = record { own = map (propertyOf s) (laterOf s .0); controls = map (controlOf s (nameOf s)) (laterOf s .1) }
 
 -- ---- of the reading: a control's first property is 0x0014 with type 0x0A, and its name is that Text, with the property's start and length. "Text is mark 6 or 8":
 -- mark 6 gives a UTF-16 name, mark 8 one that isn't
@@ -45,5 +49,7 @@ pub record Wish10 : Type 0 where
   -- every control of a stream that is scanned: it has 14 bytes or more, and is no tree. (`nothing` stands in for a control that isn't there)
   pub text-first : (stream : List ℕ) → 14 ≤ length stream → treeOf stream ≡ none
       → (i : ℕ) (nothing : Control) → i < length (readLater stream .controls) → TextFirst stream (getD (readLater stream .controls) i nothing)
+  -- "Answers don't change": for every stream, whatever its numbers, the reading is the one by the old clause
+  pub same-reading : (stream : List ℕ) → readLater stream ≡ readAlike stream
   -- and its row on answer 0, whatever room is lent
   pub text-named : (table stream controls properties : List ℕ) → Bytes stream → Given table stream → ScanNamed stream (exit table stream controls properties)

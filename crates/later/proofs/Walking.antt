@@ -1,7 +1,7 @@
 -- The rows of the nodes of a later stream that a walk visits, from what the code answers.
 use Prim.Native.Nat.{ℕ, zero, suc, _+_, _≤_, _<_}
 use native.Mathlib.Omega.{arith}
-use mathlib.Core.Path.{_≡_, refl, sym, ap, ap₂, _∙_}
+use mathlib.Core.Path.{_≡_, refl, sym, ap, ap₂, subst, _∙_}
 use mathlib.Core.Bool.{Bool, true, false}
 use mathlib.Core.List.{List, [], _∷_}
 use mathlib.Core.Option.{Option, none, some}
@@ -11,13 +11,13 @@ use borrow.Author.Tests.{ltb-true, ltb-false}
 use Rattle.rules.specs.Lists.{_>>=_}
 use Rattle.rules.specs.Bytes.{u16}
 use Rattle.rules.specs.Answer.{longest}
-use Rattle.rules.specs.Tree.{Node, node, isReported}
+use Rattle.rules.specs.Tree.{node, isReported}
 use Rattle.rules.specs.Later.{Prop, childrenAt, nodesAt}
-use Rattle.rules.specs.ReadLater.{controlOf}
+use Rattle.rules.specs.ReadLater.{nameOf, controlOf}
+use Rattle.rules.specs.declared.Name.{Name}
 use Rattle.rules.proofs.ListLaws.{none-some}
 use Rattle.rows.specs.Writing.{State, state, writeControls}
-use Rattle.rows.specs.Acts.{Nodes, topNodes}
-use Rattle.rows.proofs.ActLaws.{at-place}
+use Rattle.rows.specs.Acts.{Nodes, topNodes, Fit}
 use Rattle.countlater.specs.Count.{groupIn, childrenOf}
 use Rattle.countlater.proofs.NodeLaws.{head-past}
 use Rattle.cursor.specs.Visits.{noParent}
@@ -29,9 +29,9 @@ use Rattle.cursor.proofs.RowLaws as laws
 use Rattle.cursor.proofs.RowLaws.{left, howMany}
 use Rattle.cursorlater.specs.Steps.{listOf, stepAt}
 use Rattle.cursorlater.proofs.StepLaws.{nodes-same}
-use Rattle.later.specs.Write.{NodesReady, act, groupControl, ControlReady, ControlDone}
-use Rattle.later.specs.declared.Wrote.{Wrote}
-use Rattle.later.proofs.WriteNodeLaws.{their-own, children-told}
+use Rattle.later.specs.Write.{nodeName, groupControl, next, ControlReady, ControlDone, treeControl, NodesReady, NodesDone}
+use Rattle.later.specs.declared.WrittenGroup.{WrittenGroup}
+use Rattle.later.proofs.WriteNodeLaws.{their-own, controls-kept, properties-kept, children-told}
 
 -- ---- a node as the code reads it
 pub record Parts (s : List ℕ) (p : ℕ) (x : Step Prop) : Type 0 where
@@ -61,23 +61,31 @@ parts s p x e = go (groupIn s p .trailer) refl e
     go (some t) f e = kids-of t f (childrenAt s t (groupIn s p .stop)) refl e
 
 -- ---- the loop
-abbrev pub Going : List ℕ → Nodes Prop → State → List ℕ → Cursor → State → Type 0
-Going s whole old a c now = laws.Going (stepAt s) (length s ≤ longest) (controlOf s) whole old a c now
+pub record Going (s : List ℕ) (whole : Nodes Prop) (old : State) (a : List ℕ) (c : Cursor) (now : State) : Type 0 where
+  pub walk : laws.Going (stepAt s) (length s ≤ longest) (treeControl s) whole old a c now
+  pub small : length s ≤ longest
+  pub controls-same : length (now .cs) ≡ length (old .cs)
+  pub properties-same : length (now .ps) ≡ length (old .ps)
 
-pub going-start : (s a : List ℕ) (n at : ℕ) (r : Cursor) (cs ps : List ℕ) (pi : ℕ) → length a ≡ 512 → NodesReady s (topNodes (nodesAt 256 s n at)) (state cs 0 ps pi)
+pub going-start : {s a : List ℕ} {n at : ℕ} {r : Cursor} {cs ps : List ℕ} {pi : ℕ} → length a ≡ 512 → NodesReady s (topNodes (nodesAt 256 s n at)) (state cs 0 ps pi)
     → Passed (stepAt s) isReported (cursor at 0 n noParent) r → Going s (topNodes (nodesAt 256 s n at)) (state cs 0 ps pi) a r (state cs 0 ps pi)
-going-start s a n at r cs ps pi l h p = laws.going-start _ _ _ _ (state cs 0 ps pi) a n at r (ap topNodes (sym (nodes-same s 256 n at))) refl l h p
+going-start {s} {a} {n} {at} {r} {cs} {ps} {pi} l h p = record {
+  walk = laws.going-start _ _ _ _ (state cs 0 ps pi) a n at r (ap topNodes (sym (nodes-same s 256 n at))) refl l h p;
+  small = h .known;
+  controls-same = refl;
+  properties-same = refl;
+}
 
-module _ (s : List ℕ) (whole : Nodes Prop) (old : State) (a : List ℕ) (c : Cursor) (cs : List ℕ) (ci : ℕ) (ps : List ℕ) (pi : ℕ) (g : Going s whole old a c (state cs ci ps pi)) where
-  pub going-done : c .left ≤ 0 → some (at-place (state cs ci ps pi) (c .at)) ≡ act s whole old
-  going-done l = laws.going-done _ _ _ _ _ _ _ _ g l
+module _ {s : List ℕ} {whole : Nodes Prop} {old : State} {a : List ℕ} {c : Cursor} {cs : List ℕ} {ci : ℕ} {ps : List ℕ} {pi : ℕ} (g : Going s whole old a c (state cs ci ps pi)) where
+  pub going-done : c .left ≤ 0 → NodesDone s whole old cs ps (next (c .at) ci pi)
+  going-done l = laws.going-done _ _ _ _ _ _ _ _ (g .walk) l
 
   module _ (l : 0 < c .left) where
     abbrev entry : Step Prop
-    entry = laws.entry _ _ _ _ _ _ _ _ g l
+    entry = laws.entry _ _ _ _ _ _ _ _ (g .walk) l
 
     its : Parts s (c .at) entry
-    its = parts s (c .at) entry (laws.entry-read _ _ _ _ _ _ _ _ g l)
+    its = parts s (c .at) entry (laws.entry-read _ _ _ _ _ _ _ _ (g .walk) l)
 
     pub going-inside : c .at ≤ length s
     going-inside = go (ltb (length s) (c .at)) refl
@@ -86,34 +94,42 @@ module _ (s : List ℕ) (whole : Nodes Prop) (old : State) (a : List ℕ) (c : C
         go true e = absurd (none-some (sym (head-past s (c .at) (ltb-true (length s) (c .at) e)) ∙ its .kids))
         go false e = ltb-false (length s) (c .at) e
 
-    pub going-ready : (kind : ℕ) → kind ≡ u16 s (c .at) → ControlReady s kind (length s) (c .at + 6) (state cs ci ps pi)
-    going-ready kind e =
-        let r = rw (its .node-is) at (laws.going-ready _ _ _ _ _ _ _ _ g l 0) in
-        rw e (record { inside = omega arith; small = r .known; fits = r .fits })
+    -- the control of this node, by the type and name that the code has found
+    module _ {type : ℕ} (et : type ≡ u16 s (c .at)) {name : Name} (en : name ≡ nodeName s (c .at + 6)) where
+      control-is : treeControl s (entry .node) ≡ groupControl s type name (length s) (c .at + 6)
+      unfolding controlOf nameOf nodeName
+      control-is = ap (treeControl s) (its .node-is) ∙ ap₂ (λ t m. groupControl s t m (length s) (c .at + 6)) (sym et) (sym en)
 
-    -- its row is written
-    module _ (kind : ℕ) (ek : kind ≡ u16 s (c .at)) (w : Wrote) (cs′ ps′ : List ℕ) (wrote : ControlDone s kind (length s) (c .at + 6) (state cs ci ps pi) cs′ ps′ w) where
-      pub going-adds : ci + pi + (1 + w .count) ≤ longest
-      going-adds =
-          let r = going-ready kind ek in
-          omega (arith, r .fits .few, their-own s kind (length s) (c .at + 6) cs ci ps pi r, wrote .count)
+      pub going-ready : ControlReady s (length s) (next (c .at + 6) ci pi) type name cs ps
+      going-ready =
+          let r = laws.going-ready _ _ _ _ _ _ _ _ (g .walk) l 0 in
+          record { inside = omega arith; small = g .small; fits = subst (λ x. Fit (x ∷ []) (state cs ci ps pi)) control-is (r .fits) }
 
-      kids-at : childrenAt s (w .trailer) (w .stop) ≡ some (countOf (entry .children), entry .next)
-      kids-at = ap₂ (childrenAt s) (wrote .trailer) (wrote .stop) ∙ children-told s (c .at) (countOf (entry .children), entry .next) (its .kids)
+      -- its row is written
+      module _ {w : WrittenGroup} {cs′ ps′ : List ℕ} (wrote : ControlDone s (length s) (next (c .at + 6) ci pi) type name cs ps cs′ ps′ w) where
+        pub going-adds : ci + pi + (1 + w .count) ≤ longest
+        going-adds = omega (arith, going-ready .fits .few, their-own going-ready, wrote .count)
 
-      pub going-past : PastReady a c (childrenAt s (w .trailer) (w .stop))
-      going-past = record { before = laws.going-before _ _ _ _ _ _ _ _ g l; there = rw kids-at tt }
+        kids-at : childrenAt s (w .trailer) (w .stop) ≡ some (countOf (entry .children), entry .next)
+        kids-at = ap₂ (childrenAt s) (wrote .trailer) (wrote .stop) ∙ children-told s (c .at) (countOf (entry .children), entry .next) (its .kids)
 
-      next-is : state cs′ (ci + 1) ps′ (pi + w .count) ≡ writeControls (controlOf s (entry .node) ∷ []) (state cs ci ps pi)
-      next-is = wrote .is ∙ ap (λ k. writeControls (groupControl s k (length s) (c .at + 6) ∷ []) (state cs ci ps pi)) ek
-          ∙ ap (λ (x : Node Prop). writeControls (controlOf s x ∷ []) (state cs ci ps pi)) (sym (its .node-is))
+        pub going-past : PastReady a c (childrenAt s (w .trailer) (w .stop))
+        going-past = record { before = laws.going-before _ _ _ _ _ _ _ _ (g .walk) l; there = rw kids-at tt }
 
-      module _ (a′ : List ℕ) (r r′ : Cursor) (p : Past a c ci (childrenAt s (w .trailer) (w .stop)) a′ r) (k : Passed (stepAt s) isReported r r′) where
-        moved : Moved a c ci (countOf (entry .children)) (entry .next) a′ r
-        moved = rw kids-at at p
+        next-is : state cs′ (ci + 1) ps′ (pi + w .count) ≡ writeControls (treeControl s (entry .node) ∷ []) (state cs ci ps pi)
+        next-is = wrote .is ∙ ap (λ x. writeControls (x ∷ []) (state cs ci ps pi)) (sym control-is)
 
-        pub going-less : howMany (left (stepAt s) (ci + 1) a′ r′) < howMany (left (stepAt s) ci a c)
-        going-less = laws.going-less _ _ _ _ _ _ _ _ g l _ next-is a′ r r′ moved k
+        module _ (a′ : List ℕ) (r r′ : Cursor) (p : Past a c ci (childrenAt s (w .trailer) (w .stop)) a′ r) (k : Passed (stepAt s) isReported r r′) where
+          moved : Moved a c ci (countOf (entry .children)) (entry .next) a′ r
+          moved = rw kids-at at p
 
-        pub going-next : Going s whole old a′ r′ (state cs′ (ci + 1) ps′ (pi + w .count))
-        going-next = laws.going-next _ _ _ _ _ _ _ _ g l _ next-is a′ r r′ moved k
+          pub going-less : howMany (left (stepAt s) (ci + 1) a′ r′) < howMany (left (stepAt s) ci a c)
+          going-less = laws.going-less _ _ _ _ _ _ _ _ (g .walk) l _ next-is a′ r r′ moved k
+
+          pub going-next : Going s whole old a′ r′ (state cs′ (ci + 1) ps′ (pi + w .count))
+          going-next = record {
+            walk = laws.going-next _ _ _ _ _ _ _ _ (g .walk) l _ next-is a′ r r′ moved k;
+            small = g .small;
+            controls-same = controls-kept wrote ∙ g .controls-same;
+            properties-same = properties-kept wrote ∙ g .properties-same;
+          }

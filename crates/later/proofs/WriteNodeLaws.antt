@@ -1,7 +1,7 @@
--- The writing pass over nodes, from what the code answers.
+-- A control written with its group; and the scan by a loop, where what is left to write from here is what there was to write.
 use Prim.Native.Nat.{ℕ, _+_, _*_, _≤_, _<_}
 use native.Mathlib.Omega.{arith}
-use mathlib.Core.Path.{_≡_, refl, sym, ap, ap₂, _∙_}
+use mathlib.Core.Path.{_≡_, refl, sym, ap, ap₂, subst, _∙_}
 use mathlib.Core.Bool.{true}
 use mathlib.Core.List.{List, [], _∷_, _++_, map}
 use mathlib.Core.Option.{Option, none, some}
@@ -10,59 +10,69 @@ use Rattle.rules.specs.Answer.{longest}
 use Rattle.rules.specs.Rows.{controlWidth}
 use Rattle.rules.specs.Reading.{nameWords, controlRow}
 use Rattle.rules.specs.Tree.{Node, node}
-use Rattle.rules.specs.Later.{Prop, groupAt, childrenAt, matchAt, scanFrom}
-use Rattle.rules.specs.ReadLater.{propertyOf, nameOf, controlOf}
+use Rattle.rules.specs.Later.{Prop, propertyAt, isInside, groupAt, childrenAt, matchAt, scanFrom}
+use Rattle.rules.specs.ReadLater.{propertyOf, textName, firstOf, scannedName, controlOf}
+use Rattle.rules.specs.declared.Name.{Name}
+use Rattle.rules.proofs.LaterLaws.{group-begins}
 use Rattle.rows.specs.Put.{put, controlWords}
-use Rattle.rows.specs.Writing.{State, state, theirs}
-use Rattle.rows.specs.Acts.{_then_}
+use Rattle.rows.specs.Writing.{State, state, theirs, writeControls}
+use Rattle.rows.specs.Acts.{Fit, _then_}
 use Rattle.rows.specs.declared.ControlRow.{ControlRow}
-use Rattle.rows.proofs.WritingLaws.{theirs-one, write-one}
+use Rattle.rows.specs.declared.Next.{Next}
+use Rattle.rows.proofs.WritingLaws.{theirs-one, write-one, write-lengths}
 use Rattle.rows.proofs.ActLaws.{at-place}
 use Rattle.rows.proofs.RemainLaws.{Remain, remain-start, remain-as, ready-first, remain-step, remain-done}
 use Rattle.matchlater.specs.Match.{NextMatch}
+use Rattle.matchlater.proofs.MatchLaws.{scan-same, scan-step, scan-end}
 use Rattle.countlater.specs.Count.{item, groupIn, childrenOf}
 use Rattle.countlater.specs.declared.Item.{Item}
-use Rattle.countlater.proofs.PassedLaws.{item-inside, item-outside, props-some, props-none}
-use Rattle.matchlater.proofs.MatchLaws.{scan-same, scan-step, scan-end}
+use Rattle.countlater.proofs.PassedLaws.{Inside, item-inside, item-outside, props-some, props-none}
 use Rattle.countlater.proofs.ScanLaws.{shown-some, shown-none}
-use Rattle.later.specs.Write.{nameIn, trailerOr0, propsAt, GroupReady, GroupDone, act, groupControl, ControlReady, ControlDone, scanned, ScanReady}
-use Rattle.later.specs.declared.Wrote.{Wrote}
+use Rattle.later.specs.Write.{PropertyInside, trailerOr0, propsAt, GroupReady, GroupDone, groupControl, next, stateAt, ControlReady, ControlDone, scannedControl, scanned, ScanReady, ScanDone}
+use Rattle.later.specs.declared.WrittenGroup.{WrittenGroup}
 
 -- ---- one control with its group
-pub own-many : (s : List ℕ) (n : Node Prop) → length (controlOf s n .properties) ≡ length (n .props)
+pub own-many : (s : List ℕ) (name : Node Prop → Name) (n : Node Prop) → length (controlOf s name n .properties) ≡ length (n .props)
 unfolding controlOf
-own-many s n = simp length-map
+own-many s name n = simp length-map
 
-module _ (s : List ℕ) (kind limit at : ℕ) (cs : List ℕ) (ci : ℕ) (ps : List ℕ) (pi : ℕ) (h : ControlReady s kind limit at (state cs ci ps pi)) where
-  pub their-own : length (theirs (groupControl s kind limit at ∷ [])) ≡ length (propsAt s limit at)
-  their-own = ap length (theirs-one (groupControl s kind limit at)) ∙ own-many s (node kind (propsAt s limit at))
+module _ {s : List ℕ} {limit : ℕ} {n : Next} {type : ℕ} {name : Name} {cs ps : List ℕ} (h : ControlReady s limit n type name cs ps) where
+  pub their-own : length (theirs (groupControl s type name limit (n .at) ∷ [])) ≡ length (propsAt s limit (n .at))
+  their-own = ap length (theirs-one (groupControl s type name limit (n .at))) ∙ simp length-map
 
-  pub group-ready : GroupReady s limit at (length ps) pi
+  pub group-ready : GroupReady s limit (n .at) (length ps) (n .property)
   group-ready = record { inside = h .inside; small = h .small; fits = omega (arith, h .fits .room .properties, their-own) }
 
-  pub row-ready : ci * controlWidth + controlWidth ≤ length cs
+  pub row-ready : n .control * controlWidth + controlWidth ≤ length cs
   row-ready = omega (arith, h .fits .room .controls)
 
-  module _ (w : Wrote) (ps′ : List ℕ) (d : GroupDone s limit at ps pi ps′ w) where
-    pub words-ready : ci + pi + (1 + w .count) ≤ longest
+  module _ {w : WrittenGroup} {ps′ : List ℕ} (d : GroupDone s limit (n .at) ps (n .property) ps′ w) where
+    pub words-ready : n .control + n .property + (1 + w .count) ≤ longest
     words-ready = omega (arith, h .fits .few, their-own, d .count)
 
-    pub control-done : (row : ControlRow) → controlWords row ≡ kind ∷ nameWords ci (w .name) ++ (pi ∷ w .count ∷ [])
-        → (cs′ : List ℕ) → cs′ ≡ put controlWidth cs ci (controlWords row ∷ []) → ControlDone s kind limit at (state cs ci ps pi) cs′ ps′ w
-    unfolding controlOf nameOf nameIn controlRow
+    pub control-done : (row : ControlRow) → controlWords row ≡ type ∷ nameWords (n .control) name ++ (n .property ∷ w .count ∷ [])
+        → (cs′ : List ℕ) → cs′ ≡ put controlWidth cs (n .control) (controlWords row ∷ []) → ControlDone s limit n type name cs ps cs′ ps′ w
+    unfolding controlRow
     control-done row er cs′ ec =
-        let st = state cs ci ps pi in
-        let c = groupControl s kind limit at in
-        let n : length (map (propertyOf s) (propsAt s limit at)) ≡ length (propsAt s limit at) = simp length-map in
-        let k : w .count ≡ length (map (propertyOf s) (propsAt s limit at)) = d .count ∙ sym n in
-        let e : controlWords row ≡ controlRow ci pi c = er ∙ ap₂ (λ m j. kind ∷ nameWords ci m ++ (pi ∷ j ∷ [])) (d .name) k in
-        let a : cs′ ≡ put controlWidth cs ci (controlRow ci pi c ∷ []) = ec ∙ ap (λ r. put controlWidth cs ci (r ∷ [])) e in
+        let c = groupControl s type name limit (n .at) in
+        let m : length (map (propertyOf s) (propsAt s limit (n .at))) ≡ length (propsAt s limit (n .at)) = simp length-map in
+        let k : w .count ≡ length (map (propertyOf s) (propsAt s limit (n .at))) = d .count ∙ sym m in
+        let e : controlWords row ≡ controlRow (n .control) (n .property) c = er ∙ ap (λ j. type ∷ nameWords (n .control) name ++ (n .property ∷ j ∷ [])) k in
+        let a : cs′ ≡ put controlWidth cs (n .control) (controlRow (n .control) (n .property) c ∷ []) = ec ∙ ap (λ r. put controlWidth cs (n .control) (r ∷ [])) e in
         record {
-          is = (λ i. state (a i) (ci + 1) (d .rows i) (pi + k i)) ∙ sym (write-one c st);
+          is = (λ i. state (a i) (n .control + 1) (d .rows i) (n .property + k i)) ∙ sym (write-one c (stateAt n cs ps));
           count = d .count;
           stop = d .stop;
           trailer = d .trailer;
         }
+
+-- a slice keeps its length
+module _ {s : List ℕ} {limit : ℕ} {n : Next} {type : ℕ} {name : Name} {cs ps cs′ ps′ : List ℕ} {w : WrittenGroup} (d : ControlDone s limit n type name cs ps cs′ ps′ w) where
+  pub controls-kept : length cs′ ≡ length cs
+  controls-kept = ap (λ st. length (st .cs)) (d .is) ∙ write-lengths _ (stateAt n cs ps) .0
+
+  pub properties-kept : length ps′ ≡ length ps
+  properties-kept = ap (λ st. length (st .ps)) (d .is) ∙ write-lengths _ (stateAt n cs ps) .1
 
 -- ---- a node
 -- what the code asks for its children, once the group is written
@@ -78,52 +88,83 @@ children-told s p y e = go (groupIn s p .trailer) refl
 pub record Sweeping (s : List ℕ) (from : ℕ) (old : State) (a : ℕ) (now : State) : Type 0 where
   pub within : a ≤ length s
   pub here : a < length s → matchAt s a ≡ true
-  pub remain : Remain (length s ≤ longest) (controlOf s) (scanned s a) (scanned s from) old now
+  pub remain : Remain (length s ≤ longest) (scannedControl s) (scanned s a) (scanned s from) old now
+  pub controls-same : length (now .cs) ≡ length (old .cs)
+  pub properties-same : length (now .ps) ≡ length (old .ps)
 
-pub sweeping-start : (s : List ℕ) (from : ℕ) (st : State) (a : ℕ) → ScanReady s from st → NextMatch s from a → Sweeping s from st a st
-sweeping-start s from st a h n = record {
+pub sweeping-start : {s : List ℕ} {from : ℕ} {st : State} {a : ℕ} → ScanReady s from st → NextMatch s from a → Sweeping s from st a st
+sweeping-start {s} {from} {st} {a} h n = record {
   within = n .within;
   here = n .here;
-  remain = remain-start _ (controlOf s) (scanned s a) (scanned s from) st (ap (λ ns. some (ns, length s)) (scan-same s from a n)) (h .ready);
+  remain = remain-start _ (scannedControl s) (scanned s a) (scanned s from) st (ap (λ ns. some (ns, length s)) (scan-same s from a n)) (h .ready);
+  controls-same = refl;
+  properties-same = refl;
 }
 
-pub sweeping-done : (s : List ℕ) (from : ℕ) (old : State) (a : ℕ) (now : State) → Sweeping s from old a now → length s ≤ a → some (at-place now a) ≡ act s (scanned s from) old
-sweeping-done s from old a now w h =
+pub sweeping-done : {s : List ℕ} {from : ℕ} {old : State} {a : ℕ} {cs : List ℕ} {ci : ℕ} {ps : List ℕ} {pi : ℕ} → Sweeping s from old a (state cs ci ps pi) → length s ≤ a
+    → ScanDone s from old cs ps (next a ci pi)
+sweeping-done {s} {from} {old} {a} {cs} {ci} {ps} {pi} w h =
     let z : length s ≡ a = omega (arith, w .within) in
-    remain-done _ (controlOf s) (scanned s from) old now a (remain-as _ (controlOf s) (scanned s a) (some ([], a)) (scanned s from) old now (ap₂ (λ ns e. some (ns, e)) (scan-end s a h) z) (w .remain))
+    let e : scanned s a ≡ some ([], a) = ap₂ (λ ns e. some (ns, e)) (scan-end s a h) z in
+    remain-done _ (scannedControl s) (scanned s from) old (state cs ci ps pi) a (remain-as _ (scannedControl s) (scanned s a) (some ([], a)) (scanned s from) old (state cs ci ps pi) e (w .remain))
 
-module _ (s : List ℕ) (from : ℕ) (old : State) (a : ℕ) (cs : List ℕ) (ci : ℕ) (ps : List ℕ) (pi : ℕ) (known : Sweeping s from old a (state cs ci ps pi)) (l : a < length s) (b : ℕ) (next : NextMatch s (a + 6) b)
-    (r : Item) (re : r ≡ item s b a) where
-  pub sweeping-same : r ≡ Item.Outside → Sweeping s from old b (state cs ci ps pi)
+-- the control of a match's group: its name is that of its first property, the match
+module _ (s : List ℕ) (limit a : ℕ) (h : limit ≤ length s) (t : isInside s limit a ≡ true) where
+  pub scanned-is : (name : Name) → name ≡ textName (propertyOf s (propertyAt s a)) → scannedControl s (node 0 (propsAt s limit a)) ≡ groupControl s 0 name limit a
+  unfolding controlOf scannedName
+  scanned-is name e =
+      let m = ap (λ qs. textName (propertyOf s (firstOf qs))) (group-begins s limit a h t .is) ∙ sym e in
+      ap (λ name. groupControl s 0 name limit a) m
+
+module _ {s : List ℕ} {from : ℕ} {old : State} {a : ℕ} {cs : List ℕ} {ci : ℕ} {ps : List ℕ} {pi : ℕ} (known : Sweeping s from old a (state cs ci ps pi)) (l : a < length s) {b : ℕ}
+    (n : NextMatch s (a + 6) b) {r : Item} (re : r ≡ item s b a) where
+  abbrev here : State
+  here = state cs ci ps pi
+
+  pub sweeping-same : r ≡ Item.Outside → Sweeping s from old b here
   sweeping-same rk =
-      let e = shown-none (groupAt s b a .props) (props-none s b a (next .within) (item-outside s b a r re rk)) in
+      let e = shown-none (groupAt s b a .props) (props-none s b a (n .within) (item-outside s b a r re rk)) in
       record {
-        within = next .within;
-        here = next .here;
-        remain = remain-as _ (controlOf s) (scanned s a) (scanned s b) (scanned s from) old (state cs ci ps pi)
-            (ap (λ ns. some (ns, length s)) (scan-step s a b (known .here l) next ∙ ap (λ ns. ns ++ scanFrom s b) e)) (known .remain);
+        within = n .within;
+        here = n .here;
+        remain = remain-as _ (scannedControl s) (scanned s a) (scanned s b) (scanned s from) old here
+            (ap (λ ns. some (ns, length s)) (scan-step s a b (known .here l) n ∙ ap (λ ns. ns ++ scanFrom s b) e)) (known .remain);
+        controls-same = known .controls-same;
+        properties-same = known .properties-same;
       }
 
-  module _ (z e t : ℕ) (rk : r ≡ Item.Inside z e t) where
-    first-left : Remain (length s ≤ longest) (controlOf s) (some (node 0 (propsAt s b a) ∷ [], b) then scanned s) (scanned s from) old (state cs ci ps pi)
-    first-left = remain-as _ (controlOf s) (scanned s a) _ (scanned s from) old (state cs ci ps pi)
+  module _ {z e t : ℕ} (rk : r ≡ Item.Inside z e t) where
+    inside : Inside s b a z e t
+    inside = item-inside s b a r z e t re rk
+
+    pub match-inside : PropertyInside s a z
+    match-inside = record { small = known .remain .ready .known; within = omega (arith, inside .next, inside .size, inside .within, n .within); is = inside .size }
+
+    first-left : Remain (length s ≤ longest) (scannedControl s) (some (node 0 (propsAt s b a) ∷ [], b) then scanned s) (scanned s from) old here
+    first-left = remain-as _ (scannedControl s) (scanned s a) _ (scanned s from) old here
         (ap (λ ns. some (ns, length s))
-        (scan-step s a b (known .here l) next ∙ ap (λ ns. ns ++ scanFrom s b) (shown-some (groupAt s b a .props) (props-some s b a (next .within) (item-inside s b a r z e t re rk .test)))))
+        (scan-step s a b (known .here l) n ∙ ap (λ ns. ns ++ scanFrom s b) (shown-some (groupAt s b a .props) (props-some s b a (n .within) (inside .test)))))
         (known .remain)
 
-    pub sweeping-ready : ControlReady s 0 b a (state cs ci ps pi)
-    sweeping-ready =
-        let f = ready-first (length s ≤ longest) (controlOf s) (some (node 0 (propsAt s b a) ∷ [], b)) (scanned s) (state cs ci ps pi) (first-left .ready) in
-        record { inside = next .within; small = f .known; fits = f .fits }
+    module _ {name : Name} (en : name ≡ textName (propertyOf s (propertyAt s a))) where
+      control-is : scannedControl s (node 0 (propsAt s b a)) ≡ groupControl s 0 name b a
+      control-is = scanned-is s b a (n .within) (inside .test) name en
 
-    module _ (w : Wrote) (cs′ ps′ : List ℕ) (done : ControlDone s 0 b a (state cs ci ps pi) cs′ ps′ w) where
-      pub sweeping-adds : ci + pi + (1 + w .count) ≤ longest
-      sweeping-adds = omega (arith, sweeping-ready .fits .few, their-own s 0 b a cs ci ps pi sweeping-ready, done .count)
+      pub sweeping-ready : ControlReady s b (next a ci pi) 0 name cs ps
+      sweeping-ready =
+          let f = ready-first (length s ≤ longest) (scannedControl s) (some (node 0 (propsAt s b a) ∷ [], b)) (scanned s) here (first-left .ready) in
+          record { inside = n .within; small = f .known; fits = subst (λ c. Fit (c ∷ []) here) control-is (f .fits) }
 
-      pub sweeping-more : Sweeping s from old b (state cs′ (ci + 1) ps′ (pi + w .count))
-      sweeping-more = record {
-        within = next .within;
-        here = next .here;
-        remain = remain-step _ (controlOf s) (some (node 0 (propsAt s b a) ∷ [], b)) (scanned s) (scanned s from) old (state cs ci ps pi) (state cs′ (ci + 1) ps′ (pi + w .count)) b first-left
-            (ap (λ z. some (at-place z b)) (done .is));
-      }
+      module _ {w : WrittenGroup} {cs′ ps′ : List ℕ} (done : ControlDone s b (next a ci pi) 0 name cs ps cs′ ps′ w) where
+        pub sweeping-adds : ci + pi + (1 + w .count) ≤ longest
+        sweeping-adds = omega (arith, sweeping-ready .fits .few, their-own sweeping-ready, done .count)
+
+        pub sweeping-more : Sweeping s from old b (state cs′ (ci + 1) ps′ (pi + w .count))
+        sweeping-more = record {
+          within = n .within;
+          here = n .here;
+          remain = remain-step _ (scannedControl s) (some (node 0 (propsAt s b a) ∷ [], b)) (scanned s) (scanned s from) old here (state cs′ (ci + 1) ps′ (pi + w .count)) b first-left
+              (ap (λ z. some (at-place z b)) (done .is ∙ ap (λ c. writeControls (c ∷ []) here) (sym control-is)));
+          controls-same = controls-kept done ∙ known .controls-same;
+          properties-same = properties-kept done ∙ known .properties-same;
+        }

@@ -1,7 +1,7 @@
 -- The writing pass: what each function asks and leaves.
 use Prim.Native.Nat.{ℕ, _+_, _*_, _≤_}
 use mathlib.Core.Path.{_≡_}
-use mathlib.Core.Bool.{Bool, cond}
+use mathlib.Core.Bool.{Bool}
 use mathlib.Core.List.{List, [], _∷_, map}
 use mathlib.Core.Option.{Option, none, some}
 use lib.Dec.{eqb}
@@ -10,29 +10,15 @@ use Rattle.rules.specs.Lists.{find}
 use Rattle.rules.specs.Answer.{longest}
 use Rattle.rules.specs.Rows.{propertyWidth}
 use Rattle.rules.specs.Reading.{Control}
-use Rattle.rules.specs.Tree.{node}
+use Rattle.rules.specs.Tree.{Node}
 use Rattle.rules.specs.Later.{Prop, lengthAt, groupAt, scanFrom, objectGroup, treeOf, nodesBy}
-use Rattle.rules.specs.ReadLater.{propertyOf, nameBy, nameOr, controlOf}
-use Rattle.rules.specs.declared.Property.{Property}
+use Rattle.rules.specs.ReadLater.{propertyOf, nameOr, nameOf, scannedName, nameIn, controlOf}
 use Rattle.rules.specs.declared.Name.{Name}
 use Rattle.rows.specs.Writing.{State, state, writeControls, writeProperties}
-use Rattle.rows.specs.Acts.{Nodes, Fit, Stood, actBy, Ready}
+use Rattle.rows.specs.Acts.{Nodes, Fit, stood, actBy, Ready}
+use Rattle.rows.specs.declared.Next.{Next}
 use Rattle.countlater.specs.Count.{isTree}
-use Rattle.later.specs.declared.Named.{Named}
-use Rattle.later.specs.declared.Wrote.{Wrote}
-
--- ---- names
--- the name that is known, else the other
-abbrev pub orName : Named → Name → Name
-orName Named.Not n = n
-orName (Named.As m) n = m
-
-abbrev pub firstName : Named → Property → Named
-firstName Named.Not q = cond (eqb (q .id) 0x0014) (Named.As (nameBy q)) Named.Not
-firstName (Named.As m) q = Named.As m
-
-unfoldable pub nameIn : List ℕ → List Prop → Name
-nameIn s qs = nameOr s (find (λ q. eqb (q .id) 0x0014) qs)
+use Rattle.later.specs.declared.WrittenGroup.{WrittenGroup}
 
 -- ---- a group
 -- the property at `at` lies within a stream that is not too long
@@ -49,51 +35,79 @@ trailerOr0 (some t) = t
 abbrev pub propsAt : List ℕ → ℕ → ℕ → List Prop
 propsAt s limit at = groupAt s limit at .props
 
+-- the name that the first property 0x0014 of these gives, and that of the node whose group is at `at`
+abbrev pub nameAmong : List ℕ → List Prop → Name
+nameAmong s qs = nameOr s (find (λ q. eqb (q .id) 0x0014) qs)
+
+unfoldable pub nodeName : List ℕ → ℕ → Name
+nodeName s at = nameAmong s (propsAt s (length s) at)
+
 pub record GroupReady (s : List ℕ) (limit at room first : ℕ) : Type 0 where
   pub inside : limit ≤ length s
   pub small : length s ≤ longest
   pub fits : (first + length (propsAt s limit at)) * propertyWidth ≤ room
 
-pub record GroupDone (s : List ℕ) (limit at : ℕ) (old : List ℕ) (first : ℕ) (new : List ℕ) (r : Wrote) : Type 0 where
+pub record GroupDone (s : List ℕ) (limit at : ℕ) (old : List ℕ) (first : ℕ) (new : List ℕ) (r : WrittenGroup) : Type 0 where
   pub rows : new ≡ writeProperties (map (propertyOf s) (propsAt s limit at)) old first
   pub count : r .count ≡ length (propsAt s limit at)
   pub stop : r .stop ≡ groupAt s limit at .stop
   pub trailer : r .trailer ≡ trailerOr0 (groupAt s limit at .trailer)
-  pub name : r .name ≡ nameIn s (propsAt s limit at)
 
--- ---- nodes
--- there is room for their rows, and the stream is not too long
-abbrev pub NodesReady : List ℕ → Nodes Prop → State → Type 0
-NodesReady s o st = Ready (length s ≤ longest) (controlOf s) o st
+-- ---- a group with its control's row
+abbrev pub groupControl : List ℕ → ℕ → Name → ℕ → ℕ → Control
+groupControl s type name limit at = record { type = type; name = name; properties = map (propertyOf s) (propsAt s limit at) }
 
--- what writing their rows does
-abbrev pub act : List ℕ → Nodes Prop → State → Option Stood
-act s o st = actBy (controlOf s) o st
+abbrev pub next : ℕ → ℕ → ℕ → Next
+next at control property = record { at = at; control = control; property = property }
 
--- a group with its control's row
-abbrev pub groupControl : List ℕ → ℕ → ℕ → ℕ → Control
-groupControl s kind limit at = controlOf s (node kind (propsAt s limit at))
+-- the slices, and the rows that are next in them
+abbrev pub stateAt : Next → List ℕ → List ℕ → State
+stateAt n cs ps = state cs (n .control) ps (n .property)
 
-pub record ControlReady (s : List ℕ) (kind limit at : ℕ) (st : State) : Type 0 where
+pub record ControlReady (s : List ℕ) (limit : ℕ) (n : Next) (type : ℕ) (name : Name) (cs ps : List ℕ) : Type 0 where
   pub inside : limit ≤ length s
   pub small : length s ≤ longest
-  pub fits : Fit (groupControl s kind limit at ∷ []) st
+  pub fits : Fit (groupControl s type name limit (n .at) ∷ []) (stateAt n cs ps)
 
-pub record ControlDone (s : List ℕ) (kind limit at : ℕ) (old : State) (cs ps : List ℕ) (r : Wrote) : Type 0 where
-  pub is : state cs (old .ci + 1) ps (old .pi + r .count) ≡ writeControls (groupControl s kind limit at ∷ []) old
-  pub count : r .count ≡ length (propsAt s limit at)
-  pub stop : r .stop ≡ groupAt s limit at .stop
-  pub trailer : r .trailer ≡ trailerOr0 (groupAt s limit at .trailer)
+pub record ControlDone (s : List ℕ) (limit : ℕ) (n : Next) (type : ℕ) (name : Name) (cs ps cs′ ps′ : List ℕ) (r : WrittenGroup) : Type 0 where
+  pub is : state cs′ (n .control + 1) ps′ (n .property + r .count) ≡ writeControls (groupControl s type name limit (n .at) ∷ []) (stateAt n cs ps)
+  pub count : r .count ≡ length (propsAt s limit (n .at))
+  pub stop : r .stop ≡ groupAt s limit (n .at) .stop
+  pub trailer : r .trailer ≡ trailerOr0 (groupAt s limit (n .at) .trailer)
 
--- the scan as a reading that ends with the stream
+-- ---- nodes. What is written of them by f, which makes a control of a node: the slices at exit, and what is next in them and in the stream
+abbrev pub WrittenBy : (Node Prop → Control) → Nodes Prop → State → List ℕ → List ℕ → Next → Type 0
+WrittenBy f o old cs ps r = some (stood cs (r .control) ps (r .property) (r .at)) ≡ actBy f o old
+
+-- of the tree: there is room for their rows, and the stream is not too long
+abbrev pub treeControl : List ℕ → Node Prop → Control
+treeControl s = controlOf s (nameOf s)
+
+abbrev pub NodesReady : List ℕ → Nodes Prop → State → Type 0
+NodesReady s o st = Ready (length s ≤ longest) (treeControl s) o st
+
+abbrev pub NodesDone : List ℕ → Nodes Prop → State → List ℕ → List ℕ → Next → Type 0
+NodesDone s = WrittenBy (treeControl s)
+
+-- of the scan, which ends with the stream
+abbrev pub scannedControl : List ℕ → Node Prop → Control
+scannedControl s = controlOf s (scannedName s)
+
 abbrev pub scanned : List ℕ → ℕ → Nodes Prop
 scanned s p = some (scanFrom s p, length s)
 
 pub record ScanReady (s : List ℕ) (p : ℕ) (st : State) : Type 0 where
   pub within : p ≤ length s
-  pub ready : NodesReady s (scanned s p) st
+  pub ready : Ready (length s ≤ longest) (scannedControl s) (scanned s p) st
+
+abbrev pub ScanDone : List ℕ → ℕ → State → List ℕ → List ℕ → Next → Type 0
+ScanDone s p = WrittenBy (scannedControl s) (scanned s p)
 
 -- ---- the whole stream
+-- how a control is made of a node
+abbrev pub control : List ℕ → Node Prop → Control
+control s = controlOf s (nameIn s (treeOf s))
+
 -- the state once the object's properties are written
 abbrev pub started : List ℕ → List ℕ → List ℕ → State
 started s cs ps = state cs 0 (writeProperties (map (propertyOf s) (objectGroup s .props)) ps 0) (length (objectGroup s .props))
@@ -103,4 +117,4 @@ pub record BlobReady (s : List ℕ) (tree : Bool) (cs ps : List ℕ) : Type 0 wh
   pub is : tree ≡ isTree (treeOf s)
   pub own : length (objectGroup s .props) * propertyWidth ≤ length ps
   pub small : length s ≤ longest
-  pub fits : Fit (map (controlOf s) (nodesBy s (treeOf s))) (started s cs ps)
+  pub fits : Fit (map (control s) (nodesBy s (treeOf s))) (started s cs ps)

@@ -29,26 +29,26 @@ ghost use Prim.Native.Nat.{_+_, _≤_};
 ghost use lib.ListN.{length};
 ghost use Rattle.rules.specs.Answer.{longest};
 ghost use Rattle.rules.specs.Later.{propertyAt, nodesAt};
-ghost use Rattle.rules.specs.ReadLater.{propertyOf, nameBy, readLater};
-ghost use Rattle.rules.specs.declared.Name.the-variants.{Numbered};
+ghost use Rattle.rules.specs.ReadLater.{propertyOf, textName, nameBy, readLater};
 ghost use Rattle.rows.specs.Writing.{state};
-ghost use Rattle.rows.specs.Acts.{topNodes, stood};
+ghost use Rattle.rows.specs.Acts.{topNodes};
 ghost use Rattle.judge.specs.Judge.{Written, Exits};
 ghost use Rattle.countlater.specs.Count.{wholeTree};
-ghost use Rattle.later.specs.Write.{orName, firstName, PropertyInside, GroupReady, GroupDone, ControlReady, ControlDone, NodesReady, act, scanned, ScanReady, BlobReady};
+ghost use Rattle.later.specs.Write.{nodeName, PropertyInside, GroupReady, GroupDone, ControlReady, ControlDone, NodesReady, NodesDone, treeControl, ScanReady, ScanDone, BlobReady};
 
-// A control's name, where a property has told it.
-pub enum Named {
-    Not,
-    As(Name),
-}
+// The id of a control's name.
+const NAME_ID: u16 = 0x14;
+
+// The value marks of Text: UTF-16, and bytes that aren't.
+const TEXT: u32 = 6;
+
+const LOOSE: u32 = 8;
 
 // What was written of a group; the trailer is 0 where none ended it.
-pub struct Wrote {
+pub struct WrittenGroup {
     pub count: usize,
     pub stop: usize,
     pub trailer: u32,
-    pub name: Name,
 }
 
 // The property at `at`, whose value has `size` bytes.
@@ -67,82 +67,84 @@ fn property_at(s: &[u8], at: usize, size: usize) -> Property
     }
 }
 
-fn name_by(q: Property) -> Name
-    ensures { λ r. ⌜ r ≡ nameBy q ⌝ }
+// The name that a Text property gives.
+fn text_name(q: Property) -> Name
+    ensures { λ r. ⌜ r ≡ textName q ⌝ }
 {
     let v = q.value;
-    if v.mark == 6 {
+    if v.mark == TEXT {
         return Name::Text {
             start: q.start,
             size: q.size,
         };
     }
-    if v.mark == 8 {
-        return Name::Loose {
-            start: q.start,
-            size: q.size,
-        };
+    Name::Loose {
+        start: q.start,
+        size: q.size,
+    }
+}
+
+// The name that the first property 0x0014 of a node gives.
+fn name_by(q: Property) -> Name
+    ensures { λ r. ⌜ r ≡ nameBy q ⌝ }
+{
+    let v = q.value;
+    if v.mark == TEXT || v.mark == LOOSE {
+        return text_name(q);
     }
     Name::Numbered
 }
 
-// The first property 0x0014 tells the name.
-fn first_name(known: Named, q: Property) -> Named
-    ensures { λ r. ⌜ r ≡ firstName known q ⌝ }
+// The name of the node whose group is at `at`.
+fn node_name(s: &[u8], at: usize) -> Name
+    requires { ⌜ length (now s) ≤ longest ⌝ }
+    ensures { λ r. ⌜ r ≡ nodeName (now (s .entry)) at ⌝ }
 {
-    match known {
-        Named::As(name) => Named::As(name),
-        Named::Not => {
-            if q.id == 0x14 {
-                Named::As(name_by(q))
-            } else {
-                Named::Not
+    let mut p = at;
+    loop {
+        match parse_entry(s, s.len(), p) {
+            Item::Outside => {
+                return Name::Numbered;
+            }
+            Item::Inside(size, next, trailer) => {
+                if u16_at(s, p) == NAME_ID {
+                    return name_by(property_at(s, p, size));
+                }
+                if ends_group(trailer) {
+                    return Name::Numbered;
+                }
+                p = next;
             }
         }
     }
 }
 
-fn name_or_number(known: Named) -> Name
-    ensures { λ r. ⌜ r ≡ orName known Numbered ⌝ }
-{
-    match known {
-        Named::As(name) => name,
-        Named::Not => Name::Numbered,
-    }
-}
-
 // Writes a row for each property of the group at `at`, from row `first` on.
-fn write_group(s: &[u8], limit: usize, at: usize, rows: &mut [u32], first: usize) -> Wrote
+fn write_group(s: &[u8], limit: usize, at: usize, rows: &mut [u32], first: usize) -> WrittenGroup
     requires { ⌜ GroupReady (now s) limit at (length (now rows)) first ⌝ }
     ensures { λ r. ⌜ GroupDone (now (s .entry)) limit at (now (rows .entry)) first (now (rows .exit)) r ⌝ }
 {
     let mut p = at;
     let mut n = first;
-    let mut known = Named::Not;
     loop {
         match parse_entry(s, limit, p) {
             Item::Outside => {
-                let name = name_or_number(known);
-                return Wrote {
+                return WrittenGroup {
                     count: n - first,
                     stop: p,
                     trailer: 0,
-                    name,
                 };
             }
             Item::Inside(size, next, trailer) => {
                 let q = property_at(s, p, size);
-                known = first_name(known, q);
                 put_property(rows, n, q);
                 n = n + 1;
                 p = next;
                 if ends_group(trailer) {
-                    let name = name_or_number(known);
-                    return Wrote {
+                    return WrittenGroup {
                         count: n - first,
                         stop: p,
                         trailer,
-                        name,
                     };
                 }
             }
@@ -150,30 +152,28 @@ fn write_group(s: &[u8], limit: usize, at: usize, rows: &mut [u32], first: usize
     }
 }
 
-// Writes the group at `at` and its control's row.
+// Writes the group at `next` and the row of its control, which has this type and name.
 fn write_control(
     s: &[u8],
-    kind: u16,
     limit: usize,
-    at: usize,
+    next: Next,
+    node_type: u16,
+    name: Name,
     controls: &mut [u32],
-    control: usize,
     properties: &mut [u32],
-    property: usize,
-) -> Wrote
-    requires { ⌜ ControlReady (now s) kind limit at (state (now controls) control (now properties) property) ⌝ }
-    ensures { λ r. ⌜ ControlDone (now (s .entry)) kind limit at (state (now (controls .entry)) control (now (properties .entry)) property) (now (controls .exit)) (now (properties .exit)) r ⌝ }
+) -> WrittenGroup
+    requires { ⌜ ControlReady (now s) limit next «node_type» name (now controls) (now properties) ⌝ }
+    ensures { λ r. ⌜ ControlDone (now (s .entry)) limit next «node_type» name (now (controls .entry)) (now (properties .entry)) (now (controls .exit)) (now (properties .exit)) r ⌝ }
 {
-    let w = write_group(s, limit, at, properties, property);
-    let name = w.name;
+    let w = write_group(s, limit, next.at, properties, next.property);
     let row = control_row(
-        kind as u32,
+        node_type as u32,
         name,
-        control as u32,
-        property as u32,
+        next.control as u32,
+        next.property as u32,
         w.count as u32,
     );
-    put_control(controls, control, row);
+    put_control(controls, next.control, row);
     w
 }
 
@@ -187,7 +187,7 @@ fn write_sections(
     property: usize,
 ) -> Next
     requires { ⌜ NodesReady (now s) (topNodes (nodesAt 256 (now s) n at)) (state (now controls) 0 (now properties) property) ⌝ }
-    ensures { λ r. ⌜ some (stood (now (controls .exit)) (r .control) (now (properties .exit)) (r .property) (r .at)) ≡ act (now (s .entry)) (topNodes (nodesAt 256 (now (s .entry)) n at)) (state (now (controls .entry)) 0 (now (properties .entry)) property) ⌝ }
+    ensures { λ r. ⌜ NodesDone (now (s .entry)) (topNodes (nodesAt 256 (now (s .entry)) n at)) (state (now (controls .entry)) 0 (now (properties .entry)) property) (now (controls .exit)) (now (properties .exit)) r ⌝ }
 {
     let mut stack = [0; 512];
     let mut c = reported(
@@ -203,15 +203,19 @@ fn write_sections(
     let mut j = property;
     while 0 < c.left {
         let place = c.at;
+        let name = node_name(s, place + 6);
         let w = write_control(
             s,
-            u16_at(s, place),
             s.len(),
-            place + 6,
+            Next {
+                at: place + 6,
+                control: i,
+                property: j,
+            },
+            u16_at(s, place),
+            name,
             controls,
-            i,
             properties,
-            j,
         );
         c = reported(s, past(s, &mut stack, c, i as u32, w.trailer, w.stop));
         i = i + 1;
@@ -224,7 +228,7 @@ fn write_sections(
     }
 }
 
-// Writes what the scan from `from` on finds.
+// Writes what the scan from `from` on finds: a group's first property is its match, and that is its control's name.
 fn write_scanned(
     s: &[u8],
     from: usize,
@@ -233,7 +237,7 @@ fn write_scanned(
     property: usize,
 ) -> Next
     requires { ⌜ ScanReady (now s) from (state (now controls) 0 (now properties) property) ⌝ }
-    ensures { λ r. ⌜ some (stood (now (controls .exit)) (r .control) (now (properties .exit)) (r .property) (r .at)) ≡ act (now (s .entry)) (scanned (now (s .entry)) from) (state (now (controls .entry)) 0 (now (properties .entry)) property) ⌝ }
+    ensures { λ r. ⌜ ScanDone (now (s .entry)) from (state (now (controls .entry)) 0 (now (properties .entry)) property) (now (controls .exit)) (now (properties .exit)) r ⌝ }
 {
     let mut a = find_match(s, from);
     let mut i: usize = 0;
@@ -244,8 +248,21 @@ fn write_scanned(
             Item::Outside => {
                 a = limit;
             }
-            Item::Inside(_, _, _) => {
-                let w = write_control(s, 0, limit, a, controls, i, properties, j);
+            Item::Inside(size, _, _) => {
+                let name = text_name(property_at(s, a, size));
+                let w = write_control(
+                    s,
+                    limit,
+                    Next {
+                        at: a,
+                        control: i,
+                        property: j,
+                    },
+                    0,
+                    name,
+                    controls,
+                    properties,
+                );
                 i = i + 1;
                 j = j + w.count;
                 a = limit;
@@ -269,7 +286,7 @@ fn write_tree(
     property: usize,
 ) -> Next
     requires { ⌜ NodesReady (now s) (topNodes (wholeTree (now s) trailer at)) (state (now controls) 0 (now properties) property) ⌝ }
-    ensures { λ r. ⌜ some (stood (now (controls .exit)) (r .control) (now (properties .exit)) (r .property) (r .at)) ≡ act (now (s .entry)) (topNodes (wholeTree (now (s .entry)) trailer at)) (state (now (controls .entry)) 0 (now (properties .entry)) property) ⌝ }
+    ensures { λ r. ⌜ NodesDone (now (s .entry)) (topNodes (wholeTree (now (s .entry)) trailer at)) (state (now (controls .entry)) 0 (now (properties .entry)) property) (now (controls .exit)) (now (properties .exit)) r ⌝ }
 {
     match children_at(s, trailer, at) {
         Children::Bad => Next {

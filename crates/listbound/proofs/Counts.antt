@@ -15,7 +15,7 @@ use Rattle.rules.specs.Access2000 as old
 use Rattle.rules.specs.Later as later
 use Rattle.rules.specs.Reading.{Reading, properties}
 use Rattle.rules.specs.Read2000.{read2000}
-use Rattle.rules.specs.ReadLater.{propertyOf, controlOf, readLater}
+use Rattle.rules.specs.ReadLater.{propertyOf, nameIn, controlOf, readLater}
 use Rattle.rules.proofs.ListLaws.{Every, every-if, every-then, every-when}
 use Rattle.rules.proofs.LaterLaws.{either}
 use Rattle.rows.specs.Counting.{size, props, propsIn}
@@ -138,7 +138,7 @@ module _ (s : List ℕ) where
       either FewLater (ltb (length s) 14) _ _ (λ _. (omega arith, (omega arith, omega arith)))
       λ _. (group-at (length s) 14, nodes-few (later.treeOf s) tree-few)
 
-  same-many : (n : Node later.Prop) → length (controlOf s n .properties) ≡ length (n .props)
+  same-many : (n : Node later.Prop) → length (controlOf s (nameIn s (later.treeOf s)) n .properties) ≡ length (n .props)
   unfolding controlOf
   same-many n = simp length-map
 
@@ -146,5 +146,5 @@ module _ (s : List ℕ) where
   unfolding readLater
   few-later =
       let h = later-few in
-      let n = made-counts (propertyOf s) (controlOf s) same-many (later.laterOf s .0) (later.laterOf s .1) in
+      let n = made-counts (propertyOf s) (controlOf s (nameIn s (later.treeOf s))) same-many (later.laterOf s .0) (later.laterOf s .1) in
       record { own = omega (arith, h .0, n .own-are); controls = omega (arith, h .1 .0, n .controls-are); all = omega (arith, h .0, h .1 .1, n .properties-are) }

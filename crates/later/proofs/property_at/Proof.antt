@@ -10,4 +10,4 @@ property-at-spec =
     (λ c. search needs) (λ c. search needs) (λ c. search needs) (λ c κs. search needs)
     (λ c. search needs) (λ c. search needs) (λ c. search needs) (λ c κs. search needs)
     (λ c κs. search needs) (λ c. search needs) (λ c. search needs) (λ c. search needs)
-    (λ c. property-is _ _ _ _ _ _ (c .before .before .before .before .before .pre .is) (c .before .before .before .u32-at .ensures) (c .u16-at .ensures) (c .before .entry-value .ensures)))
+    (λ c. property-is _ _ (c .before .before .before .before .before .pre .is) (c .before .before .before .u32-at .ensures) (c .u16-at .ensures) (c .before .entry-value .ensures)))

@@ -4,16 +4,39 @@ use Rattle.later.proofs.ReadLaws.{read-short, read-refused, blob-ready,
 use Rattle.later.proofs.read.Statement.{statement}
 use Rattle.later.proofs.read.Tie as tie
 
+returns-2 : tie.Need-returns-2
+returns-2 c =
+    let long : tie.Else1 = search in
+    let counted : tie.After-count = search in
+    let judged : tie.After-judge = search in
+    read-refused (long .if1 .left) (counted .count .ensures) _ _ _ (judged .judge .ensures) (c .if2 .taken)
+
+write-blob-requires : tie.Need-write-blob-requires
+write-blob-requires c κs =
+    let start : tie.Start = search in
+    let long : tie.Else1 = search in
+    let counted : tie.After-count = search in
+    let judged : tie.After-judge = search in
+    let room : tie.Else2 = search in
+    blob-ready (long .if1 .left) (counted .count .ensures) _ _ _ (judged .judge .ensures) (room .if2 .left) (start .pre)
+
+returns-3 : tie.Need-returns-3
+returns-3 c =
+    let long : tie.Else1 = search in
+    let counted : tie.After-count = search in
+    let judged : tie.After-judge = search in
+    let room : tie.Else2 = search in
+    let wrote : tie.After-write-blob = search in
+    read-done (long .if1 .left) (counted .count .ensures) _ _ _ (judged .judge .ensures) (room .if2 .left) _ _ (wrote .write-blob .ensures)
+
 pub read-spec : {M : Type 1} → statement M
 read-spec =
     tie.close
     (tie.spec
-    (λ c κs. search needs) (λ c. read-short _ _ _ (omega arith) _ (c .counted .ensures))
+    (λ c κs. search needs)
+    (λ c. read-short _ _ _ (omega arith) _ (c .counted .ensures))
     (λ c κs. search needs) (λ c. search needs) (λ c κs. search needs)
-    (λ c. let at-judge = c .before .before in let at-count = at-judge .before .before in
-    read-refused _ (at-count .before .if1 .left) _ (at-count .count .ensures) _ _ _ (at-judge .judge .ensures) (c .if2 .taken))
-    (λ c κs. let at-judge = c .before .before .before .before in let at-count = at-judge .before .before in
-    blob-ready _ (at-count .before .if1 .left) _ (at-count .count .ensures) _ _ _ (at-judge .judge .ensures) (c .before .before .if2 .left) (at-count .before .before .before .before .before .pre))
+    returns-2
+    write-blob-requires
     (λ c. search needs) (λ c. search needs)
-    (λ c. let at-judge = c .before .before .before .before .before .before .before .before .before in let at-count = at-judge .before .before in
-    read-done _ (at-count .before .if1 .left) _ (at-count .count .ensures) _ _ _ (at-judge .judge .ensures) (c .before .before .before .before .before .before .before .if2 .left) _ _ (c .before .before .before .before .write-blob .ensures)))
+    returns-3)

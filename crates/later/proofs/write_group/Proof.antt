@@ -8,32 +8,90 @@ use Rattle.later.proofs.write_group.Statement.{statement}
 use Rattle.later.proofs.write_group.Tie as tie
 
 abbrev Inv-loop : tie.InvT-loop
-Inv-loop s limit at rows₀ first p₀ n₀ known₀ rows p n known = Writing s limit at rows₀ first rows p n known
+Inv-loop s limit at rows₀ first p₀ n₀ rows p n = Writing s limit at rows₀ first rows p n
 
 abbrev μ-loop : tie.MeasureT-loop
-μ-loop s limit at rows₀ first p₀ n₀ known₀ rows p n known = limit - p
+μ-loop s limit at rows₀ first p₀ n₀ rows p n = limit - p
+
+returns : tie.Need-returns Inv-loop μ-loop
+returns c =
+    let start : tie.Start Inv-loop μ-loop = search in
+    let turn : tie.At-loop Inv-loop μ-loop = search in
+    let parsed : tie.After-parse-entry Inv-loop μ-loop = search in
+    writing-none (turn .loop .inv) (start .pre .inside) (parsed .parse-entry .ensures) (c .enum-told .given .1)
+
+property-at-requires : tie.Need-property-at-requires Inv-loop μ-loop
+property-at-requires c κs =
+    let start : tie.Start Inv-loop μ-loop = search in
+    let parsed : tie.After-parse-entry Inv-loop μ-loop = search in
+    inside-property _ _ _ (parsed .parse-entry .ensures) (c .before .size .given .1) (start .pre .inside) (start .pre .small)
+
+put-property-requires : tie.Need-put-property-requires Inv-loop μ-loop
+put-property-requires c κs =
+    let start : tie.Start Inv-loop μ-loop = search in
+    let turn : tie.At-loop Inv-loop μ-loop = search in
+    let parsed : tie.After-parse-entry Inv-loop μ-loop = search in
+    let size : tie.After-size Inv-loop μ-loop = search in
+    writing-room (turn .loop .inv) (start .pre .inside) (parsed .parse-entry .ensures) (size .size .given .1) (start .pre)
+
+add-n : tie.Need-add-n Inv-loop μ-loop
+add-n c =
+    let start : tie.Start Inv-loop μ-loop = search in
+    let turn : tie.At-loop Inv-loop μ-loop = search in
+    let parsed : tie.After-parse-entry Inv-loop μ-loop = search in
+    let size : tie.After-size Inv-loop μ-loop = search in
+    omega (arith, writing-room (turn .loop .inv) (start .pre .inside) (parsed .parse-entry .ensures) (size .size .given .1) (start .pre), turn .loop .inv .same)
+
+same-length-2 : tie.Need-same-length-2 Inv-loop μ-loop
+same-length-2 c =
+    let turn : tie.At-loop Inv-loop μ-loop = search in
+    let put : tie.After-put-property Inv-loop μ-loop = search in
+    put .put-property .kept .0 ∙ turn .loop .inv .same
+
+returns-2 : tie.Need-returns-2 Inv-loop μ-loop
+returns-2 c =
+    let start : tie.Start Inv-loop μ-loop = search in
+    let turn : tie.At-loop Inv-loop μ-loop = search in
+    let parsed : tie.After-parse-entry Inv-loop μ-loop = search in
+    let size : tie.After-size Inv-loop μ-loop = search in
+    let read : tie.After-property-at Inv-loop μ-loop = search in
+    let put : tie.After-put-property Inv-loop μ-loop = search in
+    writing-last (turn .loop .inv) (start .pre .inside) (parsed .parse-entry .ensures) (size .size .given .1) (read .property-at .ensures) (put .put-property .ensures) (c .before .ends-group .ensures) (c .if1 .taken)
+
+loop-less : tie.Need-loop-less Inv-loop μ-loop
+loop-less c =
+    let parsed : tie.After-parse-entry Inv-loop μ-loop = search in
+    let size : tie.After-size Inv-loop μ-loop = search in
+    omega (arith, item-inside _ _ _ _ _ _ _ (parsed .parse-entry .ensures) (size .size .given .1))
+
+loop-again : tie.Need-loop-again Inv-loop μ-loop
+loop-again c =
+    let start : tie.Start Inv-loop μ-loop = search in
+    let turn : tie.At-loop Inv-loop μ-loop = search in
+    let parsed : tie.After-parse-entry Inv-loop μ-loop = search in
+    let size : tie.After-size Inv-loop μ-loop = search in
+    let read : tie.After-property-at Inv-loop μ-loop = search in
+    let put : tie.After-put-property Inv-loop μ-loop = search in
+    writing-more (turn .loop .inv) (start .pre .inside) (parsed .parse-entry .ensures) (size .size .given .1) (read .property-at .ensures) (put .put-property .ensures) (c .before .ends-group .ensures) (c .if1 .left)
 
 pub write-group-spec : {M : Type 1} → statement M
 write-group-spec =
     tie.close
     (tie.spec
-    Inv-loop μ-loop
-    (λ c. writing-start _ _ _ _ _)
-    (λ c κs. search needs) (λ c. search needs) (λ c κs. search needs)
-    (λ c. c .before .before .before .before .loop .inv .least)
-    (λ c. c .before .before .before .before .loop .inv .same)
-    (λ c. writing-none _ _ _ _ _ _ _ _ _ (c .before .before .before .before .loop .inv) (c .before .before .before .before .before .before .before .pre .inside) _ (c .before .before .before .parse-entry .ensures) (c .before .enum-told .given .1) _ (c .name-or-number .ensures))
+    Inv-loop
+    μ-loop
+    (λ c. writing-start)
+    (λ c κs. search needs) (λ c. search needs)
+    (λ c. let turn : tie.At-loop Inv-loop μ-loop = search in turn .loop .inv .least)
+    (λ c. let turn : tie.At-loop Inv-loop μ-loop = search in turn .loop .inv .same)
+    returns
     (λ c. search needs)
-    (λ c κs. inside-property _ _ _ _ _ _ _ _ _ (c .before .before .before .before .loop .inv) (c .before .before .before .before .before .before .before .pre .inside) _ (c .before .before .before .parse-entry .ensures) _ _ _ (c .before .size .given .1) (c .before .before .before .before .before .before .before .pre .small))
+    property-at-requires
+    put-property-requires
+    add-n
     (λ c κs. search needs)
-    (λ c κs. let at-size = c .before .before .before .before in let at-parse-entry = at-size .before .before in let turn = at-parse-entry .before in let start = turn .before .before .before in
-    writing-room _ _ _ _ _ _ _ _ _ (turn .loop .inv) (start .pre .inside) _ (at-parse-entry .parse-entry .ensures) _ _ _ (at-size .size .given .1) (start .pre))
-    (λ c. omega (arith, writing-room _ _ _ _ _ _ _ _ _ (c .before .before .before .before .before .before .before .before .before .before .loop .inv) (c .before .before .before .before .before .before .before .before .before .before .before .before .before .pre .inside) _ (c .before .before .before .before .before .before .before .before .before .parse-entry .ensures) _ _ _ (c .before .before .before .before .before .before .before .size .given .1) (c .before .before .before .before .before .before .before .before .before .before .before .before .before .pre), c .before .before .before .before .before .before .before .before .before .before .loop .inv .same))
-    (λ c κs. search needs) (λ c κs. search needs)
-    (λ c. omega (arith, c .before .before .before .before .before .before .before .before .before .before .before .before .before .loop .inv .least))
-    (λ c. c .before .before .before .before .before .put-property .kept .0 ∙ c .before .before .before .before .before .before .before .before .before .before .before .before .before .loop .inv .same)
-    (λ c. let at-ends-group = c .before .before in let at-put-property = at-ends-group .before .before .before in let at-first-name = at-put-property .before .before in let at-property-at = at-first-name .before in let at-size = at-property-at .before .before in let at-parse-entry = at-size .before .before in let turn = at-parse-entry .before in let start = turn .before .before .before in
-    writing-last _ _ _ _ _ _ _ _ _ (turn .loop .inv) (start .pre .inside) _ (at-parse-entry .parse-entry .ensures) _ _ _ (at-size .size .given .1) _ (at-property-at .property-at .ensures) _ (at-first-name .first-name .ensures) _ (at-put-property .put-property .ensures) _ (at-ends-group .ends-group .ensures) (c .before .if1 .taken) _ (c .name-or-number2 .ensures))
-    (λ c. omega (arith, item-inside _ _ _ _ _ _ _ (c .before .before .before .before .before .before .before .before .before .before .before .parse-entry .ensures) (c .before .before .before .before .before .before .before .before .before .size .given .1)))
-    (λ c. let at-put-property = c .before .before .before .before in let at-first-name = at-put-property .before .before in let at-property-at = at-first-name .before in let at-size = at-property-at .before .before in let at-parse-entry = at-size .before .before in let turn = at-parse-entry .before in let start = turn .before .before .before in
-    writing-more _ _ _ _ _ _ _ _ _ (turn .loop .inv) (start .pre .inside) _ (at-parse-entry .parse-entry .ensures) _ _ _ (at-size .size .given .1) _ (at-property-at .property-at .ensures) _ (at-first-name .first-name .ensures) _ (at-put-property .put-property .ensures) _ (c .before .ends-group .ensures) (c .if1 .left)))
+    (λ c. let turn : tie.At-loop Inv-loop μ-loop = search in omega (arith, turn .loop .inv .least))
+    same-length-2
+    returns-2
+    loop-less
+    loop-again)

@@ -1,9 +1,7 @@
 use native.Mathlib.Omega.{arith}
 use borrow.Author.Needs.{needs}
-use Prim.Native.Nat.{ℕ, _≤_}
-use mathlib.Core.Path.{_≡_, refl, _∙_}
-use lib.ListN.{length, length-replicate}
-use Rattle.rules.specs.Answer.{longest}
+use Prim.Native.Nat.{ℕ}
+use lib.ListN.{length-replicate}
 use Rattle.rules.specs.Later.{nodesAt}
 use Rattle.rows.specs.Writing.{state}
 use Rattle.rows.specs.Acts.{topNodes}
@@ -14,35 +12,89 @@ use Rattle.later.proofs.write_sections.Statement.{statement}
 use Rattle.later.proofs.write_sections.Tie as tie
 
 abbrev Inv-loop : tie.InvT-loop
-Inv-loop s n at controls₀ properties₀ property stack₀ c₀ i₀ j₀ controls properties stack c i j = Going s (topNodes (nodesAt 256 s n at)) (state controls₀ 0 properties₀ property) stack c (state controls i properties j) × (length controls ≡ length controls₀) × (length properties ≡ length properties₀) × (length s ≤ longest)
+Inv-loop s n at controls₀ properties₀ property stack₀ c₀ i₀ j₀ controls properties stack c i j =
+    Going s (topNodes (nodesAt 256 s n at)) (state controls₀ 0 properties₀ property) stack c (state controls i properties j)
 
 abbrev μ-loop : tie.MeasureT-loop
 μ-loop s n at controls₀ properties₀ property stack₀ c₀ i₀ j₀ controls properties stack c i j = howMany (left (stepAt s) i stack c)
 
+loop-holds : tie.Need-loop-holds Inv-loop μ-loop
+loop-holds c =
+    let start : tie.Start Inv-loop μ-loop = search in
+    going-start (length-replicate {A = ℕ} 512 0) (start .pre) (c .reported .ensures)
+
+add-node-name : tie.Need-add-node-name Inv-loop μ-loop
+add-node-name c =
+    let turn : tie.At-loop Inv-loop μ-loop = search in
+    omega (arith, going-inside (turn .loop .inv) (omega arith), turn .loop .inv .small)
+
+add-t17 : tie.Need-add-t17 Inv-loop μ-loop
+add-t17 c =
+    let turn : tie.At-loop Inv-loop μ-loop = search in
+    omega (arith, going-inside (turn .loop .inv) (omega arith), turn .loop .inv .small)
+
 write-control-requires : tie.Need-write-control-requires Inv-loop μ-loop
-write-control-requires c κs = going-ready _ _ _ _ _ _ _ _ _ (c .before .before .before .before .before .loop .inv .0) (omega arith) _ (c .before .before .u16-at .ensures)
+write-control-requires c κs =
+    let turn : tie.At-loop Inv-loop μ-loop = search in
+    let named : tie.After-node-name Inv-loop μ-loop = search in
+    let typed : tie.After-u16-at Inv-loop μ-loop = search in
+    going-ready (turn .loop .inv) (omega arith) (typed .u16-at .ensures) (named .node-name .ensures)
+
+cast-past : tie.Need-cast-past Inv-loop μ-loop
+cast-past c =
+    let turn : tie.At-loop Inv-loop μ-loop = search in
+    let named : tie.After-node-name Inv-loop μ-loop = search in
+    let typed : tie.After-u16-at Inv-loop μ-loop = search in
+    let wrote : tie.After-write-control Inv-loop μ-loop = search in
+    omega (arith, going-adds (turn .loop .inv) (omega arith) (typed .u16-at .ensures) (named .node-name .ensures) (wrote .write-control .ensures))
 
 past-requires : tie.Need-past-requires Inv-loop μ-loop
 past-requires c κs =
-    let wrote = c .before .before .before .before .before in
-    let turn = wrote .before .before .before .before .before .before in
-    going-past _ _ _ _ _ _ _ _ _ (turn .loop .inv .0) (omega arith) _ (wrote .before .before .before .u16-at .ensures) _ _ _ (wrote .write-control .ensures)
+    let turn : tie.At-loop Inv-loop μ-loop = search in
+    let named : tie.After-node-name Inv-loop μ-loop = search in
+    let typed : tie.After-u16-at Inv-loop μ-loop = search in
+    let wrote : tie.After-write-control Inv-loop μ-loop = search in
+    going-past (turn .loop .inv) (omega arith) (typed .u16-at .ensures) (named .node-name .ensures) (wrote .write-control .ensures)
+
+add-i : tie.Need-add-i Inv-loop μ-loop
+add-i c =
+    let past = c .before in
+    let kept = past .before .before .before in
+    let wrote : tie.After-write-control Inv-loop μ-loop = kept .before .before .before in
+    let typed = wrote .before .before .before in
+    let named = typed .before in
+    let turn = named .before .before .before in
+    omega (arith, going-adds (turn .loop .inv) (omega arith) (typed .u16-at .ensures) (named .node-name .ensures) (wrote .write-control .ensures))
+
+add-j : tie.Need-add-j Inv-loop μ-loop
+add-j c =
+    let past = c .before .before in
+    let kept = past .before .before .before in
+    let wrote : tie.After-write-control Inv-loop μ-loop = kept .before .before .before in
+    let typed = wrote .before .before .before in
+    let named = typed .before in
+    let turn = named .before .before .before in
+    omega (arith, going-adds (turn .loop .inv) (omega arith) (typed .u16-at .ensures) (named .node-name .ensures) (wrote .write-control .ensures))
 
 loop-less : tie.Need-loop-less Inv-loop μ-loop
 loop-less c =
-    let wrote = c .before .before .before .before .before .before .before .before in
-    let turn = wrote .before .before .before .before .before .before in
-    going-less _ _ _ _ _ _ _ _ _ (turn .loop .inv .0) (omega arith) _ (wrote .before .before .before .u16-at .ensures) _ _ _ (wrote .write-control .ensures) _ _ _ (c .before .before .past .ensures) (c .before .reported2 .ensures)
+    let past = c .before .before in
+    let kept = past .before .before .before in
+    let wrote : tie.After-write-control Inv-loop μ-loop = kept .before .before .before in
+    let typed = wrote .before .before .before in
+    let named = typed .before in
+    let turn = named .before .before .before in
+    going-less (turn .loop .inv) (omega arith) (typed .u16-at .ensures) (named .node-name .ensures) (wrote .write-control .ensures) _ _ _ (past .past .ensures) (c .before .reported2 .ensures)
 
 loop-again : tie.Need-loop-again Inv-loop μ-loop
 loop-again c =
-    let wrote = c .before .before .before .before .before .before .before .before in
-    let turn = wrote .before .before .before .before .before .before in (
-      going-next _ _ _ _ _ _ _ _ _ (turn .loop .inv .0) (omega arith) _ (wrote .before .before .before .u16-at .ensures) _ _ _ (wrote .write-control .ensures) _ _ _ (c .before .before .past .ensures) (c .before .reported2 .ensures),
-      wrote .write-control .kept .1 .1 .1 .1 .0 ∙ turn .loop .inv .1,
-      wrote .write-control .kept .1 .1 .1 .1 .1 .1 .0 ∙ turn .loop .inv .2,
-      turn .loop .inv .3,
-    )
+    let past = c .before .before in
+    let kept = past .before .before .before in
+    let wrote : tie.After-write-control Inv-loop μ-loop = kept .before .before .before in
+    let typed = wrote .before .before .before in
+    let named = typed .before in
+    let turn = named .before .before .before in
+    going-next (turn .loop .inv) (omega arith) (typed .u16-at .ensures) (named .node-name .ensures) (wrote .write-control .ensures) _ _ _ (past .past .ensures) (c .before .reported2 .ensures)
 
 pub write-sections-spec : {M : Type 1} → statement M
 write-sections-spec =
@@ -51,17 +103,19 @@ write-sections-spec =
     Inv-loop
     μ-loop
     (λ c κs. search needs)
-    (λ c. (going-start _ _ _ _ _ _ _ _ (length-replicate {A = ℕ} 512 0) (c .before .before .before .before .pre) (c .reported .ensures), refl, refl, c .before .before .before .before .pre .known))
+    loop-holds
+    add-node-name
+    (λ c κs. c .before .before .loop .inv .small)
+    add-t17
     (λ c κs. search needs)
-    (λ c. omega (arith, going-inside _ _ _ _ _ _ _ _ _ (c .before .before .before .loop .inv .0) (omega arith), c .before .before .before .loop .inv .3))
     write-control-requires
-    (λ c. let wrote = c .before .before .before .before .before in omega (arith, going-adds _ _ _ _ _ _ _ _ _ (wrote .before .before .before .before .before .before .loop .inv .0) (omega arith) _ (wrote .before .before .before .u16-at .ensures) _ _ _ (wrote .write-control .ensures)))
+    cast-past
     past-requires
     (λ c κs. search needs)
-    (λ c. let wrote = c .before .before .before .before .before .before .before in omega (arith, going-adds _ _ _ _ _ _ _ _ _ (wrote .before .before .before .before .before .before .loop .inv .0) (omega arith) _ (wrote .before .before .before .u16-at .ensures) _ _ _ (wrote .write-control .ensures)))
-    (λ c. let wrote = c .before .before .before .before .before .before .before .before in omega (arith, going-adds _ _ _ _ _ _ _ _ _ (wrote .before .before .before .before .before .before .loop .inv .0) (omega arith) _ (wrote .before .before .before .u16-at .ensures) _ _ _ (wrote .write-control .ensures)))
+    add-i
+    add-j
     loop-less
     loop-again
-    (λ c. c .before .before .loop .inv .1)
-    (λ c. c .before .before .loop .inv .2)
-    (λ c. going-done _ _ _ _ _ _ _ _ _ (c .before .before .loop .inv .0) (omega arith)))
+    (λ c. c .before .before .loop .inv .controls-same)
+    (λ c. c .before .before .loop .inv .properties-same)
+    (λ c. going-done (c .before .before .loop .inv) (omega arith)))
