@@ -122,7 +122,8 @@ fn reported(nodes: Vec<Node>) -> Vec<Control> {
             shown = (0x98..=0x9E).contains(&node.type_code) || node.children > 0;
         }
         if shown {
-            controls.push(control(node.type_code, node.properties));
+            let name = name_in_tree(&node.properties);
+            controls.push(Control { type_code: node.type_code, name, properties: node.properties });
         }
     }
     controls
@@ -142,17 +143,24 @@ fn scan(s: &[u8], start: usize) -> Vec<Control> {
         }
     }
     let ends = matches.iter().skip(1).copied().chain([s.len()]);
-    let groups = matches.iter().zip(ends).map(|(&from, end)| group(s, from, end));
-    groups.filter(|g| !g.properties.is_empty()).map(|g| control(0, g.properties)).collect()
+    let groups = matches.iter().zip(ends).map(|(&from, end)| group(s, from, end).properties);
+    groups.filter_map(|properties| Some(Control { type_code: 0, name: text(properties.first()?), properties })).collect()
 }
 
 // ---- names
 
-fn control(type_code: u16, properties: Vec<Property>) -> Control {
-    let name = match properties.iter().find(|p| p.id == 0x0014) {
-        Some(p) if p.value.mark == 6 => Name::Text { start: p.start, length: p.length },
-        Some(p) if p.value.mark == 8 => Name::Loose { start: p.start, length: p.length },
+/// "its first property 0x0014 if that is Text (mark 6 or 8); otherwise, in the tree, it is numbered"
+fn name_in_tree(properties: &[Property]) -> Name {
+    match properties.iter().find(|p| p.id == 0x0014) {
+        Some(p) if [6, 8].contains(&p.value.mark) => text(p),
         _ => Name::Numbered,
-    };
-    Control { type_code, name, properties }
+    }
+}
+
+/// A Text as a name. "every scanned control has a Text name first"
+fn text(p: &Property) -> Name {
+    match p.value.mark {
+        6 => Name::Text { start: p.start, length: p.length },
+        _ => Name::Loose { start: p.start, length: p.length },
+    }
 }
