@@ -17,11 +17,16 @@ unfoldable pub noneOf : ℕ → List ℕ → ℕ → Bool
 noneOf zero s p = true
 noneOf (suc n) s p = noneOf n s p && ruledOut (byte s (p + n)) (byte s (p + n + 2))
 
--- no match is found from p on before r
-pub record Leapt (s : List ℕ) (p r : ℕ) : Type 0 where
+-- no match is found from p on before r, which is at most stop
+pub record Leapt (s : List ℕ) (p stop r : ℕ) : Type 0 where
   pub same : matchesFrom s p ≡ matchesFrom s r
   pub behind : p ≤ r
-  pub within : r ≤ length s
+  pub within : r ≤ stop
+
+-- the places from p on before stop, and the two bytes after each
+pub record Stretch (s : List ℕ) (p stop : ℕ) : Type 0 where
+  pub ordered : p ≤ stop
+  pub room : stop + 2 ≤ length s
 
 -- r is the first match from p on before stop, or stop
 pub record MatchBefore (s : List ℕ) (p stop r : ℕ) : Type 0 where

@@ -18,5 +18,5 @@ match-at-spec =
     (λ c. search needs)
     (λ c. let a = c .before .before .before .args in sym (match-past (a .s .now) (a .at) (omega arith)))
     (λ c κs. search needs) (λ c. search needs) (λ c κs. search needs)
-    (λ c. let a = c .before .before .before .before .before .before .args in simp (le-leb (a .at + 6) (length (a .s .now)) (omega arith), eq-eqb _ _ (sym (c .before .before .u16-at .ensures) ∙ c .before .if3 .taken), c .u32-at .ensures))
-    (λ c. let a = c .before .before .before .before .before .args in simp (le-leb (a .at + 6) (length (a .s .now)) (omega arith), ne-eqb _ _ (λ e. c .if3 .left (c .before .u16-at .ensures ∙ e)), ne-eqb _ _ (c .if3 .left))))
+    (λ c. let start : tie.Start = search in let a = start .args in simp (le-leb (a .at + 6) (length (a .s .now)) (omega arith), eq-eqb _ _ (sym (c .before .before .u16-at .ensures) ∙ c .before .if3 .taken), c .u32-at .ensures))
+    (λ c. let start : tie.Start = search in let a = start .args in simp (le-leb (a .at + 6) (length (a .s .now)) (omega arith), ne-eqb _ _ (λ e. c .if3 .left (c .before .u16-at .ensures ∙ e)), ne-eqb _ _ (c .if3 .left))))

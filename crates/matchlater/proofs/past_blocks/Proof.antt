@@ -8,7 +8,7 @@ use Rattle.matchlater.proofs.past_blocks.Statement.{statement}
 use Rattle.matchlater.proofs.past_blocks.Tie as tie
 
 abbrev Inv-loop : tie.InvT-loop
-Inv-loop s from p₀ p = Leapt s from p
+Inv-loop s from p₀ p = Leapt s from (length s) p
 
 abbrev μ-loop : tie.MeasureT-loop
 μ-loop s from p₀ p = length s - p
