@@ -8,7 +8,7 @@ use borrow.Author.Tests.{lt-ltb, le-ltb}
 use lib.ListN.{length, replicate}
 use Rattle.rules.specs.Answer.{answer, refusal, longest}
 use Rattle.rules.specs.CodeTable.{wellFormed}
-use Rattle.rules.specs.Blob.{readingOf, fit, outcome, exit}
+use Rattle.rules.specs.Blob.{readingOf, fit, outcome, exit, exit2000, exitLater}
 use Rattle.rules.specs.Dump.{dump}
 use Rattle.rules.specs.Examples.{old, table, blob}
 use Rattle.rules.proofs.OpenStreams.{blob-open}
@@ -73,6 +73,33 @@ reads-nothing-by-0 = refl
 pub reads-thirteen : exit table thirteen [] [] .answer ≡ refusal 0
 unfolding blob-open
 reads-thirteen = refl
+
+-- ---- a reader for each layout (wish 8)
+-- the Access 2000 reader: 8 before 15; 15 for a later stream and for none; 4 of its own; else what the choice gives
+pub reader-2000 :
+    (exit2000 badTable thirteen [] [] .answer ≡ refusal 8)
+    × (exit2000 table thirteen (old ∷ []) (old ∷ []) ≡ record { answer = refusal 15; controls = old ∷ []; properties = old ∷ [] })
+    × (exit2000 table nothing [] [] .answer ≡ refusal 15)
+    × (exit2000 leastTable nothing [] [] .answer ≡ refusal 15)
+    × (exit2000 table firstByte [] [] .answer ≡ refusal 4)
+    × (exit2000 table blob (replicate 11 old) [] .answer ≡ answer 6 2 3 1)
+    × (exit2000 table blob (replicate 12 old) (replicate 17 old) .answer ≡ answer 7 2 3 1)
+    × (exit2000 table blob (replicate 12 old) (replicate 18 old) ≡ exit table blob (replicate 12 old) (replicate 18 old))
+unfolding blob-open
+reader-2000 = (refl, refl, refl, refl, refl, refl, refl, refl)
+
+-- the later reader, told the layout byte: 15 for a stream that begins with it, before 6; never for none, nor where the number is above 255
+pub reader-later :
+    (exitLater 0x2A blob (old ∷ []) (old ∷ []) ≡ record { answer = refusal 15; controls = old ∷ []; properties = old ∷ [] })
+    × (exitLater 0 unfit [] [] .answer ≡ refusal 15)
+    × (exitLater 0x2A nothing [] [] .answer ≡ refusal 0)
+    × (exitLater 0 nothing [] [] .answer ≡ refusal 0)
+    × (exitLater 0x2A thirteen [] [] .answer ≡ refusal 0)
+    × (exitLater 0x2B thirteen [] [] .answer ≡ refusal 15)
+    × (exitLater 0x12B thirteen [] [] .answer ≡ refusal 0)
+    × (exitLater 0x2A unfit [] [] ≡ exit table unfit [] [])
+unfolding blob-open
+reader-later = (refl, refl, refl, refl, refl, refl, refl, refl)
 
 -- the longest stream that is read has 16,777,216 bytes
 pub too-long : (t s cs ps : List ℕ) → 16777216 < length s → exit t s cs ps .answer ≡ refusal 5

@@ -6,7 +6,7 @@ use mathlib.Core.Option.{Option, none, some}
 use lib.Dec.{ltb, eqb}
 use lib.ListN.{length}
 use Rattle.rules.specs.Bytes.{byte}
-use Rattle.rules.specs.Answer.{answer, refusal, noReading, tooLong, moreControls, moreProperties, badTable, longest}
+use Rattle.rules.specs.Answer.{answer, refusal, noReading, tooLong, moreControls, moreProperties, badTable, otherLayout, longest}
 use Rattle.rules.specs.CodeTable.{layout, wellFormed}
 use Rattle.rules.specs.Tree.{Entries}
 use Rattle.rules.specs.Access2000.{Prop, streamOf}
@@ -17,9 +17,13 @@ use Rattle.rules.specs.ReadLater.{readLater}
 use Rattle.rules.specs.declared.Answer.{Answer}
 
 -- ---- which reading
+-- the first byte speaks for Access 2000 where it is the layout byte. Wish 8 of document 02: "an empty stream speaks for the later one"
+abbrev pub speaks2000 : ℕ → List ℕ → Bool
+speaks2000 layoutByte s = ltb 0 (length s) && eqb (byte s 0) layoutByte
+
 -- the later layout is "chosen when the first byte isn't the code table's layout byte, the empty stream included"
 unfoldable pub is2000 : List ℕ → List ℕ → Bool
-is2000 t s = ltb 0 (length s) && eqb (byte s 0) (layout t)
+is2000 t s = speaks2000 (layout t) s
 
 abbrev pub readBy : List ℕ → List ℕ → Option (List Prop × Entries Prop) → Option Reading
 readBy t s none = none
@@ -81,6 +85,28 @@ exitBy o controls properties = record {
 
 unfoldable pub exit : List ℕ → List ℕ → List ℕ → List ℕ → Exit
 exit t s controls properties = exitBy (outcome t s (room controlWidth controls) (room propertyWidth properties)) controls properties
+
+-- ---- a reader for each layout. Wish 8: "The archive desk knows from its register which layout a file has, and wants a wrong first byte to be noticed."
+-- "15 where the first byte speaks for the other layout .., after 5 and 8": so 5, 8, 15, 4, 6, 7
+unfoldable pub outcome2000 : List ℕ → List ℕ → ℕ → ℕ → Outcome
+outcome2000 t s controlRoom propertyRoom =
+    cond (ltb longest (length s)) (refused (refusal tooLong))  -- 5
+    (cond (not (wellFormed t)) (refused (refusal badTable))  -- 8
+    (cond (not (is2000 t s)) (refused (refusal otherLayout))  -- 15
+    (fit controlRoom propertyRoom (readBy t s (streamOf s)))))  -- 4, 6, 7
+
+-- "the later reader is told the layout byte as a number and never answers 8": so 5, 15, 6, 7
+unfoldable pub outcomeLater : ℕ → List ℕ → ℕ → ℕ → Outcome
+outcomeLater layoutByte s controlRoom propertyRoom =
+    cond (ltb longest (length s)) (refused (refusal tooLong))  -- 5
+    (cond (speaks2000 layoutByte s) (refused (refusal otherLayout))  -- 15
+    (fit controlRoom propertyRoom (some (readLater s))))  -- 6, 7
+
+unfoldable pub exit2000 : List ℕ → List ℕ → List ℕ → List ℕ → Exit
+exit2000 t s controls properties = exitBy (outcome2000 t s (room controlWidth controls) (room propertyWidth properties)) controls properties
+
+unfoldable pub exitLater : ℕ → List ℕ → List ℕ → List ℕ → Exit
+exitLater layoutByte s controls properties = exitBy (outcomeLater layoutByte s (room controlWidth controls) (room propertyWidth properties)) controls properties
 
 -- ---- which scope and stored property a property row speaks of, in an Access 2000 stream
 abbrev pub spotsIn : List ℕ → Option (List Prop × Entries Prop) → List Spot
