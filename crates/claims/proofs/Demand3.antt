@@ -11,7 +11,7 @@ use lib.Dec.{ltb}
 use lib.ListN.{length, getD, take, drop}
 use lib.Seq.{take-at}
 use borrow.Author.Tests.{ltb-false}
-use Rattle.rules.specs.Answer.{answer, refusal, noReading, tooLong, moreControls, moreProperties, longest}
+use Rattle.rules.specs.Answer.{answer, refusal, noReading, tooLong, moreControls, moreProperties, otherLayout, longest}
 use Rattle.rules.specs.CodeTable.{Tie, wellFormed}
 use Rattle.rules.specs.Tree.{Entries, nodesOf}
 use Rattle.rules.specs.Access2000.{Prop, streamOf}
@@ -20,14 +20,14 @@ use Rattle.rules.specs.Rows.{controlWidth, propertyWidth, room, rowAt, written}
 use Rattle.rules.specs.Reading.{Reading, properties, controlRows, propertyRow, propertyRows}
 use Rattle.rules.specs.Read2000.{Spot, tied, shown, propertyIn, read2000, spotsOf}
 use Rattle.rules.specs.ReadLater.{readLater}
-use Rattle.rules.specs.Blob.{Outcome, refused, read, counted, is2000, readBy, readingOf, fit, outcome, Exit, exitBy, exit, spots}
+use Rattle.rules.specs.Blob.{Outcome, refused, read, counted, is2000, readBy, readingOf, fit, outcome, outcome2000, Exit, exitBy, exit, exit2000, spots}
 use Rattle.rules.specs.declared.Answer.{Answer}
 use Rattle.rules.proofs.ListLaws.{none-some, map-map, getD-map}
 use Rattle.rules.proofs.CodeTableLaws.{found-held, held-found, kept, unmapped-large, target-small}
 use Rattle.rules.proofs.RowsLaws.{Wide, words-in, written-is, row-written, behind-written}
 use Rattle.rules.proofs.ReadingLaws.{controls-wide, properties-wide, controls-counted, properties-counted}
 use Rattle.rules.proofs.Read2000Laws.{shownAt, properties-from, properties-many, controls-many, counts-from, control-rows-same}
-use Rattle.claims.specs.Demand3.{Successor, Learned, RowSays, no-spot, Lent, SameRoom, controlWords, propertyWords, Behind, Alike, SameBut, Same, exitOf, Demand3}
+use Rattle.claims.specs.Demand3.{Successor, Learned, RowSays, no-spot, Lent, SameRoom, controlWords, propertyWords, Behind, Alike, SameBut, Same, exitOf2000, exitOf, Demand3}
 
 -- ---- what two calls with the same room leave in their slices
 -- a reading has room
@@ -256,6 +256,18 @@ module _ (older newer : List ℕ) (two : Successor older newer) (s : List ℕ) w
         go true = refusals-same (refusal tooLong) (λ q. omega arith)
         go false = trees-same (streamOf s) refl
 
+    -- of the Access 2000 reader: 5, 15 or the same trees
+    reader-same : is2000 older s ≡ is2000 newer s → SameBut older newer s lent lent′ (exitOf2000 older s lent) (exitOf2000 newer s lent′)
+    unfolding exit2000 outcome2000 Both fit-in fit-in′
+    reader-same e = rw (two .older-formed, two .newer-formed, ← e) (go (ltb longest (length s)) (is2000 older s))
+      where
+        go : (b d : Bool)
+            → Both2000 (cond b (refused (refusal tooLong)) (cond (not d) (refused (refusal otherLayout)) (fit-in (readBy older s (streamOf s)))))
+            (cond b (refused (refusal tooLong)) (cond (not d) (refused (refusal otherLayout)) (fit-in′ (readBy newer s (streamOf s)))))
+        go true d = refusals-same (refusal tooLong) (λ q. omega arith)
+        go false false = refusals-same (refusal otherLayout) (λ q. omega arith)
+        go false true = trees-same (streamOf s) refl
+
     -- ---- of any other stream the same reading is given
     later-refusals : (a : Answer) → ¬ (a .number ≡ 0) → Both lent lent′ (Same lent lent′) (refused a) (refused a)
     unfolding Both
@@ -283,7 +295,8 @@ not-true false h = refl
 
 pub demand3 : Demand3
 demand3 = record {
-  same-but = λ older newer s lent lent′ two same e. all-same older newer two s lent lent′ same e (sym (choice-same older newer two s) ∙ e);
+  same-but = λ older newer s lent lent′ two same. reader-same older newer two s lent lent′ same (choice-same older newer two s);
+  chosen-same-but = λ older newer s lent lent′ two same e. all-same older newer two s lent lent′ same e (sym (choice-same older newer two s) ∙ e);
   later-same = λ older newer s lent lent′ two same n.
       let e = not-true (is2000 older s) n in
       later-same older newer two s lent lent′ same e (sym (choice-same older newer two s) ∙ e);

@@ -36,7 +36,7 @@ lent′ = record { controls = replicate 13 7; properties = replicate 18 9 }
 
 both : SameBut table newer blob lent lent′ (exitOf table blob lent) (exitOf newer blob lent′)
 unfolding rules-open
-both = demand3 .same-but table newer blob lent lent′ successor (record { of-controls = refl; of-properties = refl }) refl
+both = demand3 .chosen-same-but table newer blob lent lent′ successor (record { of-controls = refl; of-properties = refl }) refl
 
 -- what the newer writes: the first row has its target in the place of 0x8031
 new-words : exit newer blob (replicate 12 old) (replicate 20 old) .properties

@@ -146,7 +146,7 @@ module _ (own other t s : List ℕ) (two : Successor own t) (rows : (kind code :
 
   gains : (lent lent′ : Lent) → SameRoom lent lent′ → Gains own other t s lent lent′
   gains lent lent′ same = record {
-    by-codes = λ o. let d = demand3 .same-but own t s lent lent′ two same o in
+    by-codes = λ o. let d = demand3 .chosen-same-but own t s lent lent′ two same o in
         record { alike = d .alike; a-row-each = d .a-row-each; rows = λ e i h. row-gained _ _ _ (d .rows e i h) };
     later-same = demand3 .later-same own t s lent lent′ two same;
   }

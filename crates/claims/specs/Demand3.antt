@@ -14,7 +14,7 @@ use Rattle.rules.specs.CodeTable.{Tie, layout, header, wellFormed, Holds, Exten
 use Rattle.rules.specs.Rows.{controlWidth, propertyWidth, room, rowAt}
 use Rattle.rules.specs.Reading.{propertyRow}
 use Rattle.rules.specs.Read2000.{Spot, bytesOf, property}
-use Rattle.rules.specs.Blob.{Exit, is2000, exit, spots}
+use Rattle.rules.specs.Blob.{Exit, is2000, exit, exit2000, spots}
 
 -- the two tables
 pub record Successor (older newer : List ℕ) : Type 0 where
@@ -97,13 +97,19 @@ pub record Same (lent lent′ : Lent) (a b : Exit) : Type 0 where
   pub alike : Alike lent lent′ a b
   pub same-properties : a .answer .number ≡ 0 → propertyWords (a .answer .second) (a .properties) ≡ propertyWords (a .answer .second) (b .properties)
 
--- what a call shows by a table
+-- what a call shows by a table: of the Access 2000 reader, and of the choice by the first byte
+abbrev pub exitOf2000 : List ℕ → List ℕ → Lent → Exit
+exitOf2000 table s lent = exit2000 table s (lent .controls) (lent .properties)
+
 abbrev pub exitOf : List ℕ → List ℕ → Lent → Exit
 exitOf table s lent = exit table s (lent .controls) (lent .properties)
 
 pub record Demand3 : Type 0 where
-  -- over one Access 2000 stream: its first byte is the layout byte of both
-  pub same-but : (older newer s : List ℕ) (lent lent′ : Lent) → Successor older newer → SameRoom lent lent′ → is2000 older s ≡ true
+  -- wish 8: "Demand 3 then speaks of the Access 2000 reader." Nothing is asked of the stream: one that speaks for the later layout is answered 15 by both tables
+  pub same-but : (older newer s : List ℕ) (lent lent′ : Lent) → Successor older newer → SameRoom lent lent′
+      → SameBut older newer s lent lent′ (exitOf2000 older s lent) (exitOf2000 newer s lent′)
+  -- the choice, over one Access 2000 stream: its first byte is the layout byte of both
+  pub chosen-same-but : (older newer s : List ℕ) (lent lent′ : Lent) → Successor older newer → SameRoom lent lent′ → is2000 older s ≡ true
       → SameBut older newer s lent lent′ (exitOf older s lent) (exitOf newer s lent′)
   -- over any other stream the two tables say the very same
   pub later-same : (older newer s : List ℕ) (lent lent′ : Lent) → Successor older newer → SameRoom lent lent′ → ¬ (is2000 older s ≡ true)
