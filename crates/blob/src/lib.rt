@@ -8,10 +8,20 @@ ghost use lib.ListN.{length};
 ghost use Rattle.rules.specs.Answer.{refusal, longest};
 ghost use Rattle.rules.specs.CodeTable.{wellFormed};
 ghost use Rattle.rules.specs.Access2000.{streamOf};
-ghost use Rattle.rules.specs.Blob.{is2000, readBy, exit};
+ghost use Rattle.rules.specs.Blob.{speaks2000, is2000, readBy, exit, exit2000, exitLater};
 ghost use Rattle.rules.specs.NamePart.{namePart, partBytes};
 ghost use Rattle.judge.specs.Judge.{Exits};
 ghost use Rattle.blob.specs.Exit.{exited, partOr, placeOr, partPlace};
+
+// The longest stream that is read, in bytes.
+const LONGEST: usize = 16777216;
+
+// The refusals that come before a reading.
+const TOO_LONG: u32 = 5;
+
+const BAD_TABLE: u32 = 8;
+
+const OTHER_LAYOUT: u32 = 15;
 
 fn refused(number: u32) -> Answer
     ensures { λ r. ⌜ r ≡ refusal number ⌝ }
@@ -35,7 +45,7 @@ fn is_2000(table: &[u8], stream: &[u8]) -> bool
 }
 
 // Reads a stream of the Access 2000 layout.
-fn read_2000(table: &[u8], stream: &[u8], controls: &mut [u32], properties: &mut [u32]) -> Answer
+fn spoken_2000(table: &[u8], stream: &[u8], controls: &mut [u32], properties: &mut [u32]) -> Answer
     requires { ⌜ (wellFormed (now table) ≡ true) × (length (now stream) ≤ longest) ⌝ }
     ensures { λ r. ⌜ Exits (readBy (now (table .entry)) (now (stream .entry)) (streamOf (now (stream .entry)))) (now (controls .entry)) (now (properties .entry)) r (now (controls .exit)) (now (properties .exit)) ⌝ }
 {
@@ -51,14 +61,14 @@ pub fn read_blob(
 ) -> Answer
     ensures { λ r. ⌜ exited r (now (controls .exit)) (now (properties .exit)) ≡ exit (now (table .entry)) (now (stream .entry)) (now (controls .entry)) (now (properties .entry)) ⌝ }
 {
-    if stream.len() > 16777216 {
-        return refused(5);
+    if stream.len() > LONGEST {
+        return refused(TOO_LONG);
     }
     if !codetable::well_formed(table) {
-        return refused(8);
+        return refused(BAD_TABLE);
     }
     if is_2000(table, stream) {
-        return read_2000(table, stream, controls, properties);
+        return spoken_2000(table, stream, controls, properties);
     }
     later::read(stream, controls, properties)
 }
@@ -93,4 +103,54 @@ pub fn control_name<'a>(
         1 => part_or(label, 0, length as usize, stream),
         _ => &stream[..0],
     }
+}
+
+// ---- a reader for each layout
+// The stream's first byte is this layout byte.
+fn speaks_2000(layout: u32, stream: &[u8]) -> bool
+    ensures { λ r. ⌜ r ≡ speaks2000 layout (now (stream .entry)) ⌝ }
+{
+    if stream.len() == 0 {
+        return false;
+    }
+    stream[0] as u32 == layout
+}
+
+// Reads a Blob of the Access 2000 layout; one that speaks for the later layout is refused. A refusal leaves both slices as they were.
+pub fn read_2000(
+    table: &[u8],
+    stream: &[u8],
+    controls: &mut [u32],
+    properties: &mut [u32],
+) -> Answer
+    ensures { λ r. ⌜ exited r (now (controls .exit)) (now (properties .exit)) ≡ exit2000 (now (table .entry)) (now (stream .entry)) (now (controls .entry)) (now (properties .entry)) ⌝ }
+{
+    if stream.len() > LONGEST {
+        return refused(TOO_LONG);
+    }
+    if !codetable::well_formed(table) {
+        return refused(BAD_TABLE);
+    }
+    if !is_2000(table, stream) {
+        return refused(OTHER_LAYOUT);
+    }
+    spoken_2000(table, stream, controls, properties)
+}
+
+// Reads a Blob of the later layout; one that begins with the layout byte is refused, and no stream begins with a number above 255. A refusal leaves both slices as they were.
+pub fn read_later(
+    layout: u32,
+    stream: &[u8],
+    controls: &mut [u32],
+    properties: &mut [u32],
+) -> Answer
+    ensures { λ r. ⌜ exited r (now (controls .exit)) (now (properties .exit)) ≡ exitLater layout (now (stream .entry)) (now (controls .entry)) (now (properties .entry)) ⌝ }
+{
+    if stream.len() > LONGEST {
+        return refused(TOO_LONG);
+    }
+    if speaks_2000(layout, stream) {
+        return refused(OTHER_LAYOUT);
+    }
+    later::read(stream, controls, properties)
 }

@@ -24,8 +24,8 @@ returns-2 c = let a = c .before .before .before .before .before .before .before 
 is-2000-requires : tie.Need-is-2000-requires
 is-2000-requires c κs = search needs
 
-read-2000-requires : tie.Need-read-2000-requires
-read-2000-requires c κs = (sym (c .before .before .before .before .before .well-formed .ensures) ∙ not-false _ (c .before .before .before .before .if2 .left), omega arith)
+spoken-2000-requires : tie.Need-spoken-2000-requires
+spoken-2000-requires c κs = (sym (c .before .before .before .before .before .well-formed .ensures) ∙ not-false _ (c .before .before .before .before .if2 .left), omega arith)
 
 same-length : tie.Need-same-length
 same-length c = search needs
@@ -36,7 +36,7 @@ same-length-2 c = search needs
 returns-3 : tie.Need-returns-3
 returns-3 c =
     let a = c .before .before .before .before .before .before .before .before .before .before .before .before .before .before .before .before .args in
-    by-2000 (a .table .now) (a .stream .now) (a .controls .now) (a .properties .now) (omega arith) (sym (c .before .before .before .before .before .before .before .before .before .before .well-formed .ensures) ∙ not-false _ (c .before .before .before .before .before .before .before .before .before .if2 .left)) _ _ _ (sym (c .before .before .before .before .before .before .before .before .is-2000 .ensures) ∙ c .before .before .before .before .before .before .before .if3 .taken) (c .before .before .before .before .read-2000 .ensures)
+    by-2000 (a .table .now) (a .stream .now) (a .controls .now) (a .properties .now) (omega arith) (sym (c .before .before .before .before .before .before .before .before .before .before .well-formed .ensures) ∙ not-false _ (c .before .before .before .before .before .before .before .before .before .if2 .left)) _ _ _ (sym (c .before .before .before .before .before .before .before .before .is-2000 .ensures) ∙ c .before .before .before .before .before .before .before .if3 .taken) (c .before .before .before .before .spoken-2000 .ensures)
 
 read-requires : tie.Need-read-requires
 read-requires c κs = search needs
@@ -62,7 +62,7 @@ read-blob-spec =
     refused-requires-2
     returns-2
     is-2000-requires
-    read-2000-requires
+    spoken-2000-requires
     same-length
     same-length-2
     returns-3
