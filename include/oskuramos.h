@@ -49,6 +49,7 @@ enum {
     OSKURAMOS_BAD_TABLE = 8,        /* the code table isn't well formed */
     OSKURAMOS_NO_ROOM_FOR_TEXT = 9, /* the buffer for text, or for a joined code table, is too short */
     OSKURAMOS_NOT_A_GUID = 10,      /* the GUID value isn't 16 bytes */
+    OSKURAMOS_OTHER_LAYOUT = 15,    /* a reader for one layout is given a stream that speaks for the other */
     OSKURAMOS_OTHER_HEAD = 16,      /* two code tables differ in layout byte or header codes */
     OSKURAMOS_TWO_ROWS = 17,        /* two code tables have different rows for one scope and id */
     OSKURAMOS_TOO_MANY_SCOPES = 18  /* two code tables have more than 64 scopes together */
@@ -107,6 +108,17 @@ enum {
    0 with no rows. */
 oskuramos_answer oskuramos_read_blob(const uint8_t *table, size_t table_length, const uint8_t *stream, size_t stream_length,
                                      uint32_t *controls, size_t controls_length, uint32_t *properties, size_t properties_length);
+
+/* The same for whoever knows which layout a Blob has, so that a wrong first byte is noticed. A stream whose first byte is the layout byte speaks for
+   Access 2000; every other one, the empty one too, for the later layout. A stream that speaks for the other layout is answered 15: look up in
+   your register which is right, or let oskuramos_read_blob choose.
+   oskuramos_read_2000 takes the layout byte from its code table, and answers 0 or 5, 8, 15, 4, 6, 7, tried in this order.
+   oskuramos_read_later needs no table. It is told the layout byte as a number, that of a code table being table[0], and answers 0 or 5, 15, 6, 7; with
+   a number above 255 it never answers 15. */
+oskuramos_answer oskuramos_read_2000(const uint8_t *table, size_t table_length, const uint8_t *stream, size_t stream_length,
+                                     uint32_t *controls, size_t controls_length, uint32_t *properties, size_t properties_length);
+oskuramos_answer oskuramos_read_later(uint32_t layout, const uint8_t *stream, size_t stream_length, uint32_t *controls,
+                                      size_t controls_length, uint32_t *properties, size_t properties_length);
 
 /* Reads TypeInfo into rows.
    Answers 0 with the number of rows, or 5, 1, 2, 3, 6, tried in this order. Words behind the rows that are written keep their values. */

@@ -51,6 +51,14 @@ extern "C" {
         table: *const u8, table_length: usize, stream: *const u8, stream_length: usize,
         controls: *mut u32, controls_length: usize, properties: *mut u32, properties_length: usize,
     ) -> Answer;
+    fn oskuramos_read_2000(
+        table: *const u8, table_length: usize, stream: *const u8, stream_length: usize,
+        controls: *mut u32, controls_length: usize, properties: *mut u32, properties_length: usize,
+    ) -> Answer;
+    fn oskuramos_read_later(
+        layout: u32, stream: *const u8, stream_length: usize,
+        controls: *mut u32, controls_length: usize, properties: *mut u32, properties_length: usize,
+    ) -> Answer;
     fn oskuramos_read_type_info(stream: *const u8, stream_length: usize, rows: *mut u32, rows_length: usize) -> Answer;
     fn oskuramos_well_formed(table: *const u8, table_length: usize) -> bool;
     fn oskuramos_join(
@@ -81,6 +89,16 @@ extern "C" {
 pub fn read_blob(table: &[u8], stream: &[u8], controls: &mut [u32], properties: &mut [u32]) -> Answer {
     let (c, p) = ((controls.as_mut_ptr(), controls.len()), (properties.as_mut_ptr(), properties.len()));
     unsafe { oskuramos_read_blob(table.as_ptr(), table.len(), stream.as_ptr(), stream.len(), c.0, c.1, p.0, p.1) }
+}
+
+pub fn read_2000(table: &[u8], stream: &[u8], controls: &mut [u32], properties: &mut [u32]) -> Answer {
+    let (c, p) = ((controls.as_mut_ptr(), controls.len()), (properties.as_mut_ptr(), properties.len()));
+    unsafe { oskuramos_read_2000(table.as_ptr(), table.len(), stream.as_ptr(), stream.len(), c.0, c.1, p.0, p.1) }
+}
+
+pub fn read_later(layout: u32, stream: &[u8], controls: &mut [u32], properties: &mut [u32]) -> Answer {
+    let (c, p) = ((controls.as_mut_ptr(), controls.len()), (properties.as_mut_ptr(), properties.len()));
+    unsafe { oskuramos_read_later(layout, stream.as_ptr(), stream.len(), c.0, c.1, p.0, p.1) }
 }
 
 pub fn read_type_info(stream: &[u8], rows: &mut [u32]) -> Answer {

@@ -1,9 +1,9 @@
 //! A Blob with room of its own, its rows taken apart.
 
 use crate::format::{answer, name, LABEL_LONGEST, UNMAPPED};
-use crate::lent::{control_name, label_text, read_blob, ControlRow, PropertyRow};
+use crate::lent::{control_name, label_text, read_2000, read_blob, read_later, ControlRow, PropertyRow};
 use crate::text::ascii;
-use crate::{archive, control_type_name, value_name, Loose, Name, Refused, Text, Value};
+use crate::{archive, control_type_name, value_name, Counts, Loose, Name, Refused, Text, Value};
 use std::fmt::{self, Display, Formatter};
 
 /// Which of the two layouts a Blob has. Access 2000 is told by its first byte, which is the code table's.
@@ -46,13 +46,42 @@ impl<'a> Blob<'a> {
     ///
     /// The later layout has no mark of its own: bytes that are no Blob at all are mostly read as one without properties or controls.
     pub fn read(table: &[u8], stream: &'a [u8]) -> Result<Blob<'a>, Refused> {
-        let needed = match read_blob(table, stream, &mut [], &mut []) {
+        let layout = if stream.first() == table.first() { Layout::Access2000 } else { Layout::Later };
+        Blob::by(layout, stream, |controls, properties| read_blob(table, stream, controls, properties))
+    }
+
+    /// The same of a Blob that is known to be of Access 2000, so that a wrong first byte is noticed: where it isn't the code table's, or there is none,
+    /// the Blob is refused with [`Refused::OtherLayout`].
+    ///
+    /// ```
+    /// use oskuramos::{Blob, Refused, ACCESS_2000_CODES};
+    ///
+    /// let later = std::fs::read("examples/later-tree.blob")?;
+    /// assert_eq!(Blob::read_2000(ACCESS_2000_CODES, &later), Err(Refused::OtherLayout));
+    /// assert_eq!(Blob::read_later(ACCESS_2000_CODES[0].into(), &later)?, Blob::read(ACCESS_2000_CODES, &later)?);
+    /// # Ok::<(), Box<dyn std::error::Error>>(())
+    /// ```
+    pub fn read_2000(table: &[u8], stream: &'a [u8]) -> Result<Blob<'a>, Refused> {
+        Blob::by(Layout::Access2000, stream, |controls, properties| read_2000(table, stream, controls, properties))
+    }
+
+    /// The same of a Blob that is known to be of the later layout. It needs no code table: it is told the layout byte of Access 2000 as a number, that of
+    /// a table being its first byte, and refuses what begins with it with [`Refused::OtherLayout`]. No Blob begins with a number above 255.
+    pub fn read_later(layout: u32, stream: &'a [u8]) -> Result<Blob<'a>, Refused> {
+        Blob::by(Layout::Later, stream, |controls, properties| read_later(layout, stream, controls, properties))
+    }
+
+    fn by(
+        layout: Layout,
+        stream: &'a [u8],
+        read: impl Fn(&mut [ControlRow], &mut [PropertyRow]) -> Result<Counts, Refused>,
+    ) -> Result<Blob<'a>, Refused> {
+        let needed = match read(&mut [], &mut []) {
             Ok(counts) | Err(Refused::MoreControls(counts) | Refused::MoreProperties(counts)) => counts,
             Err(refused) => return Err(refused),
         };
         let (mut controls, mut properties) = (vec![Default::default(); needed.controls], vec![Default::default(); needed.properties]);
-        let counts = read_blob(table, stream, &mut controls, &mut properties)?;
-        let layout = if stream.first() == table.first() { Layout::Access2000 } else { Layout::Later };
+        let counts = read(&mut controls, &mut properties)?;
         let properties = properties.iter().map(|row| Property::of(row, layout, stream)).collect::<Option<Vec<_>>>();
         properties.and_then(|all| Blob::of(layout, counts.own, &controls, all, stream)).ok_or(Refused::OtherArchive(answer::READ))
     }

@@ -34,6 +34,17 @@ pub fn read_blob(table: &[u8], stream: &[u8], controls: &mut [ControlRow], prope
     of_blob(archive::read_blob(table, stream, controls.as_flattened_mut(), properties.as_flattened_mut()))
 }
 
+/// Reads a Blob that is known to be of Access 2000. One whose first byte isn't the code table's is refused with [`Refused::OtherLayout`].
+pub fn read_2000(table: &[u8], stream: &[u8], controls: &mut [ControlRow], properties: &mut [PropertyRow]) -> Result<Counts, Refused> {
+    of_blob(archive::read_2000(table, stream, controls.as_flattened_mut(), properties.as_flattened_mut()))
+}
+
+/// Reads a Blob that is known to be of the later layout. One whose first byte is the layout byte of Access 2000, that of a code table being its first
+/// byte, is refused with [`Refused::OtherLayout`]. No first byte is above 255.
+pub fn read_later(layout: u32, stream: &[u8], controls: &mut [ControlRow], properties: &mut [PropertyRow]) -> Result<Counts, Refused> {
+    of_blob(archive::read_later(layout, stream, controls.as_flattened_mut(), properties.as_flattened_mut()))
+}
+
 /// Reads TypeInfo, and says how many rows it has. Rows behind them keep their words.
 pub fn read_type_info(stream: &[u8], rows: &mut [TypeInfoRow]) -> Result<usize, Refused> {
     of_type_info(archive::read_type_info(stream, rows.as_flattened_mut()))

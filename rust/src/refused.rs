@@ -51,6 +51,8 @@ pub enum Refused {
     NoRoomForText,
     /// 10: the GUID value isn't 16 bytes.
     NotAGuid,
+    /// 15: the stream's first byte speaks for the other layout than the one that was asked for.
+    OtherLayout,
     /// 16: two code tables differ in layout byte or header codes.
     OtherHead,
     /// 17: two code tables have different rows for one scope and id; [`CodeTable::differing`](crate::CodeTable::differing) shows which.
@@ -75,6 +77,7 @@ impl Refused {
             Refused::BadTable => answer::BAD_TABLE,
             Refused::NoRoomForText => answer::NO_ROOM_FOR_TEXT,
             Refused::NotAGuid => answer::NOT_A_GUID,
+            Refused::OtherLayout => answer::OTHER_LAYOUT,
             Refused::OtherHead => answer::OTHER_HEAD,
             Refused::TwoRows => answer::TWO_ROWS,
             Refused::TooManyScopes => answer::TOO_MANY_SCOPES,
@@ -115,6 +118,13 @@ impl Display for Refused {
                 )
             }
             Refused::NotAGuid => write!(f, "the value hasn't {GUID_BYTES} bytes: it isn't a GUID"),
+            Refused::OtherLayout => {
+                write!(
+                    f,
+                    "the stream's first byte speaks for the other layout: look up which layout this file has, and read it as that one, or let \
+                     Blob::read choose"
+                )
+            }
             Refused::OtherHead => {
                 write!(f, "the code tables differ in layout byte or header codes: they are for different streams; join those of one kind")
             }
@@ -165,6 +175,7 @@ fn of_others<T>(number: u32, read: T) -> Result<T, Refused> {
         answer::BAD_TABLE => Refused::BadTable,
         answer::NO_ROOM_FOR_TEXT => Refused::NoRoomForText,
         answer::NOT_A_GUID => Refused::NotAGuid,
+        answer::OTHER_LAYOUT => Refused::OtherLayout,
         answer::OTHER_HEAD => Refused::OtherHead,
         answer::TWO_ROWS => Refused::TwoRows,
         answer::TOO_MANY_SCOPES => Refused::TooManyScopes,

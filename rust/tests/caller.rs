@@ -152,6 +152,8 @@ fn room_for_the_length_is_enough() {
             Layout::Later => Room::for_later(stream.len()),
         };
         assert!(counts.controls <= known.controls && counts.properties <= known.properties, "{name}");
+        let readers = [Blob::read_2000(ACCESS_2000_CODES, &stream), Blob::read_later(ACCESS_2000_CODES[0].into(), &stream)];
+        assert_eq!(readers.map(|reader| reader.is_ok()), [name.contains("2000"), name.contains("later")], "{name}");
     }
     let rows = |room: Room| (room.controls, room.properties);
     assert_eq!([0, 13, 14, 10_240].map(Room::for_length).map(rows), [(0, 0), (0, 2), (1, 3), (3_409, 10_229)]);

@@ -89,6 +89,39 @@ fn refusals_of_a_blob() {
     assert_eq!(blob_refusal(&TABLE[..16], &BLOB[..1], room), Refused::BadTable);
 }
 
+/// A reader's answer with nothing written, refused or not.
+fn reader_answer(read: impl Fn(&mut [ControlRow], &mut [PropertyRow]) -> Result<Counts, Refused>, rooms: [usize; 2]) -> Result<Counts, Refused> {
+    let (mut controls, mut properties) = (rows(rooms[0]), rows(rooms[1]));
+    let answer = read(between(&mut controls), between(&mut properties));
+    assert!(kept(rooms[0], &controls, 0) && kept(rooms[1], &properties, 0), "{answer:?} wrote");
+    answer
+}
+
+#[test]
+fn readers_of_one_layout() {
+    let (room, layout) = ([10, 10], TABLE[0].into());
+    let access_2000 = |table: &[u8], stream: &[u8], rooms| reader_answer(|c, p| read_2000(table, stream, c, p), rooms);
+    let later = |layout, stream: &[u8], rooms| reader_answer(|c, p| read_later(layout, stream, c, p), rooms);
+    let (long, zeros) = (vec![0; LONGEST + 1], [0; 32]);
+    assert_eq!(access_2000(&TABLE, &zeros, room), Err(Refused::OtherLayout));
+    assert_eq!(access_2000(&TABLE, &[], room), Err(Refused::OtherLayout));
+    assert_eq!(access_2000(&TABLE[..16], &zeros, room), Err(Refused::BadTable));
+    assert_eq!(access_2000(&TABLE[..16], &long, room), Err(Refused::TooLong));
+    assert_eq!(access_2000(&TABLE, &BLOB[..25], room), Err(Refused::NoReading));
+    assert_eq!(access_2000(&TABLE, &BLOB, [1, 10]), Err(Refused::MoreControls(NEEDED)));
+    assert_eq!(access_2000(&TABLE, &BLOB, [10, 2]), Err(Refused::MoreProperties(NEEDED)));
+    assert_eq!(later(layout, &BLOB, [0, 0]), Err(Refused::OtherLayout));
+    assert_eq!(later(0, &long, room), Err(Refused::TooLong));
+    assert_eq!(later(0, &zeros, [0, 0]), Err(Refused::OtherLayout));
+    assert_eq!(later(256, &zeros, [0, 0]), Err(Refused::MoreProperties(Counts { controls: 0, properties: 1, own: 1 })));
+    assert_eq!(later(0, &[], room), Ok(Counts::default()));
+    assert_eq!(Blob::read_2000(&TABLE, &BLOB), Blob::read(&TABLE, &BLOB));
+    assert_eq!(Blob::read_later(layout, &zeros), Blob::read(&TABLE, &zeros));
+    assert_eq!([Blob::read_2000(&TABLE, &zeros), Blob::read_later(layout, &BLOB)].map(Result::unwrap_err), [Refused::OtherLayout; 2]);
+    assert_eq!(Refused::OtherLayout.number(), 15);
+    assert!(Refused::OtherLayout.to_string().ends_with("let Blob::read choose"));
+}
+
 fn type_info(count: u8) -> Vec<u8> {
     let mut s = vec![0; 40];
     s[..4].copy_from_slice(&[0xF7, 0xEA, 0xCD, 0xAC]);

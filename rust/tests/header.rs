@@ -49,6 +49,7 @@ fn numbers_are_the_headers() {
         ("BAD_TABLE", Refused::BadTable),
         ("NO_ROOM_FOR_TEXT", Refused::NoRoomForText),
         ("NOT_A_GUID", Refused::NotAGuid),
+        ("OTHER_LAYOUT", Refused::OtherLayout),
         ("OTHER_HEAD", Refused::OtherHead),
         ("TWO_ROWS", Refused::TwoRows),
         ("TOO_MANY_SCOPES", Refused::TooManyScopes),

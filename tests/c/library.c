@@ -100,6 +100,54 @@ static void blob_refusals(const uint8_t *large) {
     check(blob_refused(table, sizeof table - 1, blob, 1, 8), "8 before 4");
 }
 
+/* ---- a reader for each layout. The later stream begins with another byte than the table and has an object with one property, of id 7. */
+static const uint8_t later[32] = {0x2B, 0, 0, 0, 0, 0, 0, 0, 0, 0, 0, 0, 0, 0, 7, 0, 1, 0, 0, 0, 0, 0, 0, 0, 0, 0, 0, 0, 253, 0, 0, 0};
+static const uint32_t later_rows[6] = {7, 1, 0, 0, 28, 0};
+
+static bool answers_2000(const uint8_t *t, size_t t_length, const uint8_t *s, size_t s_length, size_t room, oskuramos_answer due) {
+    words c, p;
+    oskuramos_answer a = oskuramos_read_2000(t, t_length, s, s_length, lend_words(&c), room, lend_words(&p), room);
+    return is(a, due.number, due.first, due.second, due.third) && words_kept(&c, 0) && words_kept(&p, 0);
+}
+
+static bool answers_later(uint32_t layout, const uint8_t *s, size_t s_length, size_t room, oskuramos_answer due) {
+    words c, p;
+    oskuramos_answer a = oskuramos_read_later(layout, s, s_length, lend_words(&c), room, lend_words(&p), room);
+    return is(a, due.number, due.first, due.second, due.third) && words_kept(&c, 0) && words_kept(&p, 0);
+}
+
+static bool example_read_2000(void) {
+    words c, p;
+    oskuramos_answer a = oskuramos_read_2000(table, sizeof table, blob, sizeof blob, lend_words(&c), ROOM, lend_words(&p), ROOM);
+    return is(a, 0, 2, 3, 1) && memcmp(c.word + GUARD, control_rows, sizeof control_rows) == 0 &&
+           memcmp(p.word + GUARD, property_rows, sizeof property_rows) == 0 && words_kept(&c, 12) && words_kept(&p, 18);
+}
+
+static bool later_read(uint32_t layout) {
+    words c, p;
+    oskuramos_answer a = oskuramos_read_later(layout, later, sizeof later, lend_words(&c), ROOM, lend_words(&p), ROOM);
+    return is(a, 0, 0, 1, 1) && memcmp(p.word + GUARD, later_rows, sizeof later_rows) == 0 && words_kept(&c, 0) && words_kept(&p, 6);
+}
+
+static void readers(const uint8_t *large) {
+    static const oskuramos_answer none = {0, 0, 0, 0}, no_reading = {4, 0, 0, 0}, long_one = {5, 0, 0, 0}, bad_table = {8, 0, 0, 0}, other = {15, 0, 0, 0};
+    static const oskuramos_answer six = {6, 2, 3, 1}, seven = {7, 0, 1, 1};
+    check(example_read_2000(), "read_2000 of K1: each word, and the guards");
+    check(answers_2000(table, sizeof table, later, sizeof later, ROOM, other), "15 of read_2000 for a later stream");
+    check(answers_2000(table, sizeof table, blob, 0, ROOM, other), "15 of read_2000 for an empty stream");
+    check(answers_2000(table, sizeof table - 1, later, sizeof later, ROOM, bad_table), "8 before 15");
+    check(answers_2000(table, sizeof table, large, OSKURAMOS_LONGEST + 1, ROOM, long_one), "5 of read_2000 before 15");
+    check(answers_2000(table, sizeof table, blob, sizeof blob - 1, ROOM, no_reading), "4 of read_2000 for a Blob whose last byte is missing");
+    check(answers_2000(table, sizeof table, blob, sizeof blob, 11, six), "6 of read_2000, with the counts");
+    check(later_read(0x2A), "read_later: each word, and the guards");
+    check(later_read(0x12B), "read_later with a number above 255 whose low byte is the first byte");
+    check(answers_later(0x2A, blob, sizeof blob, ROOM, other), "15 of read_later for an Access 2000 stream");
+    check(answers_later(0x2B, later, sizeof later, 5, other), "15 of read_later before 7");
+    check(answers_later(0, large, OSKURAMOS_LONGEST + 1, ROOM, long_one), "5 of read_later before 15");
+    check(answers_later(0x2A, later, sizeof later, 5, seven), "7 of read_later, with the counts");
+    check(answers_later(0, blob, 0, ROOM, none), "0 of read_later for an empty stream, whatever the layout byte");
+}
+
 /* ---- TypeInfo: a header with a count, then one entry with two names */
 static void type_info_stream(uint8_t s[48], uint8_t count) {
     static const uint8_t magic[4] = {0xF7, 0xEA, 0xCD, 0xAC};
@@ -370,6 +418,8 @@ static void values(void) {
 static void nulls(void) {
     check(oskuramos_read_blob(NULL, 0, NULL, 0, NULL, 0, NULL, 0).number == 8, "null for all that read_blob is lent");
     check(is(oskuramos_read_blob(table, sizeof table, NULL, 0, NULL, 0, NULL, 0), 0, 0, 0, 0), "null for an empty stream, and no room");
+    check(oskuramos_read_2000(NULL, 0, NULL, 0, NULL, 0, NULL, 0).number == 8, "null for all that read_2000 is lent");
+    check(is(oskuramos_read_later(0, NULL, 0, NULL, 0, NULL, 0), 0, 0, 0, 0), "null for all that read_later is lent");
     check(oskuramos_read_type_info(NULL, 0, NULL, 0).number == 1, "null for all that read_type_info is lent");
     check(!oskuramos_well_formed(NULL, 0) && oskuramos_well_formed(table, sizeof table), "null for a code table");
     check(is(oskuramos_join(NULL, 0, NULL, 0, NULL, 0), 8, 0, 0, 0), "null for two tables, and no room");
@@ -388,6 +438,7 @@ int main(void) {
     worked_example();
     listing();
     blob_refusals(large);
+    readers(large);
     type_info(large);
     rooms();
     joinings();

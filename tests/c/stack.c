@@ -38,6 +38,12 @@ static void read_blob(void) {
     answer = oskuramos_read_blob(table, table_length, stream, length, controls, ROWS, properties, ROWS * 8);
 }
 
+static void read_2000(void) {
+    answer = oskuramos_read_2000(table, table_length, stream, length, controls, ROWS, properties, ROWS * 8);
+}
+
+static void read_later(void) { answer = oskuramos_read_later(table[0], stream, length, controls, ROWS, properties, ROWS * 8); }
+
 static void read_type_info(void) { answer = oskuramos_read_type_info(stream, length, controls, ROWS); }
 
 static void well_formed(void) { answer.number = !oskuramos_well_formed(table, table_length); }
@@ -168,15 +174,19 @@ static void expect(uint32_t number, const char *what) {
 }
 
 static void deepest_2000(void) {
-    size_t largest = 0;
+    size_t largest = 0, largest_alone = 0;
     for (unsigned type = 0x60; type < 0xA0; type++)
         for (unsigned form = 0; form < 4; form++) {
             tree_2000(type, form & 1 ? 0x97 : 0, form & 2);
             size_t bytes = told(read_blob, NULL);
             expect(0, "a tree of Access 2000");
             if (bytes > largest) largest = bytes;
+            bytes = told(read_2000, NULL);
+            expect(0, "a tree of Access 2000, by its own reader");
+            if (bytes > largest_alone) largest_alone = bytes;
         }
     printf("%6zu read_blob, Access 2000, 256 levels\n", largest);
+    printf("%6zu read_2000, 256 levels\n", largest_alone);
 }
 
 int main(int argc, char **argv) {
@@ -189,9 +199,13 @@ int main(int argc, char **argv) {
     tree_later(false);
     told(read_blob, "read_blob, later layout, 256 levels");
     expect(0, "a tree of the later layout");
+    told(read_later, "read_later, 256 levels");
+    expect(0, "a tree of the later layout, by its own reader");
     tree_later(true);
     told(read_blob, "read_blob, later layout, a scan behind 256 levels");
     expect(0, "a scan");
+    told(read_later, "read_later, a scan behind 256 levels");
+    expect(0, "a scan, by its own reader");
     type_info();
     told(read_type_info, "read_type_info");
     expect(0, "TypeInfo");

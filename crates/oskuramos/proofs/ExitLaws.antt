@@ -1,4 +1,4 @@
--- What `read_blob` shows, taken apart: the answer as it is handed over, and the two slices.
+-- What a Blob reader shows, taken apart: the answer as it is handed over, and the two slices.
 use Prim.Native.Nat.{ℕ}
 use mathlib.Core.Path.{_≡_, ap}
 use mathlib.Core.List.{List}

@@ -1,6 +1,6 @@
 // The functions that C and Rust call: each hands its arguments on to the proved function behind it.
 ghost use mathlib.Core.Path.{_≡_};
-ghost use Rattle.rules.specs.Blob.{exit};
+ghost use Rattle.rules.specs.Blob.{exit, exit2000, exitLater};
 ghost use Rattle.rules.specs.CodeTable.{wellFormed};
 ghost use Rattle.rules.specs.Join.{joinExit};
 ghost use Rattle.rules.specs.NamePart.{namePart};
@@ -109,6 +109,35 @@ pub extern "C" fn oskuramos_read_blob(
     ensures { λ _. ⌜ now (properties .exit) ≡ exit (now (table .entry)) (now (stream .entry)) (now (controls .entry)) (now (properties .entry)) .properties ⌝ }
 {
     handed_answer(blob::read_blob(table, stream, controls, properties))
+}
+
+// For whoever knows which layout a Blob has: a wrong first byte is noticed.
+#[no_mangle]
+pub extern "C" fn oskuramos_read_2000(
+    table: &[u8],
+    stream: &[u8],
+    controls: &mut [u32],
+    properties: &mut [u32],
+) -> Answer
+    ensures { λ r. ⌜ r ≡ handedAnswer (exit2000 (now (table .entry)) (now (stream .entry)) (now (controls .entry)) (now (properties .entry)) .answer) ⌝ }
+    ensures { λ _. ⌜ now (controls .exit) ≡ exit2000 (now (table .entry)) (now (stream .entry)) (now (controls .entry)) (now (properties .entry)) .controls ⌝ }
+    ensures { λ _. ⌜ now (properties .exit) ≡ exit2000 (now (table .entry)) (now (stream .entry)) (now (controls .entry)) (now (properties .entry)) .properties ⌝ }
+{
+    handed_answer(blob::read_2000(table, stream, controls, properties))
+}
+
+#[no_mangle]
+pub extern "C" fn oskuramos_read_later(
+    layout: u32,
+    stream: &[u8],
+    controls: &mut [u32],
+    properties: &mut [u32],
+) -> Answer
+    ensures { λ r. ⌜ r ≡ handedAnswer (exitLater layout (now (stream .entry)) (now (controls .entry)) (now (properties .entry)) .answer) ⌝ }
+    ensures { λ _. ⌜ now (controls .exit) ≡ exitLater layout (now (stream .entry)) (now (controls .entry)) (now (properties .entry)) .controls ⌝ }
+    ensures { λ _. ⌜ now (properties .exit) ≡ exitLater layout (now (stream .entry)) (now (controls .entry)) (now (properties .entry)) .properties ⌝ }
+{
+    handed_answer(blob::read_later(layout, stream, controls, properties))
 }
 
 #[no_mangle]
