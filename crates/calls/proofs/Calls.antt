@@ -2,6 +2,7 @@
 use Prim.Native.Nat.{ℕ}
 use mathlib.Core.Path.{_≡_, refl, sym, ap, ap₂, subst, _∙_}
 use mathlib.Core.List.{List, []}
+use mathlib.Core.Logic.{_↔_}
 use mathlib.Core.Option.{Option, none, some}
 use contract.Lifetimes.{Lfts}
 use denote.Ref.{RefT}
@@ -11,12 +12,14 @@ use Rattle.rules.specs.Lists.{_>>=_}
 use Rattle.rules.specs.Bytes.{Bytes}
 use Rattle.rules.specs.Texts.{TextExit, guidExit, labelExit}
 use Rattle.rules.specs.TypeInfo.{TypeInfoExit, typeInfoExit}
-use Rattle.rules.specs.Blob.{Exit, exit}
+use Rattle.rules.specs.Blob.{Exit, exit, exit2000, exitLater}
 use Rattle.rules.specs.Join.{joinExit, result}
 use Rattle.rules.specs.NamePart.{partBytes}
 use Rattle.blob.specs.Exit.{partPlace}
 use Rattle.oskuramos.specs.Handed.{handedAnswer}
+use Rattle.claims.specs.Demand2.{Spelled, Judges}
 use Rattle.claims.specs.Demand3.{SameBut, Same}
+use Rattle.claims.specs.Readers.{Agree}
 use Rattle.calls.specs.Always.{Saying, Always, OneResult, Fn, Every, Gives, Call, handed, seen}
 use Rattle.codetable.proofs.well_formed.Met as well-formed-code
 use Rattle.join.proofs.join.Met as join-code
@@ -39,8 +42,12 @@ use Rattle.text.proofs.guid_text.Met as guid-text-code
 use Rattle.text.proofs.label_text.Met as label-text-code
 use Rattle.typeinfo.proofs.read_type_info.Met as read-type-info-code
 use Rattle.blob.proofs.read_blob.Met as read-blob-code
+use Rattle.blob.proofs.read_2000.Met as read-2000-code
+use Rattle.blob.proofs.read_later.Met as read-later-code
 use Rattle.blob.proofs.control_name.Met as control-name-code
 use Rattle.oskuramos.proofs.oskuramos_read_blob.Met as exported-read-blob-code
+use Rattle.oskuramos.proofs.oskuramos_read_2000.Met as exported-read-2000-code
+use Rattle.oskuramos.proofs.oskuramos_read_later.Met as exported-read-later-code
 use Rattle.oskuramos.proofs.oskuramos_read_type_info.Met as exported-read-type-info-code
 use Rattle.oskuramos.proofs.oskuramos_well_formed.Met as exported-well-formed-code
 use Rattle.oskuramos.proofs.oskuramos_join.Met as exported-join-code
@@ -67,18 +74,21 @@ use Rattle.join.proofs.join.Reads as join-clauses
 use Rattle.blob.proofs.control_name.Reads as control-name-clauses
 use Rattle.leaf.proofs.widen.Reads as widen-clauses
 use Rattle.oskuramos.proofs.oskuramos_read_blob.Reads as exported-read-blob-clauses
+use Rattle.oskuramos.proofs.oskuramos_read_2000.Reads as exported-read-2000-clauses
+use Rattle.oskuramos.proofs.oskuramos_read_later.Reads as exported-read-later-clauses
 use Rattle.oskuramos.proofs.oskuramos_read_type_info.Reads as exported-read-type-info-clauses
 use Rattle.oskuramos.proofs.oskuramos_guid_text.Reads as exported-guid-text-clauses
 use Rattle.oskuramos.proofs.oskuramos_label_text.Reads as exported-label-text-clauses
 use Rattle.oskuramos.proofs.oskuramos_join.Reads as exported-join-clauses
 use Rattle.calls.specs.Functions as f
-use Rattle.calls.specs.Functions.{Blob}
+use Rattle.calls.specs.Functions.{Blob, Later}
 use Rattle.calls.specs.Calls as calls
 use Rattle.calls.proofs.Always.{both-facts, three-facts, so, told, Tells, knowing}
-use Rattle.calls.proofs.LentBytes.{stream-told, one-told, other-told}
+use Rattle.calls.proofs.LentBytes.{stream-told, later-told, one-told, other-told}
 use Rattle.claims.proofs.Demand1.{demand1}
 use Rattle.claims.proofs.Demand2.{demand2}
 use Rattle.claims.proofs.Demand3.{demand3}
+use Rattle.claims.proofs.Readers.{wish8}
 use Rattle.claims.proofs.Joining.{wish9, wish12}
 use Rattle.calls.proofs.JoiningCalls.{join-of, plans-carried}
 use Rattle.claims.proofs.LaterTree.{later-tree}
@@ -106,32 +116,42 @@ module _ {A B : Type 0} (f : Fn A B) (definition : A → B) (p : Proved f defini
   by-words : (c d : Call f) → handed c ≡ handed d → seen c ≡ seen d
   by-words c d e = call-told c ∙ ap definition e ∙ sym (call-told d)
 
+-- the stream of a call is a list of bytes
+module _ {A : Type 0} (f : Fn A Exit) (definition : A → Exit) (p : Proved f definition) (stream : A → List ℕ) (tells : Tells (f .function) (λ κs a. Bytes (stream (f .handed κs a)))) where
+  every-bytes : (said : A → Exit → Type 0) → ((a : A) → Bytes (stream a) → said a (definition a)) → Every f said
+  every-bytes said h = record {
+    holds = knowing (f .function) (λ κs a. Bytes (stream (f .handed κs a))) (f .function .says) _ tells
+        (λ κs a r e q small. subst (said (f .handed κs a)) (sym (p .told κs a r e q)) (h (f .handed κs a) small)) (p .met);
+  }
+
+-- two calls over one stream: the newer call's is the older's
+module _ (f : Fn Blob Exit) (definition : List ℕ → List ℕ → List ℕ → List ℕ → Exit) (p : Proved f (λ a. definition (a .table) (a .stream) (a .controls) (a .properties))) where
+  both-told : (c d : Call f) (R : Exit → Exit → Type 0)
+      → R (definition (handed c .table) (handed c .stream) (handed c .controls) (handed c .properties)) (definition (handed d .table) (handed c .stream) (handed d .controls) (handed d .properties))
+      → handed c .stream ≡ handed d .stream → R (seen c) (seen d)
+  both-told c d R h e =
+      subst (λ x. R x (seen d)) (sym (call-told f _ p c))
+      (subst (R (definition (handed c .table) (handed c .stream) (handed c .controls) (handed c .properties))) (sym (call-told f _ p d ∙ ap (λ s. definition (handed d .table) s (handed d .controls) (handed d .properties)) (sym e))) h)
+
 -- ---- read_blob
 abbrev exit-of : Blob → Exit
 exit-of a = exit (a .table) (a .stream) (a .controls) (a .properties)
 
 module _ (f : Fn Blob Exit) (p : Proved f exit-of) (one : OneResult (f .function)) (tells : Tells (f .function) (λ κs a. Bytes (f .handed κs a .stream))) (allows : (a : Blob) → (c : Call f) × (handed c ≡ a)) where
-  -- the stream of a call is a list of bytes
-  every-bytes : (said : Blob → Exit → Type 0) → ((a : Blob) → Bytes (a .stream) → said a (exit-of a)) → Every f said
-  every-bytes said h = record {
-    holds = knowing (f .function) (λ κs a. Bytes (f .handed κs a .stream)) (f .function .says) _ tells
-        (λ κs a r e q small. subst (said (f .handed κs a)) (sym (p .told κs a r e q)) (h (f .handed κs a) small)) (p .met);
-  }
-
   read-blobs : calls.ReadBlob f
   read-blobs = record {
     met = p .met;
     is-exit = every f exit-of p _ (λ a. refl);
-    bytes = every-bytes _ (λ a small. small);
+    bytes = every-bytes f exit-of p (λ (a : Blob). a .stream) tells _ (λ a small. small);
     demand1 = every f exit-of p _ (λ a. demand1 .blobs (a .table) (a .stream) (a .controls) (a .properties));
-    demand2 = every-bytes _ (λ a. demand2 .accepted (a .table) (a .stream) (a .controls) (a .properties));
-    demand2-judges = every-bytes _ (λ a. demand2 .judges (a .table) (a .stream) (a .controls) (a .properties));
-    demand3 = λ c d h o. both-told c d (SameBut _ _ _ _ _) (demand3 .same-but _ _ _ _ _ (h .successor) (h .same-room) o) (h .same-stream);
-    demand3-later = λ c d h n. both-told c d (Same _ _) (demand3 .later-same _ _ _ _ _ (h .successor) (h .same-room) n) (h .same-stream);
+    demand2 = every-bytes f exit-of p (λ (a : Blob). a .stream) tells _ (λ a. demand2 .accepted (a .table) (a .stream) (a .controls) (a .properties));
+    demand2-judges = every-bytes f exit-of p (λ (a : Blob). a .stream) tells _ (λ a. demand2 .judges (a .table) (a .stream) (a .controls) (a .properties));
+    demand3 = λ c d h o. both-told f exit p c d (SameBut _ _ _ _ _) (demand3 .chosen-same-but _ _ _ _ _ (h .successor) (h .same-room) o) (h .same-stream);
+    demand3-later = λ c d h n. both-told f exit p c d (Same _ _) (demand3 .later-same _ _ _ _ _ (h .successor) (h .same-room) n) (h .same-stream);
     counts = every f exit-of p _ (λ a. counts-hold .blobs (a .table) (a .stream) (a .controls) (a .properties));
-    later-judges = every-bytes _ (λ a small. later-tree .judges (a .table) (a .stream) (a .controls) (a .properties) small);
-    stored = every-bytes _ (λ a small. row-checks .stored (a .stream) small);
-    items = every-bytes _ (λ a small. row-checks .items (a .table) (a .stream) (a .controls) (a .properties) small);
+    later-judges = every-bytes f exit-of p (λ (a : Blob). a .stream) tells _ (λ a small. later-tree .judges (a .table) (a .stream) (a .controls) (a .properties) small);
+    stored = every-bytes f exit-of p (λ (a : Blob). a .stream) tells _ (λ a small. row-checks .stored (a .stream) small);
+    items = every-bytes f exit-of p (λ (a : Blob). a .stream) tells _ (λ a small. row-checks .items (a .table) (a .stream) (a .controls) (a .properties) small);
     row-checks = every f exit-of p _ (λ a. row-checks .checks (a .table) (a .stream) (a .controls) (a .properties));
     bounds = every f exit-of p _ (λ a. rooms .bounds (a .table) (a .stream) (a .controls) (a .properties));
     room-enough = every f exit-of p _ (λ a. rooms .enough (a .table) (a .stream) (a .controls) (a .properties));
@@ -139,12 +159,6 @@ module _ (f : Fn Blob Exit) (p : Proved f exit-of) (one : OneResult (f .function
     by-words = by-words f exit-of p;
     allows = allows;
   }
-    where
-      -- the newer call's stream is the older's
-      both-told : (c d : Call f) (R : Exit → Exit → Type 0) → R (exit-of (handed c)) (exit (handed d .table) (handed c .stream) (handed d .controls) (handed d .properties)) → handed c .stream ≡ handed d .stream → R (seen c) (seen d)
-      both-told c d R h e =
-          subst (λ x. R x (seen d)) (sym (call-told f exit-of p c))
-          (subst (R (exit-of (handed c))) (sym (call-told f exit-of p d ∙ ap (λ s. exit (handed d .table) s (handed d .controls) (handed d .properties)) (sym e))) h)
 
 crates-read-blob : Proved (f.crates .read-blob) exit-of
 crates-read-blob = record {
@@ -182,6 +196,108 @@ crates-allows a = (record { κs = lifetimes; args = args-of a; result = exit-of 
 
 exported-allows : (a : Blob) → (c : Call (f.exported .read-blob)) × (handed c ≡ a)
 exported-allows a = (record { κs = lifetimes; args = args-of a; result = handedAnswer (exit-of a .answer); left = left-of a; allowed = (refl, (refl, refl)) }, refl)
+
+-- ---- read_2000
+abbrev exit-2000 : Blob → Exit
+exit-2000 a = exit2000 (a .table) (a .stream) (a .controls) (a .properties)
+
+module _ (f : Fn Blob Exit) (p : Proved f exit-2000) (one : OneResult (f .function)) (tells : Tells (f .function) (λ κs a. Bytes (f .handed κs a .stream))) (allows : (a : Blob) → (c : Call f) × (handed c ≡ a)) where
+  reads-2000 : calls.Read2000 f
+  reads-2000 = record {
+    met = p .met;
+    is-exit = every f exit-2000 p _ (λ a. refl);
+    bytes = every-bytes f exit-2000 p (λ (a : Blob). a .stream) tells _ (λ a small. small);
+    demand1 = every f exit-2000 p _ (λ a. wish8 .reads-2000 (a .table) (a .stream) (a .controls) (a .properties));
+    demand2 = every-bytes f exit-2000 p (λ (a : Blob). a .stream) tells _ (λ a small given enough.
+        subst (λ x. (x .answer .number ≡ 0) ↔ Spelled (a .stream)) (wish8 .agree (a .table) (a .stream) (a .controls) (a .properties) .for-2000 (given .old-layout))
+        (demand2 .accepted (a .table) (a .stream) (a .controls) (a .properties) small given enough));
+    demand2-judges = every-bytes f exit-2000 p (λ (a : Blob). a .stream) tells _ (λ a small given.
+        subst (λ x. Judges (a .table) (a .stream) (x .answer)) (wish8 .agree (a .table) (a .stream) (a .controls) (a .properties) .for-2000 (given .old-layout))
+        (demand2 .judges (a .table) (a .stream) (a .controls) (a .properties) small given));
+    demand3 = λ c d h. both-told f exit2000 p c d (SameBut _ _ _ _ _) (demand3 .same-but _ _ _ _ _ (h .successor) (h .same-room)) (h .same-stream);
+    one-result = one;
+    by-words = by-words f exit-2000 p;
+    allows = allows;
+  }
+
+-- ---- read_later
+abbrev exit-later : Later → Exit
+exit-later a = exitLater (a .layout) (a .stream) (a .controls) (a .properties)
+
+module _ (f : Fn Later Exit) (p : Proved f exit-later) (one : OneResult (f .function)) (tells : Tells (f .function) (λ κs a. Bytes (f .handed κs a .stream))) (allows : (a : Later) → (c : Call f) × (handed c ≡ a)) where
+  reads-later : calls.ReadLater f
+  reads-later = record {
+    met = p .met;
+    is-exit = every f exit-later p _ (λ a. refl);
+    bytes = every-bytes f exit-later p (λ (a : Later). a .stream) tells _ (λ a small. small);
+    demand1 = every f exit-later p _ (λ a. wish8 .reads-later (a .layout) (a .stream) (a .controls) (a .properties));
+    never-8 = every f exit-later p _ (λ a. wish8 .never-8 (a .layout) (a .stream) (a .controls) (a .properties));
+    above-255 = every-bytes f exit-later p (λ (a : Later). a .stream) tells _ (λ a small. wish8 .above-255 (a .layout) (a .stream) (a .controls) (a .properties) small);
+    one-result = one;
+    by-words = by-words f exit-later p;
+    allows = allows;
+  }
+
+-- ---- the readers agree
+agree-calls : (choice of-2000 : Fn Blob Exit) (of-later : Fn Later Exit) → Proved choice exit-of → Proved of-2000 exit-2000 → Proved of-later exit-later → calls.ReadersAgree choice of-2000 of-later
+agree-calls choice of-2000 of-later p q r c d e same told-of =
+    let a = handed c in
+    subst (λ x. Agree (a .table) (a .stream) (a .controls) (a .properties) x (seen d) (seen e)) (sym (call-told choice exit-of p c))
+    (subst (λ x. Agree (a .table) (a .stream) (a .controls) (a .properties) (exit-of a) x (seen e)) (sym (call-told of-2000 exit-2000 q d ∙ ap exit-2000 same))
+    (subst (λ x. Agree (a .table) (a .stream) (a .controls) (a .properties) (exit-of a) (exit-2000 a) x) (sym (call-told of-later exit-later r e ∙ ap exit-later told-of))
+    (wish8 .agree (a .table) (a .stream) (a .controls) (a .properties))))
+
+-- ---- both, as the crates have them and as C and Rust have them
+crates-read-2000 : Proved (f.crates .read-2000) exit-2000
+crates-read-2000 = record { met = λ w. read-2000-code.met (w .𝓤) (w .H) (w .𝓜) (w .𝓖) (w .𝓡); told = λ κs a r e q. q }
+
+crates-read-later : Proved (f.crates .read-later) exit-later
+crates-read-later = record { met = λ w. read-later-code.met (w .𝓤) (w .H) (w .𝓜) (w .𝓖) (w .𝓡); told = λ κs a r e q. q }
+
+exported-read-2000 : Proved (f.exported .read-2000) exit-2000
+exported-read-2000 = record {
+  met = told (f.exported .read-2000 .function) (λ w κs a r e. exported-read-2000-clauses.ensures κs a tt r e w) _ (λ w κs a r e. three-facts (w .𝓤) _ _ _) (λ w. exported-read-2000-code.met (w .𝓤) (w .H) (w .𝓜) (w .𝓖) (w .𝓡));
+  told = λ κs a r e q i. record { answer = f.takenAnswer (q .0 i); controls = q .1 .0 i; properties = q .1 .1 i };
+}
+
+exported-read-later : Proved (f.exported .read-later) exit-later
+exported-read-later = record {
+  met = told (f.exported .read-later .function) (λ w κs a r e. exported-read-later-clauses.ensures κs a tt r e w) _ (λ w κs a r e. three-facts (w .𝓤) _ _ _) (λ w. exported-read-later-code.met (w .𝓤) (w .H) (w .𝓜) (w .𝓖) (w .𝓡));
+  told = λ κs a r e q i. record { answer = f.takenAnswer (q .0 i); controls = q .1 .0 i; properties = q .1 .1 i };
+}
+
+crates-one-2000 : OneResult (f.crates .read-2000 .function)
+crates-one-2000 κs a r r′ x y p q = (ap (λ e. e .answer) (p ∙ sym q), λ i. (tt, (tt, ((p ∙ sym q) i .controls, ((p ∙ sym q) i .properties, tt)))))
+
+crates-one-later : OneResult (f.crates .read-later .function)
+crates-one-later κs a r r′ x y p q = (ap (λ e. e .answer) (p ∙ sym q), λ i. (tt, (tt, ((p ∙ sym q) i .controls, ((p ∙ sym q) i .properties, tt)))))
+
+exported-one-2000 : OneResult (f.exported .read-2000 .function)
+exported-one-2000 κs a r r′ x y p q = (p .0 ∙ sym (q .0), λ i. (tt, (tt, ((p .1 .0 ∙ sym (q .1 .0)) i, ((p .1 .1 ∙ sym (q .1 .1)) i, tt)))))
+
+exported-one-later : OneResult (f.exported .read-later .function)
+exported-one-later κs a r r′ x y p q = (p .0 ∙ sym (q .0), λ i. (tt, (tt, ((p .1 .0 ∙ sym (q .1 .0)) i, ((p .1 .1 ∙ sym (q .1 .1)) i, tt)))))
+
+abbrev left-2000 : Blob → Unit {0} × (Unit {0} × (List ℕ × (List ℕ × Unit {0})))
+left-2000 a = (tt, (tt, (exit-2000 a .controls, (exit-2000 a .properties, tt))))
+
+abbrev later-args : Later → ℕ × (RefT (List ℕ) × (RefT (List ℕ) × (RefT (List ℕ) × Unit {0})))
+later-args a = (a .layout, (somewhere (a .stream), (somewhere (a .controls), (somewhere (a .properties), tt))))
+
+abbrev left-later : Later → Unit {0} × (Unit {0} × (List ℕ × (List ℕ × Unit {0})))
+left-later a = (tt, (tt, (exit-later a .controls, (exit-later a .properties, tt))))
+
+crates-allows-2000 : (a : Blob) → (c : Call (f.crates .read-2000)) × (handed c ≡ a)
+crates-allows-2000 a = (record { κs = lifetimes; args = args-of a; result = exit-2000 a .answer; left = left-2000 a; allowed = refl }, refl)
+
+exported-allows-2000 : (a : Blob) → (c : Call (f.exported .read-2000)) × (handed c ≡ a)
+exported-allows-2000 a = (record { κs = lifetimes; args = args-of a; result = handedAnswer (exit-2000 a .answer); left = left-2000 a; allowed = (refl, (refl, refl)) }, refl)
+
+crates-allows-later : (a : Later) → (c : Call (f.crates .read-later)) × (handed c ≡ a)
+crates-allows-later a = (record { κs = ([], ([], ([], tt))); args = later-args a; result = exit-later a .answer; left = left-later a; allowed = refl }, refl)
+
+exported-allows-later : (a : Later) → (c : Call (f.exported .read-later)) × (handed c ≡ a)
+exported-allows-later a = (record { κs = ([], ([], ([], tt))); args = later-args a; result = handedAnswer (exit-later a .answer); left = left-later a; allowed = (refl, (refl, refl)) }, refl)
 
 -- ---- the functions of two clauses
 read-type-infos : (f : Fn f.TypeInfo TypeInfoExit) → Proved f (λ a. typeInfoExit (a .stream) (a .rows)) → OneResult (f .function) → calls.ReadTypeInfo f
@@ -277,6 +393,9 @@ exported-join-allows a = (record { κs = ([], ([], ([], tt))); args = join-args 
 of-crates : calls.Promised f.crates
 of-crates = record {
   read-blob = read-blobs (f.crates .read-blob) crates-read-blob crates-one (stream-told (f.crates .read-blob .function .ended .signature .result)) crates-allows;
+  read-2000 = reads-2000 (f.crates .read-2000) crates-read-2000 crates-one-2000 (stream-told (f.crates .read-2000 .function .ended .signature .result)) crates-allows-2000;
+  read-later = reads-later (f.crates .read-later) crates-read-later crates-one-later (later-told (f.crates .read-later .function .ended .signature .result)) crates-allows-later;
+  readers-agree = agree-calls (f.crates .read-blob) (f.crates .read-2000) (f.crates .read-later) crates-read-blob crates-read-2000 crates-read-later;
   read-type-info = read-type-infos (f.crates .read-type-info) (record {
     met = told (f.crates .read-type-info .function) (λ w κs a r e. read-type-info-clauses.ensures κs a tt r e w) _ (λ w κs a r e. both-facts (w .𝓤) _ _) (λ w. read-type-info-code.met (w .𝓤) (w .H) (w .𝓜) (w .𝓖) (w .𝓡));
     told = λ κs a r e q i. record { answer = q .0 i; rows = q .1 i };
@@ -313,6 +432,9 @@ of-crates = record {
 of-exported : calls.Promised f.exported
 of-exported = record {
   read-blob = read-blobs (f.exported .read-blob) exported-read-blob exported-one (stream-told (f.exported .read-blob .function .ended .signature .result)) exported-allows;
+  read-2000 = reads-2000 (f.exported .read-2000) exported-read-2000 exported-one-2000 (stream-told (f.exported .read-2000 .function .ended .signature .result)) exported-allows-2000;
+  read-later = reads-later (f.exported .read-later) exported-read-later exported-one-later (later-told (f.exported .read-later .function .ended .signature .result)) exported-allows-later;
+  readers-agree = agree-calls (f.exported .read-blob) (f.exported .read-2000) (f.exported .read-later) exported-read-blob exported-read-2000 exported-read-later;
   read-type-info = read-type-infos (f.exported .read-type-info) (record {
     met = told (f.exported .read-type-info .function) (λ w κs a r e. exported-read-type-info-clauses.ensures κs a tt r e w) _ (λ w κs a r e. both-facts (w .𝓤) _ _) (λ w. exported-read-type-info-code.met (w .𝓤) (w .H) (w .𝓜) (w .𝓖) (w .𝓡));
     told = λ κs a r e q i. record { answer = f.takenAnswer (q .0 i); rows = q .1 i };

@@ -18,7 +18,7 @@ use denote.Builtin.{u8, u32, SliceRef, SliceRefMut}
 use denote.Memory.{shares}
 use denote.Ref.{RefT, now}
 use denote.RattleType.{owns}
-use denote.Signature.{Signature, Slot}
+use denote.Signature.{Signature, Slot, plain}
 use denote.Slice.{MutSlice, ShrSlice, codedHoleys, heres, room, slice-vals}
 use denote.Triple.Entry.{Args, Vals, onEntry}
 use ghost.Atoms.{sem}
@@ -67,6 +67,29 @@ stream-told result w κs qs a vss =
     (via (w .𝓤) (sep (w .𝓤) L L′) (snd∗ (w .𝓤) (w .𝓖 .A .lft (κs .0) (qs .0)) (sep (w .𝓤) L L′)) (fst∗ (w .𝓤) L L′))
     (via (w .𝓤) (sep (w .𝓤) O Q) (snd∗ (w .𝓤) P (sep (w .𝓤) O Q)) (fst∗ (w .𝓤) O Q)))
     (via (w .𝓤) (sep (w .𝓤) O L) (comm∗ (w .𝓤) L O) (slice-told w (named 1) (κs .1 .0) (qs .1 .0) (a .1 .0) (vss .1 .0)))
+
+-- read_later's stream: the second of the arguments, with the first of the lifetimes
+abbrev later-signature : Slot 3 → Signature
+later-signature result = record {
+  lifetimes = 3;
+  outlives = [];
+  params = plain (λ _. u32) ∷ SliceRef 0 tt u8 tt ∷ SliceRefMut 1 tt u32 tt ∷ SliceRefMut 2 tt u32 tt ∷ [];
+  result = result;
+}
+
+pub later-told : (result : Slot 3) (w : World) (κs : Lfts 3) (qs : Shares 3) (a : Args (later-signature result) κs) (vss : Vals (later-signature result) κs)
+    → ent (w .𝓤) (onEntry (w .𝓤) (w .H) (w .𝓖 .A) (later-signature result) κs qs a vss) (w .H .⇛ (fact (w .𝓤) (Bytes (now (a .1 .0)))))
+later-told result w κs qs a vss =
+    let O : Pr w = sem (w .𝓤) (w .H) (w .𝓖 .A) (ShrSlice (named 0) (κs .0) u8 .own (a .1 .0) (vss .1 .0)) in
+    let L : Pr w = w .𝓖 .A .lft (κs .0) (qs .0) in
+    let L′ : Pr w = toks (w .𝓤) (w .𝓖 .A) 2 (κs .1) (qs .1) in
+    let P : Pr w = sem (w .𝓤) (w .H) (w .𝓖 .A) (u32 .own (a .0) (vss .0)) in
+    let Q : Pr w = sem (w .𝓤) (w .H) (w .𝓖 .A) (owns (MutSlice (named 1) (κs .1 .0) u32 ∷ MutSlice (named 2) (κs .1 .1 .0) u32 ∷ []) (a .1 .1) (vss .1 .1)) in
+    via (w .𝓤) (sep (w .𝓤) L O)
+    (mono∗ (w .𝓤)
+    (fst∗ (w .𝓤) L L′)
+    (via (w .𝓤) (sep (w .𝓤) O Q) (snd∗ (w .𝓤) P (sep (w .𝓤) O Q)) (fst∗ (w .𝓤) O Q)))
+    (via (w .𝓤) (sep (w .𝓤) O L) (comm∗ (w .𝓤) L O) (slice-told w (named 0) (κs .0) (qs .0) (a .1 .0) (vss .1 .0)))
 
 -- the two tables of join: the first and the second of the arguments
 abbrev join-signature : Slot 3 → Signature

@@ -4,7 +4,7 @@
 -- that it may write at exit. `OneResult` says that its contract allows one result only, to the last word. Functions.antt has the names.
 -- A call is one of the function's code: the routine that it is on the logic's machine. That the compiler keeps to it is believed.
 -- Each promise stands once. It holds of the functions of the crates (`crates`) and of those that C and Rust have (`exported`).
-use Prim.Native.Nat.{ℕ}
+use Prim.Native.Nat.{ℕ, _≤_}
 use mathlib.Core.Path.{_≡_}
 use mathlib.Core.Bool.{true}
 use mathlib.Core.List.{List, _++_, map}
@@ -21,11 +21,11 @@ use Rattle.rules.specs.Texts.{TextExit, guidExit, labelExit}
 use Rattle.rules.specs.NameTables.{textNames, numberNames, bytesNames, controlTypeNames}
 use Rattle.rules.specs.Names.{nameIn, namesFor}
 use Rattle.rules.specs.TypeInfo.{TypeInfoExit, typeInfoExit}
-use Rattle.rules.specs.CodeTable.{wellFormed}
+use Rattle.rules.specs.CodeTable.{layout, wellFormed}
 use Rattle.rules.specs.Join.{joinExit, result}
 use Rattle.rules.specs.NamePart.{Part, namePart, partBytes}
 use Rattle.rules.specs.Room.{room2000, roomLater, roomFor, typeInfoRoom}
-use Rattle.rules.specs.Blob.{Exit, is2000, exit, spots}
+use Rattle.rules.specs.Blob.{Exit, is2000, exit, exit2000, exitLater, spots}
 use Rattle.leaf.specs.Int.{intOf}
 use Rattle.leaf.specs.Wide.{wordsOf, bitsOf}
 use Rattle.names.specs.Lookup.{named}
@@ -35,6 +35,7 @@ use Rattle.claims.specs.Answers.{GuidAnswer, LabelAnswer}
 use Rattle.claims.specs.Demand1.{Blobs, TypeInfos, Texts}
 use Rattle.claims.specs.Demand2.{Given, Enough, Spelled, Judges}
 use Rattle.claims.specs.Demand3.{Successor, Lent, SameRoom, SameBut, Same}
+use Rattle.claims.specs.Readers.{Answer2000, AnswerLater, Reads, Agree}
 use Rattle.claims.specs.Joining.{Table, Roomy, JoinAnswer, Together, Gains}
 use Rattle.claims.specs.Grammar.{Stream, _spells_}
 use Rattle.claims.specs.Stored.{storedOf, spotSays}
@@ -46,6 +47,7 @@ use Rattle.calls.specs.Always.{Always, OneResult, Fn, Every, Gives, Call
 use Rattle.calls.specs.JoiningCalls.{PlansCarried}
 use Rattle.calls.specs.Functions.{
   Blob,
+  Later,
   TypeInfo,
   Guid,
   Label,
@@ -71,6 +73,10 @@ pub record TwoTables (older newer : Blob) : Type 0 where
   pub same-stream : older .stream ≡ newer .stream
   pub same-room : SameRoom (lent older) (lent newer)
 
+-- what such calls show: "both give the same answer number, controls, names and property count, and on answer 0 a property differs exactly where .."
+abbrev pub TwoShow : {f : Fn Blob Exit} → Call f → Call f → Type 0
+TwoShow older newer = SameBut (handed older .table) (handed newer .table) (handed older .stream) (lent (handed older)) (lent (handed newer)) (seen older) (seen newer)
+
 pub record ReadBlob (f : Fn Blob Exit) : Type 2 where
   -- what the code does is what its contract allows, so what is said of any two calls that it allows is said of the code's
   pub met : Always (f .function) (f .function .says)
@@ -92,7 +98,7 @@ pub record ReadBlob (f : Fn Blob Exit) : Type 2 where
   -- differs exactly where .." Of any two calls that the contract allows
   pub demand3 : (older newer : Call f) → TwoTables (handed older) (handed newer)
       → is2000 (handed older .table) (handed older .stream) ≡ true
-      → SameBut (handed older .table) (handed newer .table) (handed older .stream) (lent (handed older)) (lent (handed newer)) (seen older) (seen newer)
+      → TwoShow older newer
   -- over any other stream the two tables say the very same
   pub demand3-later : (older newer : Call f) → TwoTables (handed older) (handed newer)
       → ¬ (is2000 (handed older .table) (handed older .stream) ≡ true)
@@ -118,6 +124,49 @@ pub record ReadBlob (f : Fn Blob Exit) : Type 2 where
   -- wherever the slices stand: the words alone tell what is seen; and the contract allows a call of any words, so that what is said of two calls isn't idle
   pub by-words : (c d : Call f) → handed c ≡ handed d → seen c ≡ seen d
   pub allows : (a : Blob) → (c : Call f) × (handed c ≡ a)
+
+-- ---- a reader for each layout: wish 8 (Readers)
+-- read_2000(table, stream, controls, properties)
+pub record Read2000 (f : Fn Blob Exit) : Type 2 where
+  pub met : Always (f .function) (f .function .says)
+  pub is-exit : Every f (λ a seen. seen ≡ exit2000 (a .table) (a .stream) (a .controls) (a .properties))
+  pub bytes : Every f (λ a seen. Bytes (a .stream))
+  -- "15 where the first byte speaks for the other layout .., after 5 and 8", then 4, 6 and 7; a refusal writes nothing
+  pub demand1 : Every f (λ a seen. Reads (Answer2000 (a .table) (a .stream) (a .controls) (a .properties)) (a .controls) (a .properties) seen)
+  -- demand 2, as of read_blob
+  pub demand2 : Every f (λ a seen.
+      Given (a .table) (a .stream) → Enough (a .stream) (room controlWidth (a .controls)) (room propertyWidth (a .properties))
+      → (seen .answer .number ≡ 0) ↔ Spelled (a .stream))
+  pub demand2-judges : Every f (λ a seen. Given (a .table) (a .stream) → Judges (a .table) (a .stream) (seen .answer))
+  -- "Demand 3 then speaks of the Access 2000 reader.": whatever the first byte is
+  pub demand3 : (older newer : Call f) → TwoTables (handed older) (handed newer) → TwoShow older newer
+  pub one-result : OneResult (f .function)
+  pub by-words : (c d : Call f) → handed c ≡ handed d → seen c ≡ seen d
+  pub allows : (a : Blob) → (c : Call f) × (handed c ≡ a)
+
+-- read_later(layout, stream, controls, properties)
+pub record ReadLater (f : Fn Later Exit) : Type 2 where
+  pub met : Always (f .function) (f .function .says)
+  pub is-exit : Every f (λ a seen. seen ≡ exitLater (a .layout) (a .stream) (a .controls) (a .properties))
+  pub bytes : Every f (λ a seen. Bytes (a .stream))
+  pub demand1 : Every f (λ a seen. Reads (AnswerLater (a .layout) (a .stream) (a .controls) (a .properties)) (a .controls) (a .properties) seen)
+  -- "the later reader is told the layout byte as a number and never answers 8"
+  pub never-8 : Every f (λ a seen. ¬ (seen .answer .number ≡ 8))
+  -- nor 15, where the number is no byte
+  pub above-255 : Every f (λ a seen. 256 ≤ a .layout → ¬ (seen .answer .number ≡ 15))
+  pub one-result : OneResult (f .function)
+  pub by-words : (c d : Call f) → handed c ≡ handed d → seen c ≡ seen d
+  pub allows : (a : Later) → (c : Call f) × (handed c ≡ a)
+
+-- what the later reader is handed in the place of a code table: its layout byte
+abbrev pub told-layout : Blob → Later
+told-layout a = record { layout = layout (a .table); stream = a .stream; controls = a .controls; properties = a .properties }
+
+-- the choice gives what the reader of the layout spoken for gives, and the other one gives 15. Of any three calls over the same table, stream and slices
+abbrev pub ReadersAgree : Fn Blob Exit → Fn Blob Exit → Fn Later Exit → Type 0
+ReadersAgree choice of-2000 of-later =
+    (c : Call choice) (d : Call of-2000) (e : Call of-later) → handed d ≡ handed c → handed e ≡ told-layout (handed c)
+    → Agree (handed c .table) (handed c .stream) (handed c .controls) (handed c .properties) (seen c) (seen d) (seen e)
 
 -- ---- read_type_info(stream, rows): the same of TypeInfo
 pub record ReadTypeInfo (f : Fn TypeInfo TypeInfoExit) : Type 2 where
@@ -189,6 +238,9 @@ pub record JoinTables (f : Fn Join TextExit) : Type 2 where
 -- ---- the functions that both the crates and the archive have. `Gives f d` says that every call of f gives what d says, and that the contract allows nothing else
 pub record Promised (i : Interface) : Type 2 where
   pub read-blob : ReadBlob (i .read-blob)
+  pub read-2000 : Read2000 (i .read-2000)
+  pub read-later : ReadLater (i .read-later)
+  pub readers-agree : ReadersAgree (i .read-blob) (i .read-2000) (i .read-later)
   pub read-type-info : ReadTypeInfo (i .read-type-info)
   pub guid-text : GuidText (i .guid-text)
   pub label-text : LabelText (i .label-text)

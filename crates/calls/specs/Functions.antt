@@ -38,12 +38,16 @@ use Rattle.codetable.proofs.well_formed as well_formed
 use Rattle.join.proofs.join as join
 use Rattle.typeinfo.proofs.read_type_info as read_type_info
 use Rattle.blob.proofs.read_blob as read_blob
+use Rattle.blob.proofs.read_2000 as «read_2000»
+use Rattle.blob.proofs.read_later as read_later
 use Rattle.blob.proofs.control_name as control_name
 use Rattle.room.proofs.room_for as room_for
 use Rattle.room.proofs.room_2000 as «room_2000»
 use Rattle.room.proofs.room_later as room_later
 use Rattle.room.proofs.type_info_room as type_info_room
 use Rattle.oskuramos.proofs.oskuramos_read_blob as oskuramos_read_blob
+use Rattle.oskuramos.proofs.oskuramos_read_2000 as «oskuramos_read_2000»
+use Rattle.oskuramos.proofs.oskuramos_read_later as oskuramos_read_later
 use Rattle.oskuramos.proofs.oskuramos_read_type_info as oskuramos_read_type_info
 use Rattle.oskuramos.proofs.oskuramos_well_formed as oskuramos_well_formed
 use Rattle.oskuramos.proofs.oskuramos_join as oskuramos_join
@@ -81,6 +85,16 @@ pub record Blob : Type 0 where
 
 abbrev blob : Slice × (Slice × (Slice × (Slice × End))) → Blob
 blob a = record { table = now (a .0); stream = now (a .1 .0); controls = now (a .1 .1 .0); properties = now (a .1 .1 .1 .0) }
+
+-- (layout, stream, controls, properties)
+pub record Later : Type 0 where
+  pub layout : ℕ
+  pub stream : List ℕ
+  pub controls : List ℕ
+  pub properties : List ℕ
+
+abbrev later : ℕ × (Slice × (Slice × (Slice × End))) → Later
+later a = record { layout = a .0; stream = now (a .1 .0); controls = now (a .1 .1 .0); properties = now (a .1 .1 .1 .0) }
 
 -- (stream, rows)
 pub record TypeInfo : Type 0 where
@@ -182,6 +196,9 @@ number a = a .0
 abbrev blob-exit : Answer → Slice × (Slice × (Slice × (Slice × End))) → Exit
 blob-exit r e = record { answer = r; controls = blob e .controls; properties = blob e .properties }
 
+abbrev later-exit : Answer → ℕ × (Slice × (Slice × (Slice × End))) → Exit
+later-exit r e = record { answer = r; controls = later e .controls; properties = later e .properties }
+
 abbrev type-info-exit : Answer → Slice × (Slice × End) → TypeInfoExit
 type-info-exit r e = record { answer = r; rows = type-info e .rows }
 
@@ -210,6 +227,8 @@ takenRoom r = record { controls = r .controls; properties = r .properties }
 -- ---- the functions that both the crates and the archive have (`control_name` stands below: the two return its part differently)
 pub record Interface : Type 2 where
   pub read-blob : Fn Blob Exit
+  pub read-2000 : Fn Blob Exit
+  pub read-later : Fn Later Exit
   pub read-type-info : Fn TypeInfo TypeInfoExit
   pub well-formed : Fn (List ℕ) Bool
   pub room : Fn ℕ Room
@@ -236,6 +255,16 @@ crates = record {
     function = record { ended = read_blob.ended; routine = read_blob.Symbol.routine; says = read_blob.Reads.Learnt };
     handed = λ κs a. blob a;
     seen = λ κs r e. blob-exit r e;
+  };
+  read-2000 = record {
+    function = record { ended = «read_2000».ended; routine = «read_2000».Symbol.routine; says = «read_2000».Reads.Learnt };
+    handed = λ κs a. blob a;
+    seen = λ κs r e. blob-exit r e;
+  };
+  read-later = record {
+    function = record { ended = read_later.ended; routine = read_later.Symbol.routine; says = read_later.Reads.Learnt };
+    handed = λ κs a. later a;
+    seen = λ κs r e. later-exit r e;
   };
   read-type-info = record {
     function = record { ended = read_type_info.ended; routine = read_type_info.Symbol.routine; says = read_type_info.Reads.Learnt };
@@ -336,6 +365,16 @@ exported = record {
     function = record { ended = oskuramos_read_blob.ended; routine = oskuramos_read_blob.Symbol.routine; says = oskuramos_read_blob.Reads.Learnt };
     handed = λ κs a. blob a;
     seen = λ κs r e. blob-exit (takenAnswer r) e;
+  };
+  read-2000 = record {
+    function = record { ended = «oskuramos_read_2000».ended; routine = «oskuramos_read_2000».Symbol.routine; says = «oskuramos_read_2000».Reads.Learnt };
+    handed = λ κs a. blob a;
+    seen = λ κs r e. blob-exit (takenAnswer r) e;
+  };
+  read-later = record {
+    function = record { ended = oskuramos_read_later.ended; routine = oskuramos_read_later.Symbol.routine; says = oskuramos_read_later.Reads.Learnt };
+    handed = λ κs a. later a;
+    seen = λ κs r e. later-exit (takenAnswer r) e;
   };
   read-type-info = record {
     function = record { ended = oskuramos_read_type_info.ended; routine = oskuramos_read_type_info.Symbol.routine; says = oskuramos_read_type_info.Reads.Learnt };
