@@ -16,7 +16,7 @@ import sys
 import tempfile
 
 ROOT = os.path.join(os.path.dirname(os.path.abspath(__file__)), "..")
-SEED, COUNT, LONGEST = "1", "5400", "8192"
+SEED, COUNT, LONGEST = "1", "5700", "8192"
 TYPE_INFO, NAMES = 2, 6
 MAGIC = 0xACCDEAF7
 

@@ -1,5 +1,5 @@
 #!/usr/bin/env python3
-"""Shows that the comparison sees slips: each edit below puts one into the plain reader, and jetdb must then differ, or for a joining document 02 read once more.
+"""Shows that the comparison sees slips: each edit below puts one into the plain reader, and jetdb must then differ, or for wishes 8 and 9 document 02 read once more.
 
 Works on a copy of this folder; takes some minutes. Prints a line for each slip; fails if one isn't seen.
 """
@@ -52,6 +52,11 @@ SLIPS = [
     ("join", "all.len() > MOST_SCOPES", "all.len() >= MOST_SCOPES"),
     ("join", "bytes.len() > room", "bytes.len() >= room"),
     ("join", "insert((row.target, row.kind))", "insert((row.target, 0))"),
+    ("readers", "stream.first() != Some(&codes.layout)", "stream.first().is_some_and(|first| *first != codes.layout)"),
+    ("readers", "Codes::parse(table) else { return refusal(8) };", "Codes::parse(table).filter(|c| stream.first() == Some(&c.layout)) else { return refusal(15) };"),
+    ("readers", "map_or(refusal(4),", "map_or(refusal(15),"),
+    ("readers", "u32::from(first) == layout", "first == layout as u8"),
+    ("readers", "rows(&later::reading(stream))", "rows(&later::reading(&stream[stream.len().min(1)..]))"),
 ]
 
 
@@ -59,7 +64,7 @@ def is_seen(copy, environment):
     build = ["cargo", "build", "--profile", "slips", "--offline", "--quiet"]
     subprocess.run(build, cwd=copy / "compare", env=environment, check=True)
     program = pathlib.Path(environment["CARGO_TARGET_DIR"]) / "slips" / "compare"
-    for words in (["random", "1", "10000"], ["joins", "2000", "1"], ["all", "2"]):
+    for words in (["random", "1", "10000"], ["joins", "2000", "1"], ["readers", "2000", "1"], ["all", "2"]):
         run = subprocess.run([program, *words], stdout=subprocess.PIPE, stderr=subprocess.STDOUT, text=True)
         if run.returncode != 0:
             return run.stdout

@@ -1,7 +1,7 @@
 //! Batch files: many cases for one run of another program. README.md has the format.
 
 use crate::cases::rng::Rng;
-use crate::cases::{fixed, join, leaves, random, typeinfo, Case, Kind, KINDS};
+use crate::cases::{fixed, join, leaves, random, readers, typeinfo, Case, Kind, KINDS};
 use crate::expect::{Expected, Judge};
 use crate::plain::u32_at;
 use std::borrow::Cow;
@@ -29,6 +29,7 @@ fn always(rng: &mut Rng, out: &mut dyn FnMut(Case)) {
     leaves::names(rng, out);
     leaves::name_parts(out);
     join::telling(out);
+    readers::telling(out);
 }
 
 /// About `wanted` of the exhaustive cases, each with the same chance.
@@ -49,6 +50,13 @@ pub type Draw = fn(u64, usize, usize, &mut dyn FnMut(Case) -> Result<(), String>
 pub fn joins(seed: u64, count: usize, longest: usize, out: &mut dyn FnMut(Case) -> Result<(), String>) -> Result<(), String> {
     let mut rng = Rng::new(seed);
     let mut fitting = std::iter::repeat_with(|| join::random(&mut rng)).filter(|case| case.bytes.len() <= longest);
+    fitting.by_ref().take(count).try_for_each(out)
+}
+
+/// `count` Blobs for the reader of one layout.
+pub fn readers(seed: u64, count: usize, longest: usize, out: &mut dyn FnMut(Case) -> Result<(), String>) -> Result<(), String> {
+    let mut rng = Rng::new(seed);
+    let mut fitting = std::iter::repeat_with(|| readers::random(&mut rng)).filter(|case| case.bytes.len() <= longest);
     fitting.by_ref().take(count).try_for_each(out)
 }
 
@@ -98,6 +106,7 @@ pub fn chance(rng: &mut Rng) -> Case {
         1..=3 => random::other_table(rng),
         4..=7 => typeinfo::random(rng),
         8 => join::random(rng),
+        9 | 10 => readers::random(rng),
         _ => random::blob(rng),
     }
 }
@@ -118,7 +127,7 @@ pub fn written(judge: &Judge, cases: &[Case]) -> Result<(Vec<u8>, Vec<Expected>)
     let mut sent: &[u8] = &judge.table;
     for case in cases {
         let table = case.table.as_deref().unwrap_or(&judge.table);
-        if case.kind == Kind::Blob && table != sent {
+        if matches!(case.kind, Kind::Blob | Kind::Read2000) && table != sent {
             frames.extend(frame(Kind::Table, [0, 0], table));
             sent = table;
         }

@@ -54,6 +54,11 @@ impl Judge {
             Kind::Names => names(first as u16),
             Kind::NamePart => Ok(Expected::new(name_part(&case.bytes, first, second as usize), false)),
             Kind::Join => joined(case.pair(), first as usize),
+            Kind::Read2000 => {
+                let table = case.table.as_deref().unwrap_or(&self.table);
+                self.read_2000(table, &case.bytes, [first as usize, second as usize])
+            }
+            Kind::ReadLater => self.read_later(case.layout_and_stream(), [first as usize, second as usize]),
         }
     }
 
@@ -68,6 +73,24 @@ impl Judge {
         let found = Codes::parse(table).and_then(|codes| plain::reading(&codes, stream));
         found.iter().try_for_each(|found| plain::room::bounded(found, stream.len()))?;
         Ok(Expected { text: print(stream, &rows), shape: found.map(|found| found.shape), by_jetdb })
+    }
+
+    /// The reader of Access 2000: jetdb judges the reading, document 02 alone whether it is asked for.
+    fn read_2000(&self, table: &[u8], stream: &[u8], words: [usize; 2]) -> Result<Expected, String> {
+        let rows = plain::readers::read_2000(table, stream, words);
+        plain::readers::kept_2000(table, stream, words, &rows)?;
+        let found = self.blob(table, stream, words, |_, _| dump(&rows))?;
+        Ok(Expected { shape: None, by_jetdb: found.by_jetdb && rows.answer.number != 15, ..found })
+    }
+
+    /// The reader of the later layout, which never looks at the first byte's value: jetdb is given another one where it would read Access 2000.
+    fn read_later(&self, (layout, stream): (u32, &[u8]), words: [usize; 2]) -> Result<Expected, String> {
+        let rows = plain::readers::read_later(layout, stream, words);
+        plain::readers::kept_later(layout, stream, words, &rows)?;
+        let mut later = stream.to_vec();
+        later.iter_mut().take(1).filter(|first| **first == self.codes.layout).for_each(|first| *first ^= 1);
+        let found = self.blob(&self.table, &later, words, |_, _| dump(&rows))?;
+        Ok(Expected { shape: None, by_jetdb: found.by_jetdb && rows.answer.number != 15, ..found })
     }
 
     /// Under another table with jetdb's layout byte, jetdb still judges what no table changes: the places and the counts.

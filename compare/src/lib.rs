@@ -23,7 +23,7 @@ mod stubs;
 mod tests;
 
 use cases::rng::Rng;
-use cases::{fixed, join, leaves, Case};
+use cases::{fixed, join, leaves, readers, Case};
 use expect::Judge;
 use std::io::{Read, Write};
 use std::process::ExitCode;
@@ -40,6 +40,7 @@ compare batch SEED COUNT NAME [LONGEST]    writes NAME.cases and NAME.expected, 
 compare judge NAME.cases PRINTED           holds what a program printed against what must be printed
 compare run COUNT SEED PROGRAM ..          fresh cases through a program that reads batch files; stops at the first difference
 compare joins COUNT SEED [PROGRAM ..]      pairs of code tables alone; without a program document 02 is read in two ways
+compare readers COUNT SEED [PROGRAM ..]    Blobs for the reader of one layout alone, in the same way
 ";
 
 /// The program's main function.
@@ -78,7 +79,11 @@ fn command(words: &[&str]) -> Result<bool, String> {
         ["run", count, seed, ref program @ ..] if !program.is_empty() => {
             through(&judge, number(count)? as usize, number(seed)?, program, batch::drawn)
         }
-        ["joins", count, seed] => Ok(joins(&judge, number(seed)?, number(count)?)),
+        ["joins", count, seed] => Ok(alone(&judge, number(seed)?, number(count)?, join::random)),
+        ["readers", count, seed] => Ok(alone(&judge, number(seed)?, number(count)?, readers::random)),
+        ["readers", count, seed, ref program @ ..] if !program.is_empty() => {
+            through(&judge, number(count)? as usize, number(seed)?, program, batch::readers)
+        }
         ["joins", count, seed, ref program @ ..] if !program.is_empty() => {
             through(&judge, number(count)? as usize, number(seed)?, program, batch::joins)
         }
@@ -129,6 +134,7 @@ fn all(judge: &Judge, longest: usize) -> bool {
     leaves::names(&mut rng, &mut add);
     leaves::name_parts(&mut add);
     join::telling(&mut add);
+    readers::telling(&mut add);
     figures.print();
     figures.is_clean()
 }
@@ -143,10 +149,11 @@ fn random(judge: &Judge, seed: u64, count: u64) -> bool {
     figures.is_clean()
 }
 
-fn joins(judge: &Judge, seed: u64, count: u64) -> bool {
+/// Random cases of one kind alone.
+fn alone(judge: &Judge, seed: u64, count: u64, one: fn(&mut Rng) -> Case) -> bool {
     let mut figures = run::Figures::default();
     let mut rng = Rng::new(seed);
-    (0..count).for_each(|_| figures.add(judge, &join::random(&mut rng)));
+    (0..count).for_each(|_| figures.add(judge, &one(&mut rng)));
     figures.print();
     figures.is_clean()
 }

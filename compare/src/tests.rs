@@ -191,6 +191,20 @@ fn answers_come_in_order() {
 }
 
 #[test]
+fn readers_of_one_layout_answer_in_order() {
+    let table = Judge::new().table;
+    let (old, later, long) = (chain2000(2), chain_later(2), vec![0; plain::LONGEST + 1]);
+    let own = u32::from(table[0]);
+    let by_2000 = |table: &[u8], s: &[u8], words| plain::readers::read_2000(table, s, [words; 2]).answer.number;
+    assert_eq!([&long[..], &old, &later, &[]].map(|s| by_2000(&table[1..], s, 0)), [5, 8, 8, 8]);
+    assert_eq!([&long[..], &old[..9], &old, &later, &[]].map(|s| by_2000(&table, s, 0)), [5, 4, 6, 15, 15]);
+    let by_later = |layout, s: &[u8], words| plain::readers::read_later(layout, s, [words; 2]).answer.number;
+    assert_eq!([&long[..], &old, &later, &[]].map(|s| by_later(own, s, 0)), [5, 15, 6, 0]);
+    assert_eq!([0, 256, own + 256].map(|layout| by_later(layout, &long[1..], 0)), [15, 7, 7]);
+    assert_eq!(by_later(own + 256, &old, 12), 0);
+}
+
+#[test]
 fn scan_starts_behind_the_objects_rows() {
     let own = property_later(0x14, 0x0A, b"A\0", 1);
     let found = blob([head_later(), own.clone(), vec![0xEE], own].concat()).unwrap();
@@ -255,7 +269,7 @@ fn batch_files_lend_what_the_readme_says() {
         let [first, second] = case.numbers.map(|n| n as usize);
         assert!(case.bytes.len() <= 32_768);
         assert!(match case.kind {
-            Kind::Blob => first <= 6 * 256 && second <= 6 * 1024,
+            Kind::Blob | Kind::Read2000 | Kind::ReadLater => first <= 6 * 256 && second <= 6 * 1024,
             Kind::TypeInfo => first <= 4 * 256,
             Kind::Guid | Kind::Label => first <= 64,
             Kind::Join => first <= 32_768 && second <= case.bytes.len(),

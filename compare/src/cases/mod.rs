@@ -5,6 +5,7 @@ pub mod fixed;
 pub mod join;
 pub mod leaves;
 pub mod random;
+pub mod readers;
 pub mod rng;
 pub mod typeinfo;
 pub mod worked;
@@ -24,10 +25,23 @@ pub enum Kind {
     Names = 6,
     NamePart = 7,
     Join = 8,
+    Read2000 = 9,
+    ReadLater = 10,
 }
 
-pub const KINDS: [Kind; 9] =
-    [Kind::Table, Kind::Blob, Kind::TypeInfo, Kind::Listing, Kind::Guid, Kind::Label, Kind::Names, Kind::NamePart, Kind::Join];
+pub const KINDS: [Kind; 11] = [
+    Kind::Table,
+    Kind::Blob,
+    Kind::TypeInfo,
+    Kind::Listing,
+    Kind::Guid,
+    Kind::Label,
+    Kind::Names,
+    Kind::NamePart,
+    Kind::Join,
+    Kind::Read2000,
+    Kind::ReadLater,
+];
 
 #[derive(Debug, Clone)]
 pub struct Case {

@@ -12,6 +12,7 @@ use lines::print_rows;
 use rows::CONTROL_WIDTH;
 use rows::INFO_WIDTH;
 use rows::PROPERTY_WIDTH;
+use rules::Answer;
 
 // What rows hold before a case, so that a word which wasn't written shows.
 const UNWRITTEN: u32 = 0xDEAD_BEEF;
@@ -60,12 +61,32 @@ fn words_mut(s: &mut [u32], size: usize) -> &mut [u32] {
 }
 
 // ---- the kinds of case
-fn replay_blob(codes: &[u8], stream: &[u8], lent: u32, more: u32, out: &mut [u8]) {
+// A Blob by the reader of one layout, or by the one that chooses. For the later layout its layout byte stands before the stream.
+fn read_by(
+    kind: u32,
+    codes: &[u8],
+    bytes: &[u8],
+    controls: &mut [u32],
+    properties: &mut [u32],
+) -> Answer {
+    match kind {
+        9 => blob::read_2000(codes, bytes, controls, properties),
+        10 => blob::read_later(
+            leaf::u32_at(bytes, 0),
+            behind(bytes, 4),
+            controls,
+            properties,
+        ),
+        _ => blob::read_blob(codes, bytes, controls, properties),
+    }
+}
+
+fn replay_blob(kind: u32, codes: &[u8], bytes: &[u8], lent: u32, more: u32, out: &mut [u8]) {
     let mut space = [UNWRITTEN; 256 * CONTROL_WIDTH];
     let mut room = [UNWRITTEN; 1024 * PROPERTY_WIDTH];
     let controls = words_mut(&mut space, lent as usize);
     let properties = words_mut(&mut room, more as usize);
-    let answer = blob::read_blob(codes, stream, controls, properties);
+    let answer = read_by(kind, codes, bytes, controls, properties);
     print_answer(answer, out);
     if answer.number == 0 {
         print_rows(b'C', controls, CONTROL_WIDTH, answer.first, out);
@@ -149,7 +170,7 @@ fn replay_listing(input: &[u8], out: &mut [u8]) {
 fn replay_case(head: Head, codes: &[u8], bytes: &[u8], out: &mut [u8]) {
     let kind = head.kind;
     match kind {
-        1 => replay_blob(codes, bytes, head.first, head.second, out),
+        1 | 9 | 10 => replay_blob(kind, codes, bytes, head.first, head.second, out),
         2 => replay_type_info(bytes, head.first, out),
         3 => replay_listing(bytes, out),
         4 => replay_guid(bytes, head.first, out),
