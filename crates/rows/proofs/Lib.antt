@@ -7,3 +7,4 @@ pub mod LevelLaws
 pub mod TakenLaws
 pub mod ActLaws
 pub mod RemainLaws
+pub mod JudgeLaws

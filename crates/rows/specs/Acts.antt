@@ -8,8 +8,9 @@ use Rattle.rules.specs.Answer.{longest}
 use Rattle.rules.specs.Tree.{Entries, Node, nodesOf}
 use Rattle.rules.specs.Reading.{Control}
 use Rattle.rows.specs.Writing.{State, state, theirs, writeControls, Room}
+use Rattle.rows.specs.declared.Next.{Next}
 
--- ---- nodes in output order, and the place behind them, of what a reader read
+-- ---- nodes in output order, and the place after them, of what a reader read
 abbrev pub Nodes : Type 0 → Type 0
 Nodes P = Option (List (Node P) × ℕ)
 
@@ -18,7 +19,7 @@ abbrev pub topNodes : {P : Type 0} → Option (Entries P × ℕ) → Nodes P
 topNodes none = none
 topNodes (some x) = some (nodesOf (x .0), x .1)
 
--- these, and then those from the place behind them on
+-- these, and then those from the place after them on
 abbrev pub _then_ : {P : Type 0} → Nodes P → (ℕ → Nodes P) → Nodes P
 o then g = o >>= λ x. g (x .1) >>= λ y. some (x .0 ++ y .0, y .1)
 
@@ -33,13 +34,20 @@ pub record Fit (cs : List Control) (st : State) : Type 0 where
   pub room : Room cs st
   pub few : st .ci + st .pi + (length cs + length (theirs cs)) ≤ longest
 
--- ---- what is left in the slices, and the place behind what was written
+-- ---- what is left in the slices, and the place after what was written
 pub record Stood : Type 0 where
   pub state : State
   pub next : ℕ
 
 abbrev pub stood : List ℕ → ℕ → List ℕ → ℕ → ℕ → Stood
 stood cs ci ps pi next = record { state = state cs ci ps pi; next = next }
+
+-- the same by a writer's cursor
+abbrev pub stateAt : List ℕ → List ℕ → Next → State
+stateAt cs ps n = state cs (n .control) ps (n .property)
+
+abbrev pub stoodAt : List ℕ → List ℕ → Next → Stood
+stoodAt cs ps n = record { state = stateAt cs ps n; next = n .at }
 
 abbrev pub actBy : {P : Type 0} → (Node P → Control) → Nodes P → State → Option Stood
 actBy f none st = none

@@ -5,7 +5,7 @@ use mathlib.Core.List.{List, [], _∷_}
 use mathlib.Core.Option.{Option, none, some}
 use lib.ListN.{length}
 use Rattle.rules.specs.Tree.{Entry, plain, parent, Entries, end, more, Node, isReported, reported}
-use Rattle.rows.specs.declared.Part.{Part}
+use Rattle.rows.specs.declared.Tally.{Tally}
 
 abbrev mutual
   pub size1 : {P : Type 0} → Entry P → ℕ
@@ -30,21 +30,21 @@ unfoldable pub propsIn : {P : Type 0} → List (Node P) → ℕ
 propsIn [] = 0
 propsIn (n ∷ ns) = length (n .props) + propsIn ns
 
--- ---- what was read, counted, with the place behind it
-abbrev pub part1 : {P : Type 0} → Option (Entry P × ℕ) → Part
-part1 none = Part.Bad
-part1 (some x) = Part.Of (size1 (x .0)) (props1 (x .0)) (x .1)
+-- ---- what was read, counted, with the place after it
+abbrev pub tally1 : {P : Type 0} → Option (Entry P × ℕ) → Tally
+tally1 none = Tally.Bad
+tally1 (some x) = Tally.Of (size1 (x .0)) (props1 (x .0)) (x .1)
 
-abbrev pub part : {P : Type 0} → Option (Entries P × ℕ) → Part
-part none = Part.Bad
-part (some x) = Part.Of (size (x .0)) (props (x .0)) (x .1)
+abbrev pub tally : {P : Type 0} → Option (Entries P × ℕ) → Tally
+tally none = Tally.Bad
+tally (some x) = Tally.Of (size (x .0)) (props (x .0)) (x .1)
 
 -- of the top list, what is reported
-abbrev pub partTop : {P : Type 0} → Option (Entries P × ℕ) → Part
-partTop none = Part.Bad
-partTop (some x) = Part.Of (size (reported (x .0))) (props (reported (x .0))) (x .1)
+abbrev pub tallyTop : {P : Type 0} → Option (Entries P × ℕ) → Tally
+tallyTop none = Tally.Bad
+tallyTop (some x) = Tally.Of (size (reported (x .0))) (props (reported (x .0))) (x .1)
 
 -- of an entry of the top list, where it is reported
-abbrev pub partKept : {P : Type 0} → Option (Entry P × ℕ) → Part
-partKept none = Part.Bad
-partKept (some x) = cond (isReported (x .0)) (part1 (some x)) (Part.Of 0 0 (x .1))
+abbrev pub tallyKept : {P : Type 0} → Option (Entry P × ℕ) → Tally
+tallyKept none = Tally.Bad
+tallyKept (some x) = cond (isReported (x .0)) (tally1 (some x)) (Tally.Of 0 0 (x .1))

@@ -3,3 +3,4 @@ pub mod Get
 pub mod Writing
 pub mod Counting
 pub mod Acts
+pub mod Judge

@@ -1,17 +1,21 @@
-// Rows of words put into a lent slice, every other word keeping its value, and read from one; and what both Blob readers share.
+// What a reading is lent and answers, whatever the layout: rows with their widths and words by name, the cursor of whoever writes them,
+// what was counted of a stream, and the answer for these counts in the room that there is.
+use rules::Answer;
 use rules::Name;
 use rules::Property;
 use rules::Value;
 use text::label_length;
 ghost use mathlib.Core.Path.{_≡_};
 ghost use mathlib.Core.List.{[], _∷_, _++_};
-ghost use Prim.Native.Nat.{_+_, _*_, _≤_};
+ghost use Prim.Native.Nat.{_+_, _*_, _/_, _≤_};
 ghost use lib.ListN.{length, getD};
+ghost use Rattle.rules.specs.Answer.{answer, longest};
 ghost use Rattle.rules.specs.Rows.{controlWidth, propertyWidth, typeInfoWidth, rowAt};
 ghost use Rattle.rules.specs.Reading.{nameWords, propertyRow};
 ghost use Rattle.rules.specs.Tree.{isSection};
 ghost use Rattle.rows.specs.Put.{put, controlWords, infoWords};
 ghost use Rattle.rows.specs.Get.{ControlOf, PropertyOf, InfoOf};
+ghost use Rattle.rows.specs.Judge.{Answerable, Judged};
 
 // How many words a control's row has.
 pub const CONTROL_WIDTH: usize = 6;
@@ -21,6 +25,23 @@ pub const PROPERTY_WIDTH: usize = 6;
 
 // The same of a TypeInfo row.
 pub const INFO_WIDTH: usize = 4;
+
+// The marks of a name: UTF-16 in the stream, none that could be read, UTF-16 that is read loosely.
+const NAME_TEXT: u32 = 0;
+
+const NAME_NUMBERED: u32 = 1;
+
+const NAME_LOOSE: u32 = 2;
+
+// The types of sections.
+const FIRST_SECTION: usize = 0x98;
+
+const LAST_SECTION: usize = 0x9E;
+
+// The refusals for want of room.
+const FEW_CONTROL_ROWS: u32 = 6;
+
+const FEW_PROPERTY_ROWS: u32 = 7;
 
 // The words of a control's row.
 pub struct ControlRow {
@@ -40,8 +61,8 @@ pub struct InfoRow {
     pub size: u32,
 }
 
-// What was counted of a stream's part: controls, their properties, and the place behind it.
-pub enum Part {
+// What was counted from a place of a stream on: controls, their properties, and the place after them.
+pub enum Tally {
     Bad,
     Of {
         controls: usize,
@@ -50,7 +71,7 @@ pub enum Part {
     },
 }
 
-// The place behind what was written, and the rows behind it.
+// Where a writer goes on: the place in the stream, and the next row of each slice.
 pub struct Next {
     pub at: usize,
     pub control: usize,
@@ -64,7 +85,7 @@ pub fn control_row(type_code: u32, name: Name, n: u32, first: u32, count: u32) -
     match name {
         Name::Text { start, size } => ControlRow {
             type_code,
-            mark: 0,
+            mark: NAME_TEXT,
             start,
             size,
             first,
@@ -72,7 +93,7 @@ pub fn control_row(type_code: u32, name: Name, n: u32, first: u32, count: u32) -
         },
         Name::Numbered => ControlRow {
             type_code,
-            mark: 1,
+            mark: NAME_NUMBERED,
             start: n,
             size: label_length(n),
             first,
@@ -80,7 +101,7 @@ pub fn control_row(type_code: u32, name: Name, n: u32, first: u32, count: u32) -
         },
         Name::Loose { start, size } => ControlRow {
             type_code,
-            mark: 2,
+            mark: NAME_LOOSE,
             start,
             size,
             first,
@@ -90,10 +111,10 @@ pub fn control_row(type_code: u32, name: Name, n: u32, first: u32, count: u32) -
 }
 
 // A type of sections. At the top, an entry without a list is reported where it has one.
-pub fn is_section(kind: usize) -> bool
-    ensures { λ r. ⌜ r ≡ isSection kind ⌝ }
+pub fn is_section(entry_type: usize) -> bool
+    ensures { λ r. ⌜ r ≡ isSection «entry_type» ⌝ }
 {
-    0x98 <= kind && kind <= 0x9E
+    FIRST_SECTION <= entry_type && entry_type <= LAST_SECTION
 }
 
 // Writes row `at` of the control rows.
@@ -187,4 +208,38 @@ pub fn get_info(rows: &[u32], n: u32) -> InfoRow
         start: word_at(rows, k + 2),
         size: word_at(rows, k + 3),
     }
+}
+
+// ---- what was counted, in the room that there is
+// An answer with a reading's counts: controls, property rows, and the object's among these.
+pub fn counted(number: u32, controls: usize, props: usize, own: usize) -> Answer
+    requires { ⌜ Answerable controls props own ⌝ }
+    ensures { λ r. ⌜ r ≡ answer number controls props own ⌝ }
+{
+    Answer {
+        number,
+        first: controls as u32,
+        second: props as u32,
+        third: own as u32,
+    }
+}
+
+// The answer for a reading with these counts, where so many words are lent for control rows and so many for property rows.
+pub fn judge(
+    controls: usize,
+    props: usize,
+    own: usize,
+    control_words: usize,
+    property_words: usize,
+) -> Answer
+    requires { ⌜ Answerable controls props own ⌝ }
+    ensures { λ r. ⌜ Judged controls props own («control_words» / controlWidth) («property_words» / propertyWidth) r ⌝ }
+{
+    if control_words / CONTROL_WIDTH < controls {
+        return counted(FEW_CONTROL_ROWS, controls, props, own);
+    }
+    if property_words / PROPERTY_WIDTH < props {
+        return counted(FEW_PROPERTY_ROWS, controls, props, own);
+    }
+    counted(0, controls, props, own)
 }

@@ -1,9 +1,10 @@
 -- A reading and its counts, whatever the layout: what is answered, what a writer asks and leaves, what a caller sees.
-use Prim.Native.Nat.{ℕ, _*_, _≤_}
+use Prim.Native.Nat.{ℕ, _+_, _*_, _≤_}
 use mathlib.Core.Path.{_≡_}
 use mathlib.Core.List.{List}
 use mathlib.Core.Option.{Option, some}
 use lib.ListN.{length}
+use Rattle.rules.specs.Answer.{longest}
 use Rattle.rules.specs.Reading.{Reading, properties, controlRows, propertyRows}
 use Rattle.rules.specs.Rows.{controlWidth, propertyWidth, room, written}
 use Rattle.rules.specs.Blob.{Exit, Outcome, fit, answerOf, exitBy}
@@ -14,6 +15,11 @@ pub record Counts (r : Reading) (n m o : ℕ) : Type 0 where
   pub controls-are : length (r .controls) ≡ n
   pub properties-are : length (properties r) ≡ m
   pub own-are : length (r .own) ≡ o
+
+-- so many fit an answer's words
+pub record Answerable (controls props own : ℕ) : Type 0 where
+  pub few : controls + props ≤ longest
+  pub among : own ≤ props
 
 -- the answer for every reading with these counts
 abbrev pub Judged : ℕ → ℕ → ℕ → ℕ → ℕ → Answer → Type 0

@@ -16,15 +16,15 @@ use Rattle.rules.specs.Reading.{Control, Reading, properties}
 use Rattle.rules.specs.Blob.{Outcome, refused, read, counted, fit, answerOf, exitBy}
 use Rattle.rules.specs.declared.Answer.{Answer}
 use Rattle.rules.specs.declared.Property.{Property}
 use Rattle.rows.specs.Counting.{propsIn}
 use Rattle.rows.specs.Writing.{state, theirs, writeControls, writeProperties}
 use Rattle.rows.specs.Acts.{Fit, stood, actBy}
 use Rattle.rows.proofs.WritingLaws.{reading-written}
 use Rattle.rows.proofs.CountingLaws.{theirs-many}
-use Rattle.judge.specs.Judge.{Counts, Roomy, Written, fitIn, Exits}
+use Rattle.rows.specs.Judge.{Counts, Roomy, Written, fitIn, Exits}
 
 -- ---- the answer
-module _ (n m o c p : ℕ) (r : Reading) (k : Counts r n m o) (a : Answer) where
+module _ {n m o : ℕ} (c p : ℕ) (r : Reading) (k : Counts r n m o) {a : Answer} where
   pub six : c < n → a ≡ answer 6 n m o → a ≡ answerOf (fit c p (some r))
   six h e = rw (k .controls-are, k .properties-are, k .own-are, lt-ltb c n h) e
 
@@ -80,7 +80,7 @@ module _ {P : Type 0} (f : P → Property) (g : Node P → Control) (same : (n :
         own-are = o;
       }
 
-  -- once the object's properties are written, the nodes' rows fit behind them
+  -- once the object's properties are written, the nodes' rows fit after them
   pub made-fit : (cs ps ps′ : List ℕ) → Roomy cs ps made → length ps′ ≡ length ps → length qs + length ns + propsIn ns ≤ longest → Fit (map g ns) (state cs 0 ps′ (length qs))
   made-fit cs ps ps′ h l few =
       let k = made-counts in

@@ -1,2 +1,0 @@
--- Laws of a reading and its counts, for both Blob readers.
-pub mod JudgeLaws
