@@ -1,4 +1,4 @@
--- A cursor before an entry, behind it, and past an entry of the top list, whatever the layout.
+-- A cursor before an entry, after it, and past an entry of the top list, whatever the layout.
 use Prim.Native.Nat.{ℕ, zero, suc, _+_, _-_, _≤_, _<_}
 use native.Mathlib.Omega.{arith}
 use native.Mathlib.Numerals.{sub-one}
@@ -21,7 +21,7 @@ use Rattle.cursor.proofs.WalkLaws.{rest-end, rest-step, rest-over}
 use Rattle.cursor.proofs.StackLaws.{outer-length, outer-empty, rest-moved}
 
 module _ {P : Type 0} (step : Steps P) (pick : Entry P → Bool) where
-  -- what is left behind the entry x at c, of row n
+  -- what is left after the entry x at c, of row n
   abbrev pub leftBehind : ℕ → List ℕ → Cursor → Step P → Visits P
   leftBehind n a c x = behind step pick (255 - c .level) n (frame (c .left - 1) (c .parent)) (outer a (c .level)) (x .children) (x .next)
 
@@ -79,7 +79,7 @@ module _ {P : Type 0} (step : Steps P) (pick : Entry P → Bool) where
 
 -- ---- the top list
 module _ {P : Type 0} (step : Steps P) (pick : Entry P → Bool) where
-  -- the cursor c came to `at` with `left` entries left, all of the others passed over
+  -- the cursor c came to `at` with `left` entries left, all of the others skipped
   pub record Passing (c : Cursor) (at left : ℕ) : Type 0 where
     pub is : (n : ℕ) (a : List ℕ) → restBy step pick n a (cursor at (c .level) left (c .parent)) ≡ restBy step pick n a c
 
@@ -89,14 +89,15 @@ module _ {P : Type 0} (step : Steps P) (pick : Entry P → Bool) where
   pub passed-none : (c : Cursor) → 0 < c .level → Passed step pick c c
   passed-none c l = record { level-is = refl; picked = λ e _. absurd (omega arith); done = λ d. d; is = λ n a. refl }
 
-  module _ (c : Cursor) (at left : ℕ) (h : Passing c at left) (top : c .level ≡ 0) where
+module _ {P : Type 0} {step : Steps P} {pick : Entry P → Bool} where
+  module _ {c : Cursor} {at left : ℕ} (h : Passing step pick c at left) (top : c .level ≡ 0) where
     pub passed-all : left ≤ 0 → Passed step pick c (cursor at (c .level) left (c .parent))
     passed-all e = record { level-is = refl; picked = λ _ l. absurd (omega arith); done = λ _ _. top; is = h .is }
 
     pub passed-some : Every (λ e. pick (e .0) ≡ true) (topAt step at) → Passed step pick c (cursor at (c .level) left (c .parent))
     passed-some e = record { level-is = refl; picked = λ _ _. e; done = λ _ _. top; is = h .is }
 
-    pub passing-next : 0 < left → (e : Entry P) (next : ℕ) → topAt step at ≡ some (e, next) → pick e ≡ false → Passing c next (left - 1)
+    pub passing-next : 0 < left → (e : Entry P) (next : ℕ) → topAt step at ≡ some (e, next) → pick e ≡ false → Passing step pick c next (left - 1)
     unfolding restBy outer
     passing-next l e next r k = record { is = λ n a. rw top (go n left l) ∙ h .is n a }
       where

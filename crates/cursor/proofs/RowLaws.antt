@@ -65,9 +65,10 @@ module _ {P : Type 0} (step : Steps P) (K : Type 0) (f : Node P → Control) whe
     pub done : c .left ≡ 0 → c .level ≡ 0
     pub remain : Remain K f (nodesIn (left step (now .ci) a c)) whole old now
 
-  pub going-start : (whole : Nodes P) (st : State) (a : List ℕ) (n at : ℕ) (r : Cursor) → topNodes (levelsAt (entryBy step) levels n at) ≡ whole → st .ci ≡ 0
-      → length a ≡ 512 → Ready K f whole st → Passed step isReported (cursor at 0 n noParent) r → Going whole st a r st
-  going-start whole st a n at r e z l h p = record {
+module _ {P : Type 0} {step : Steps P} {K : Type 0} {f : Node P → Control} where
+  pub going-start : {whole : Nodes P} (st : State) (a : List ℕ) (n at : ℕ) (r : Cursor) → topNodes (levelsAt (entryBy step) levels n at) ≡ whole → st .ci ≡ 0
+      → length a ≡ 512 → Ready K f whole st → Passed step isReported (cursor at 0 n noParent) r → Going step K f whole st a r st
+  going-start {whole = whole} st a n at r e z l h p = record {
     long = l;
     low = omega (arith, p .level-is);
     picked = p .picked;
@@ -75,7 +76,7 @@ module _ {P : Type 0} (step : Steps P) (K : Type 0) (f : Node P → Control) whe
     remain = remain-start K f _ whole st (sym (ap (λ (i : ℕ). nodesIn (left step i a r)) z ∙ ap nodesIn (p .is 0 a) ∙ start-nodes step a n at ∙ e)) h;
   }
 
-  module _ (whole : Nodes P) (old : State) (a : List ℕ) (c : Cursor) (now : State) (g : Going whole old a c now) where
+  module _ {whole : Nodes P} {old : State} {a : List ℕ} {c : Cursor} {now : State} (g : Going step K f whole old a c now) where
     pub going-done : c .left ≤ 0 → some (at-place now (c .at)) ≡ actBy f whole old
     going-done l =
         let z : c .left ≡ 0 = omega arith in
@@ -121,7 +122,7 @@ module _ {P : Type 0} (step : Steps P) (K : Type 0) (f : Node P → Control) whe
             let v = visited (c .level) (c .parent) (entry .node) in
             omega (arith, fewer v behind-it (rw (at-entry .is) at there), ap howMany onward, ap howMany (at-entry .is))
 
-        pub going-next : Going whole old a′ r′ next
+        pub going-next : Going step K f whole old a′ r′ next
         going-next = record {
           long = m .long ∙ g .long;
           low = omega (arith, m .low, k .level-is);

@@ -40,6 +40,12 @@ outer-push a l left up h =
     λ i. frame (x i) (y i) ∷ r i
 
 -- ---- closing
+-- what closing keeps: the lists that stay open are those of the start
+pub record Closing (a : List ℕ) (level₀ left₀ up₀ level left up : ℕ) : Type 0 where
+  pub same : unwind (frame left up) (outer a level) ≡ unwind (frame left₀ up₀) (outer a level₀)
+  pub lower : level ≤ level₀
+  pub low : level₀ ≤ 256
+
 module _ (a : List ℕ) (level left up : ℕ) where
   pub unwind-end : level ≡ 0 → unwind (frame left up) (outer a level) ≡ (frame left up, outer a level)
   unfolding unwind outer
@@ -85,16 +91,16 @@ done a c row count next a′ r m e =
     outer-empty a′ (r .level)
     (subst (λ (o : Open). isEmpty (o .1)) (sym (m .is)) (moved-done (frame (c .left - 1) (c .parent)) (outer a (c .level)) row count (sym (ap (λ o. o .0 .left) (m .is)) ∙ e)))
 
--- ---- a cursor behind an entry
-module _ (a : List ℕ) (c : Cursor) (row count next : ℕ) where
-  pub moved-out : (r : Cursor) → count ≡ 0 → c .level < 256 → Unwound a (record { at = next; level = c .level; left = c .left - 1; parent = c .parent }) r → Moved a c row count next a r
+-- ---- a cursor after an entry
+module _ {a : List ℕ} {c : Cursor} {row next : ℕ} where
+  pub moved-out : (count : ℕ) {r : Cursor} → count ≡ 0 → c .level < 256 → Unwound a (record { at = next; level = c .level; left = c .left - 1; parent = c .parent }) r → Moved a c row count next a r
   unfolding moved
-  moved-out r e h u = rw e (record { long = refl; at-is = u .at-is; low = omega (arith, u .low); is = u .is })
+  moved-out count e h u = rw e (record { long = refl; at-is = u .at-is; low = omega (arith, u .low); is = u .is })
 
-  pub moved-in : (count ≡ 0 → ⊥) → c .level < 256 → length a ≡ 512
+  pub moved-in : (count : ℕ) → (count ≡ 0 → ⊥) → c .level < 256 → length a ≡ 512
       → Moved a c row count next (set (set a (c .level * 2) (c .left - 1)) (c .level * 2 + 1) (c .parent)) (record { at = next; level = c .level + 1; left = count; parent = row })
   unfolding moved
-  moved-in f h l = record { long = simp length-set; at-is = refl; low = omega arith; is = go count f }
+  moved-in count f h l = record { long = simp length-set; at-is = refl; low = omega arith; is = go count f }
     where
       go : (m : ℕ) → (m ≡ 0 → ⊥)
           → (frame m row, outer (set (set a (c .level * 2) (c .left - 1)) (c .level * 2 + 1) (c .parent)) (c .level + 1)) ≡ moved (frame (c .left - 1) (c .parent)) (outer a (c .level)) row m

@@ -59,7 +59,7 @@ module _ {P : Type 0} (step : Steps P) (pick : Entry P → Bool) where
       before-both (visits1 l up n e) (visits l up (n + length (preorder1 e)) es) (levelsAt (entryBy step) (suc d) (g .left) q >>= tailAt step pick (suc d) (n + length (preorder1 e ++ preorder es)) (g .parent) fs)
       ∙ ap (λ (m : ℕ). visits1 l up n e before (visits l up (n + length (preorder1 e)) es before (levelsAt (entryBy step) (suc d) (g .left) q >>= tailAt step pick (suc d) m (g .parent) fs))) z
 
-  -- the others of its list, put behind an entry
+  -- the others of its list, put after an entry
   abbrev others : ℕ → ℕ → Entry P × ℕ → Option (Entries P × ℕ)
   others d k e = levelsAt (entryBy step) d k (e .1) >>= λ y. some (more (e .0) (y .0), y .1)
 
@@ -73,7 +73,7 @@ module _ {P : Type 0} (step : Steps P) (pick : Entry P → Bool) where
       go none = refl
       go (some y) = tail-more d n up fs e (y .0) (y .1) h
 
-  -- ---- the entry at p, then what is behind it
+  -- ---- the entry at p, then what is after it
   module _ (d n k up : ℕ) (fs : List Frame) where
     abbrev entered : Step P → Visits P
     entered x = visited (length fs) up (x .node) ∷ [] before behind step pick d n (frame k up) fs (x .children) (x .next)
@@ -132,7 +132,7 @@ module _ {P : Type 0} (step : Steps P) (pick : Entry P → Bool) where
         go none h = refl
         go (some x) h = by-step x h
 
-  -- an entry of the top list that isn't picked is passed over
+  -- an entry of the top list that isn't picked is skipped
   pub rest-over : (d n k up p : ℕ) (e : Entry P) (q : ℕ) → entryBy step (levelsAt (entryBy step) d) p ≡ some (e, q) → pick e ≡ false
       → restAt step pick (suc d) n (frame (suc k) up) [] p ≡ restAt step pick (suc d) n (frame k up) [] q
   unfolding restAt levelsAt manyAt tailAt

@@ -33,7 +33,7 @@ pub record Passed {P : Type 0} (step : Steps P) (pick : Entry P → Bool) (c r :
   pub done : (c .left ≡ 0 → c .level ≡ 0) → r .left ≡ 0 → r .level ≡ 0
   pub is : (n : ℕ) (a : List ℕ) → restBy step pick n a r ≡ restBy step pick n a c
 
--- going behind the entry at c: `list` is how many entries its list has, and the place behind its head
+-- going on after the entry at c: `list` is how many entries its list has, and the place after its head
 pub record PastReady (a : List ℕ) (c : Cursor) (list : Option (ℕ × ℕ)) : Type 0 where
   pub before : Before a c
   pub there : Held (λ _. Unit) list

@@ -23,7 +23,7 @@ unfoldable pub unwind : Frame → List Frame → Open
 unwind f [] = (f, [])
 unwind f (g ∷ fs) = elim (f .left) [ zero ↦ unwind g fs | suc k ↦ (f, g ∷ fs) ]
 
--- behind an entry of row n whose list has so many entries
+-- after an entry of row n whose list has so many entries
 unfoldable pub moved : Frame → List Frame → ℕ → ℕ → Open
 moved f fs n zero = unwind f fs
 moved f fs n (suc m) = (frame (suc m) n, f ∷ fs)
@@ -38,7 +38,7 @@ pub record Before (a : List ℕ) (c : Cursor) : Type 0 where
   pub some-left : 0 < c .left
   pub low : c .level < 256
 
--- the cursor r behind the entry at the cursor c, whose list has so many entries and starts at `next`
+-- the cursor r after the entry at the cursor c, whose list has so many entries and starts at `next`
 pub record Moved (a : List ℕ) (c : Cursor) (row count next : ℕ) (a′ : List ℕ) (r : Cursor) : Type 0 where
   pub long : length a′ ≡ length a
   pub at-is : r .at ≡ next

@@ -8,7 +8,7 @@ use Rattle.rules.specs.Lists.{_>>=_}
 use Rattle.rules.specs.Tree.{Entry, plain, parent, Entries, end, more, Node, preorder, levelsAt}
 use Rattle.cursor.specs.Visits.{Visited, visits}
 
--- an entry without its list, how many entries its list has, where it has one, and the place behind
+-- an entry without its list, how many entries its list has, where it has one, and the place after
 pub record Step (P : Type 0) : Type 0 where
   pub node : Node P
   pub children : Option ℕ
@@ -61,7 +61,7 @@ tailAt step pick d n up (g ∷ fs) x =
 unfoldable pub restAt : {P : Type 0} → Steps P → (Entry P → Bool) → ℕ → ℕ → Frame → List Frame → ℕ → Visits P
 restAt step pick d n f fs p = levelsAt (entryBy step) d (f .left) p >>= tailAt step pick d n (f .parent) fs
 
--- behind an entry of row n, given how many entries its list has, with d levels left below it: an empty list is as good as none
+-- after an entry of row n, given how many entries its list has, with d levels left below it: an empty list is as good as none
 unfoldable pub behind : {P : Type 0} → Steps P → (Entry P → Bool) → ℕ → ℕ → Frame → List Frame → Option ℕ → ℕ → Visits P
 behind step pick d n f fs none p = restAt step pick (suc d) (suc n) f fs p
 behind step pick d n f fs (some zero) p = restAt step pick (suc d) (suc n) f fs p

@@ -1,6 +1,15 @@
 // A walk over the entries of a tree in output order, by a loop. What it means stands in specs/.
+ghost use mathlib.Core.Path.{_≡_};
 ghost use Prim.Native.Nat.{_≤_};
+ghost use Rattle.cursor.specs.Visits.{noParent};
 ghost use Rattle.cursor.specs.Stack.{Before, Unwound, Moved};
+ghost use Rattle.cursor.specs.Cursors.{cursor};
+
+// How many words the lent stack has: two for each of 256 levels.
+pub const STACK_WORDS: usize = 512;
+
+// The row that stands for the parent of a top entry.
+const NO_PARENT: u32 = 0xFFFFFFFF;
 
 // Where a walk stands: before an entry, or at the end where `left` is 0. `level` is that of the innermost list that is open, `left` how many of
 // its entries are left, and `parent` the row of the entry that holds it. The lists around it stand on a lent stack, two words for each level.
@@ -11,8 +20,20 @@ pub struct Cursor {
     pub parent: u32,
 }
 
+// Before the first of `n` entries of the top list, which start at `at`.
+pub fn top(at: usize, n: u32) -> Cursor
+    ensures { λ r. ⌜ r ≡ cursor at 0 n noParent ⌝ }
+{
+    Cursor {
+        at,
+        level: 0,
+        left: n,
+        parent: NO_PARENT,
+    }
+}
+
 // Closes the lists that have no entry left.
-fn unwound(stack: &[u32; 512], c: Cursor) -> Cursor
+fn unwound(stack: &[u32; STACK_WORDS], c: Cursor) -> Cursor
     requires { ⌜ c .level ≤ 256 ⌝ }
     ensures { λ r. ⌜ Unwound (now (stack .entry)) c r ⌝ }
 {
@@ -41,8 +62,14 @@ fn unwound(stack: &[u32; 512], c: Cursor) -> Cursor
     }
 }
 
-// Goes behind the entry at `c`, which has row `row`, and whose list has `count` entries and starts at `next`.
-pub fn behind(stack: &mut [u32; 512], c: Cursor, row: u32, count: u32, next: usize) -> Cursor
+// Goes on after the entry at `c`, which has row `row`, and whose list has `count` entries and starts at `next`.
+pub fn after_entry(
+    stack: &mut [u32; STACK_WORDS],
+    c: Cursor,
+    row: u32,
+    count: u32,
+    next: usize,
+) -> Cursor
     requires { ⌜ Before (now stack) c ⌝ }
     ensures { λ r. ⌜ Moved (now (stack .entry)) c row count next (now (stack .exit)) r ⌝ }
 {
