@@ -1,5 +1,5 @@
 // Counts what an Access 2000 stream has.
-use rows::Part;
+use rows::Tally;
 use rows::is_section;
 use walk2000::Opens;
 use walk2000::Run;
@@ -9,12 +9,18 @@ use walk2000::head;
 use walk2000::props;
 ghost use mathlib.Core.Path.{_≡_};
 ghost use Rattle.rules.specs.Tree.{levels};
-ghost use Rattle.rules.specs.Access2000.{entryAt, entriesAt, streamOf};
-ghost use Rattle.rows.specs.Counting.{part, partTop};
+ghost use Rattle.rules.specs.Access2000.{entriesAt, streamOf};
+ghost use Rattle.rows.specs.Counting.{tallyTop};
 ghost use Rattle.count2000.specs.Told as told;
 
+// Where the object's run starts.
+pub const OBJECT_RUN: usize = 10;
+
+// How many levels are left below the top list.
+const BELOW_TOP: usize = 255;
+
 // An entry with all below it. `kept` says whether it is reported at the top.
-enum One {
+enum EntryTally {
     Bad,
     Of {
         kept: bool,
@@ -25,7 +31,7 @@ enum One {
 }
 
 // What a whole stream has: reported entries, property rows, and those of the object.
-pub enum Counted {
+pub enum StreamTally {
     Bad,
     Of {
         controls: usize,
@@ -35,30 +41,30 @@ pub enum Counted {
 }
 
 // The entry at `at`; `left` levels are left below it.
-fn entry(s: &[u8], at: usize, left: usize) -> One
-    ensures { λ r. ⌜ r ≡ told.one (entryAt (now (s .entry)) (entriesAt left (now (s .entry))) at) ⌝ }
+fn entry(s: &[u8], at: usize, left: usize) -> EntryTally
+    ensures { λ r. ⌜ told.EntryRead (now (s .entry)) at left r ⌝ }
 {
-    let Word::Of(kind) = half(s, at) else {
-        return One::Bad;
+    let Word::Of(entry_type) = half(s, at) else {
+        return EntryTally::Bad;
     };
     let Run::Of { count, next } = props(s, at + 2) else {
-        return One::Bad;
+        return EntryTally::Bad;
     };
     match head(s, next) {
-        Opens::Bad => One::Bad,
-        Opens::Plain { next: e } => One::Of {
-            kept: is_section(kind),
+        Opens::Bad => EntryTally::Bad,
+        Opens::Plain { next: e } => EntryTally::Of {
+            kept: is_section(entry_type),
             controls: 1,
             props: count,
             next: e,
         },
         Opens::Listed { count: n, next: q } => match list(s, q, n, left) {
-            Part::Bad => One::Bad,
-            Part::Of {
+            Tally::Bad => EntryTally::Bad,
+            Tally::Of {
                 controls,
                 props,
                 next: e,
-            } => One::Of {
+            } => EntryTally::Of {
                 kept: true,
                 controls: 1 + controls,
                 props: count + props,
@@ -69,8 +75,8 @@ fn entry(s: &[u8], at: usize, left: usize) -> One
 }
 
 // `n` entries from `at` on, with `left` levels left: with none left there may be no entry.
-fn list(s: &[u8], at: usize, n: usize, left: usize) -> Part
-    ensures { λ r. ⌜ r ≡ part (entriesAt left (now (s .entry)) n at) ⌝ }
+fn list(s: &[u8], at: usize, n: usize, left: usize) -> Tally
+    ensures { λ r. ⌜ told.ListRead (now (s .entry)) at n left r ⌝ }
 {
     let mut p = at;
     let mut k = n;
@@ -78,13 +84,13 @@ fn list(s: &[u8], at: usize, n: usize, left: usize) -> Part
     let mut theirs: usize = 0;
     while 0 < k {
         if left == 0 {
-            return Part::Bad;
+            return Tally::Bad;
         }
         match entry(s, p, left - 1) {
-            One::Bad => {
-                return Part::Bad;
+            EntryTally::Bad => {
+                return Tally::Bad;
             }
-            One::Of {
+            EntryTally::Of {
                 kept: _,
                 controls,
                 props,
@@ -97,7 +103,7 @@ fn list(s: &[u8], at: usize, n: usize, left: usize) -> Part
             }
         }
     }
-    Part::Of {
+    Tally::Of {
         controls: all,
         props: theirs,
         next: p,
@@ -105,19 +111,19 @@ fn list(s: &[u8], at: usize, n: usize, left: usize) -> Part
 }
 
 // The top list, of which only some entries are reported.
-fn top(s: &[u8], at: usize, n: usize) -> Part
-    ensures { λ r. ⌜ r ≡ partTop (entriesAt levels (now (s .entry)) n at) ⌝ }
+fn top(s: &[u8], at: usize, n: usize) -> Tally
+    ensures { λ r. ⌜ r ≡ tallyTop (entriesAt levels (now (s .entry)) n at) ⌝ }
 {
     let mut p = at;
     let mut k = n;
     let mut all: usize = 0;
     let mut theirs: usize = 0;
     while 0 < k {
-        match entry(s, p, 255) {
-            One::Bad => {
-                return Part::Bad;
+        match entry(s, p, BELOW_TOP) {
+            EntryTally::Bad => {
+                return Tally::Bad;
             }
-            One::Of {
+            EntryTally::Of {
                 kept,
                 controls,
                 props,
@@ -132,44 +138,44 @@ fn top(s: &[u8], at: usize, n: usize) -> Part
             }
         }
     }
-    Part::Of {
+    Tally::Of {
         controls: all,
         props: theirs,
         next: p,
     }
 }
 
-// Counts a whole stream: the object's run at 10, the top list, and no byte more.
-pub fn count(s: &[u8]) -> Counted
-    ensures { λ r. ⌜ r ≡ told.counted (streamOf (now (s .entry))) ⌝ }
+// Counts a whole stream: the object's run, the top list, and no byte more.
+pub fn count(s: &[u8]) -> StreamTally
+    ensures { λ r. ⌜ r ≡ told.streamTally (streamOf (now (s .entry))) ⌝ }
 {
     let Run::Of {
         count: own,
         next: p,
-    } = props(s, 10)
+    } = props(s, OBJECT_RUN)
     else {
-        return Counted::Bad;
+        return StreamTally::Bad;
     };
     match head(s, p) {
         Opens::Listed { count: n, next: q } => match top(s, q, n) {
-            Part::Of {
+            Tally::Of {
                 controls,
                 props,
                 next,
             } => {
                 if next == s.len() {
-                    Counted::Of {
+                    StreamTally::Of {
                         controls,
                         props: own + props,
                         own,
                     }
                 } else {
-                    Counted::Bad
+                    StreamTally::Bad
                 }
             }
-            Part::Bad => Counted::Bad,
+            Tally::Bad => StreamTally::Bad,
         },
-        Opens::Plain { next: _ } => Counted::Bad,
-        Opens::Bad => Counted::Bad,
+        Opens::Plain { next: _ } => StreamTally::Bad,
+        Opens::Bad => StreamTally::Bad,
     }
 }

@@ -1,14 +1,14 @@
-use Prim.Native.Nat.{ℕ, _+_, _-_, _≤_, _<_}
+use Prim.Native.Nat.{ℕ, _+_, _-_, _<_}
 use native.Mathlib.Omega.{arith}
 use borrow.Author.Needs.{needs}
 use mathlib.Core.Path.{ap}
 use mathlib.Core.List.{List}
 use lib.ListN.{length}
 use denote.Ref.{now}
-use Rattle.rules.specs.Access2000.{entryAt, entriesAt}
-use Rattle.rows.proofs.TakenLaws.{Counting, counting-start, counting-all, counting-deep, counting-bad, counting-more}
+use Rattle.rules.specs.Access2000.{entriesAt}
+use Rattle.rows.proofs.TakenLaws.{counting-start, counting-all, counting-deep, counting-bad, counting-more}
 use Rattle.walk2000.proofs.Room.{half-room, run-room, head-room}
-use Rattle.count2000.proofs.Entries.{whole, whole-is, one-room, list-room, entry-short, entry-run-bad, entry-head-bad, entry-plain, entry-list-bad, entry-parent}
+use Rattle.count2000.proofs.Entries.{Listing, whole, whole-is, entry-room, list-room, entry-short, entry-run-bad, entry-head-bad, entry-plain, entry-list-bad, entry-parent}
 use borrow.Fn.Kinds.{In}
 use borrow.Fn.PlainCycle.{Measures, is, falls, and}
 use Rattle.count2000.proofs.list.Reads as list
@@ -24,7 +24,7 @@ use Rattle.walk2000.proofs.props.Reads as props-reads
 use Rattle.count2000.proofs.+entry+list.{statement}
 use Rattle.count2000.proofs.+entry+list.Tie.{close}
 
--- how many bytes remain: an entry's list stands behind its type, a list's entries nowhere before it
+-- how many bytes remain: an entry's list stands after its type, a list's entries nowhere before it
 abbrev remaining : List ℕ → ℕ → ℕ
 remaining s at = length s - at
 
@@ -54,126 +54,147 @@ abbrev entry-calls : ℕ → entry-lts.Claims
 entry-calls t = (half-reads.Asked, half-reads.Learnt, props-reads.Asked, props-reads.Learnt, head-reads.Asked, head-reads.Learnt, is-section-reads.Asked, is-section-reads.Learnt, list-below t, list.Post)
 
 abbrev list-Inv-loop : list-lts.InvT-loop
-list-Inv-loop s at n left p₀ k₀ all₀ theirs₀ p k all theirs = (at + all + theirs ≤ p) × Counting (entryAt s) left n at all theirs k p
+list-Inv-loop s at n left p₀ k₀ all₀ theirs₀ p k all theirs = Listing s left n at all theirs k p
 
 abbrev list-μ-loop : list-lts.MeasureT-loop
 list-μ-loop s at n left p₀ k₀ all₀ theirs₀ p k all theirs = k
 
 list-loop-holds : (t : ℕ) → list-lts.Need-loop-holds (list-calls t) (list-at t) list.Post list-Inv-loop list-μ-loop
 unfolding entriesAt
-list-loop-holds t c = (omega arith, counting-start _ _ _ _)
+list-loop-holds t c = record { few = omega arith; counts = counting-start }
 
 list-returns : (t : ℕ) → list-lts.Need-returns (list-calls t) (list-at t) list.Post list-Inv-loop list-μ-loop
 unfolding entriesAt
-list-returns t c = counting-deep _ _ _ _ _ _ _ _ (c .before .before .loop .inv .1) (c .if1 .taken) (c .before .loop-test .taken)
-
-list-sub-entry : (t : ℕ) → list-lts.Need-sub-entry (list-calls t) (list-at t) list.Post list-Inv-loop list-μ-loop
-list-sub-entry t c = search needs
+list-returns t c = record { is = counting-deep (c .before .before .loop .inv .counts) (c .if1 .taken) (c .before .loop-test .taken) }
 
 list-entry-requires : (t : ℕ) → list-lts.Need-entry-requires (list-calls t) (list-at t) list.Post list-Inv-loop list-μ-loop
-list-entry-requires t c κs = omega (arith, c .before .before .loop .inv .0)
-
-list-enum-told : (t : ℕ) → list-lts.Need-enum-told (list-calls t) (list-at t) list.Post list-Inv-loop list-μ-loop
-list-enum-told t c = search needs
+list-entry-requires t c κs = omega (arith, c .before .before .loop .inv .few)
 
 list-returns-2 : (t : ℕ) → list-lts.Need-returns-2 (list-calls t) (list-at t) list.Post list-Inv-loop list-μ-loop
 unfolding entriesAt
-list-returns-2 t c = counting-bad _ _ _ _ _ _ _ _ (c .before .before .before .before .before .loop .inv .1) (c .before .before .before .if1 .left) (c .before .before .before .before .loop-test .taken) _ (whole-is _ _ _ _ (c .before .before .entry .ensures)) (ap whole (c .enum-told .given .1))
-
-list-enum-known-controls : (t : ℕ) → list-lts.Need-enum-known-controls (list-calls t) (list-at t) list.Post list-Inv-loop list-μ-loop
-list-enum-known-controls t c = search needs
+list-returns-2 t c =
+    let in-loop : list-lts.In-loop (list-calls t) (list-at t) list.Post list-Inv-loop list-μ-loop = search in
+    let at-loop : list-lts.At-loop (list-calls t) (list-at t) list.Post list-Inv-loop list-μ-loop = search in
+    record { is = counting-bad (at-loop .loop .inv .counts) (c .before .before .before .if1 .left) (in-loop .loop-test .taken) _ (whole-is (c .before .before .entry .ensures)) (ap whole (c .enum-told .given .1)) }
 
 list-add-all : (t : ℕ) → list-lts.Need-add-all (list-calls t) (list-at t) list.Post list-Inv-loop list-μ-loop
-list-add-all t c = omega (arith, one-room _ _ _ _ _ _ _ _ (c .before .before .before .entry .ensures) (c .before .controls .given .1))
+list-add-all t c = omega (arith, entry-room (c .before .before .before .entry .ensures) (c .before .controls .given .1))
 
 list-add-theirs : (t : ℕ) → list-lts.Need-add-theirs (list-calls t) (list-at t) list.Post list-Inv-loop list-μ-loop
-list-add-theirs t c = omega (arith, one-room _ _ _ _ _ _ _ _ (c .before .before .before .entry .ensures) (c .before .controls .given .1))
-
-list-sub-k : (t : ℕ) → list-lts.Need-sub-k (list-calls t) (list-at t) list.Post list-Inv-loop list-μ-loop
-list-sub-k t c = search needs
-
-list-loop-less : (t : ℕ) → list-lts.Need-loop-less (list-calls t) (list-at t) list.Post list-Inv-loop list-μ-loop
-list-loop-less t c = search needs
+list-add-theirs t c = omega (arith, entry-room (c .before .before .before .entry .ensures) (c .before .controls .given .1))
 
 list-loop-again : (t : ℕ) → list-lts.Need-loop-again (list-calls t) (list-at t) list.Post list-Inv-loop list-μ-loop
 unfolding entriesAt
 list-loop-again t c =
+    let else1 : list-lts.Else1 (list-calls t) (list-at t) list.Post list-Inv-loop list-μ-loop = search in
+    let in-loop : list-lts.In-loop (list-calls t) (list-at t) list.Post list-Inv-loop list-μ-loop = search in
+    let at-loop : list-lts.At-loop (list-calls t) (list-at t) list.Post list-Inv-loop list-μ-loop = search in
     let b3 = c .before .before .before in
-    (omega (arith, one-room _ _ _ _ _ _ _ _ (b3 .entry .ensures) (c .before .controls .given .1)), counting-more _ _ _ _ _ _ _ _ (c .before .before .before .before .before .before .loop .inv .1) (c .before .before .before .before .if1 .left) (c .before .before .before .before .before .loop-test .taken) _ (whole-is _ _ _ _ (b3 .entry .ensures)) _ _ _ (ap whole (c .before .controls .given .1)))
+    record { few = omega (arith, at-loop .loop .inv .few, entry-room (b3 .entry .ensures) (c .before .controls .given .1)); counts = counting-more (at-loop .loop .inv .counts) (else1 .if1 .left) (in-loop .loop-test .taken) _ (whole-is (b3 .entry .ensures)) _ _ _ (ap whole (c .before .controls .given .1)) }
 
 list-returns-3 : (t : ℕ) → list-lts.Need-returns-3 (list-calls t) (list-at t) list.Post list-Inv-loop list-μ-loop
 unfolding entriesAt
-list-returns-3 t c = counting-all _ _ _ _ _ _ _ _ (c .before .loop .inv .1) (c .loop-test .left)
-
-entry-half-requires : (t : ℕ) → entry-lts.Need-half-requires (entry-calls t) (entry-at t) entry.Post
-entry-half-requires t c κs = search needs
-
-entry-enum-known-kind : (t : ℕ) → entry-lts.Need-enum-known-kind (entry-calls t) (entry-at t) entry.Post
-entry-enum-known-kind t c = search needs
-
-entry-enum-told : (t : ℕ) → entry-lts.Need-enum-told (entry-calls t) (entry-at t) entry.Post
-entry-enum-told t c = search needs
+list-returns-3 t c = record { is = counting-all (c .before .loop .inv .counts) (c .loop-test .left) }
 
 entry-returns : (t : ℕ) → entry-lts.Need-returns (entry-calls t) (entry-at t) entry.Post
-entry-returns t c = entry-short _ _ _ _ (c .before .before .half .ensures) (c .enum-told .given .1)
+entry-returns t c = record { is = entry-short _ _ _ (c .before .before .half .ensures) (c .enum-told .given .1) }
 
 entry-add-props : (t : ℕ) → entry-lts.Need-add-props (entry-calls t) (entry-at t) entry.Post
-entry-add-props t c = omega (arith, half-room _ _ _ _ (c .before .before .before .half .ensures) (c .before .kind .given .1))
-
-entry-props-requires : (t : ℕ) → entry-lts.Need-props-requires (entry-calls t) (entry-at t) entry.Post
-entry-props-requires t c κs = search needs
-
-entry-enum-known-count : (t : ℕ) → entry-lts.Need-enum-known-count (entry-calls t) (entry-at t) entry.Post
-entry-enum-known-count t c = search needs
-
-entry-enum-told-2 : (t : ℕ) → entry-lts.Need-enum-told-2 (entry-calls t) (entry-at t) entry.Post
-entry-enum-told-2 t c = search needs
+entry-add-props t c = omega (arith, half-room _ _ _ _ (c .before .before .before .half .ensures) (c .before .entry-type .given .1))
 
 entry-returns-2 : (t : ℕ) → entry-lts.Need-returns-2 (entry-calls t) (entry-at t) entry.Post
-entry-returns-2 t c = entry-run-bad _ _ _ _ (c .before .before .before .before .before .before .half .ensures) _ (c .before .before .before .before .kind .given .1) _ (c .before .before .props .ensures) (c .enum-told2 .given .1)
-
-entry-head-requires : (t : ℕ) → entry-lts.Need-head-requires (entry-calls t) (entry-at t) entry.Post
-entry-head-requires t c κs = search needs
-
-entry-enum-told-3 : (t : ℕ) → entry-lts.Need-enum-told-3 (entry-calls t) (entry-at t) entry.Post
-entry-enum-told-3 t c = search needs
-
-entry-enum-known-e : (t : ℕ) → entry-lts.Need-enum-known-e (entry-calls t) (entry-at t) entry.Post
-entry-enum-known-e t c = search needs
-
-entry-is-section-requires : (t : ℕ) → entry-lts.Need-is-section-requires (entry-calls t) (entry-at t) entry.Post
-entry-is-section-requires t c κs = search needs
-
-entry-enum-known-n : (t : ℕ) → entry-lts.Need-enum-known-n (entry-calls t) (entry-at t) entry.Post
-entry-enum-known-n t c = search needs
+entry-returns-2 t c =
+    let after-entry-type : entry-lts.After-entry-type (entry-calls t) (entry-at t) entry.Post = search in
+    let after-half : entry-lts.After-half (entry-calls t) (entry-at t) entry.Post = search in
+    record { is = entry-run-bad _ _ _ (after-half .half .ensures) (after-entry-type .entry-type .given .1) (c .before .before .props .ensures) (c .enum-told2 .given .1) }
 
 entry-list-requires : (t : ℕ) → entry-lts.Need-list-requires (entry-calls t) (entry-at t) entry.Post
 entry-list-requires t c κs =
-    omega (arith, half-room _ _ _ _ (c .before .before .before .before .before .before .before .before .before .before .before .half .ensures) (c .before .before .before .before .before .before .before .before .before .kind .given .1), run-room _ _ _ _ _ (c .before .before .before .before .before .before .before .props .ensures) (c .before .before .before .before .before .count .given .1), head-room _ _ _ _ _ (c .before .before .before .head .ensures) (c .before .n .given .1))
-
-entry-enum-told-4 : (t : ℕ) → entry-lts.Need-enum-told-4 (entry-calls t) (entry-at t) entry.Post
-entry-enum-told-4 t c = search needs
-
-entry-enum-known-controls : (t : ℕ) → entry-lts.Need-enum-known-controls (entry-calls t) (entry-at t) entry.Post
-entry-enum-known-controls t c = search needs
+    let after-count : entry-lts.After-count (entry-calls t) (entry-at t) entry.Post = search in
+    let after-props : entry-lts.After-props (entry-calls t) (entry-at t) entry.Post = search in
+    let after-entry-type : entry-lts.After-entry-type (entry-calls t) (entry-at t) entry.Post = search in
+    let after-half : entry-lts.After-half (entry-calls t) (entry-at t) entry.Post = search in
+    omega (arith, half-room _ _ _ _ (after-half .half .ensures) (after-entry-type .entry-type .given .1), run-room _ _ _ _ _ (after-props .props .ensures) (after-count .count .given .1), head-room _ _ _ _ _ (c .before .before .before .head .ensures) (c .before .n .given .1))
 
 entry-add-t21 : (t : ℕ) → entry-lts.Need-add-t21 (entry-calls t) (entry-at t) entry.Post
-entry-add-t21 t c = omega (arith, list-room _ _ _ _ _ _ _ _ (c .before .before .before .list .ensures) (c .before .controls .given .1), head-room _ _ _ _ _ (c .before .before .before .before .before .before .before .head .ensures) (c .before .before .before .before .before .n .given .1))
+entry-add-t21 t c =
+    let after-n : entry-lts.After-n (entry-calls t) (entry-at t) entry.Post = search in
+    let after-head : entry-lts.After-head (entry-calls t) (entry-at t) entry.Post = search in
+    omega (arith, list-room (c .before .before .before .list .ensures) (c .before .controls .given .1), head-room _ _ _ _ _ (after-head .head .ensures) (after-n .n .given .1))
 
 entry-add-t22 : (t : ℕ) → entry-lts.Need-add-t22 (entry-calls t) (entry-at t) entry.Post
-entry-add-t22 t c = omega (arith, list-room _ _ _ _ _ _ _ _ (c .before .before .before .list .ensures) (c .before .controls .given .1), head-room _ _ _ _ _ (c .before .before .before .before .before .before .before .head .ensures) (c .before .before .before .before .before .n .given .1), run-room _ _ _ _ _ (c .before .before .before .before .before .before .before .before .before .before .before .props .ensures) (c .before .before .before .before .before .before .before .before .before .count .given .1))
+entry-add-t22 t c =
+    let after-n : entry-lts.After-n (entry-calls t) (entry-at t) entry.Post = search in
+    let after-head : entry-lts.After-head (entry-calls t) (entry-at t) entry.Post = search in
+    let after-count : entry-lts.After-count (entry-calls t) (entry-at t) entry.Post = search in
+    let after-props : entry-lts.After-props (entry-calls t) (entry-at t) entry.Post = search in
+    omega (arith, list-room (c .before .before .before .list .ensures) (c .before .controls .given .1), head-room _ _ _ _ _ (after-head .head .ensures) (after-n .n .given .1), run-room _ _ _ _ _ (after-props .props .ensures) (after-count .count .given .1))
 
 entry-returns-3 : (t : ℕ) → entry-lts.Need-returns-3 (entry-calls t) (entry-at t) entry.Post
-entry-returns-3 t c = entry-head-bad _ _ _ _ (c .before .before .before .before .before .before .before .before .before .before .half .ensures) _ (c .before .before .before .before .before .before .before .before .kind .given .1) _ (c .before .before .before .before .before .before .props .ensures) _ _ (c .before .before .before .before .count .given .1) _ (c .before .before .head .ensures) (c .enum-told3 .given .1)
+entry-returns-3 t c =
+    let after-count : entry-lts.After-count (entry-calls t) (entry-at t) entry.Post = search in
+    let after-props : entry-lts.After-props (entry-calls t) (entry-at t) entry.Post = search in
+    let after-entry-type : entry-lts.After-entry-type (entry-calls t) (entry-at t) entry.Post = search in
+    let after-half : entry-lts.After-half (entry-calls t) (entry-at t) entry.Post = search in
+    record { is = entry-head-bad _ _ _ (after-half .half .ensures) (after-entry-type .entry-type .given .1) (after-props .props .ensures) (after-count .count .given .1) (c .before .before .head .ensures) (c .enum-told3 .given .1) }
 
 entry-returns-4 : (t : ℕ) → entry-lts.Need-returns-4 (entry-calls t) (entry-at t) entry.Post
-entry-returns-4 t c = entry-plain _ _ _ _ (c .before .before .before .before .before .before .before .before .before .before .before .before .half .ensures) _ (c .before .before .before .before .before .before .before .before .before .before .kind .given .1) _ (c .before .before .before .before .before .before .before .before .props .ensures) _ _ (c .before .before .before .before .before .before .count .given .1) _ (c .before .before .before .before .head .ensures) _ _ (c .is-section .ensures) (c .before .before .e .given .1)
+entry-returns-4 t c =
+    let after-head : entry-lts.After-head (entry-calls t) (entry-at t) entry.Post = search in
+    let after-count : entry-lts.After-count (entry-calls t) (entry-at t) entry.Post = search in
+    let after-props : entry-lts.After-props (entry-calls t) (entry-at t) entry.Post = search in
+    let after-entry-type : entry-lts.After-entry-type (entry-calls t) (entry-at t) entry.Post = search in
+    let after-half : entry-lts.After-half (entry-calls t) (entry-at t) entry.Post = search in
+    record { is = entry-plain _ _ _ (after-half .half .ensures) (after-entry-type .entry-type .given .1) (after-props .props .ensures) (after-count .count .given .1) (after-head .head .ensures) (c .is-section .ensures) (c .before .before .e .given .1) }
 
 entry-returns-5 : (t : ℕ) → entry-lts.Need-returns-5 (entry-calls t) (entry-at t) entry.Post
-entry-returns-5 t c = entry-list-bad _ _ _ _ (c .before .before .before .before .before .before .before .before .before .before .before .before .before .before .half .ensures) _ (c .before .before .before .before .before .before .before .before .before .before .before .before .kind .given .1) _ (c .before .before .before .before .before .before .before .before .before .before .props .ensures) _ _ (c .before .before .before .before .before .before .before .before .count .given .1) _ (c .before .before .before .before .before .before .head .ensures) _ _ (c .before .before .before .before .n .given .1) _ (c .before .before .list .ensures) (c .enum-told4 .given .1)
+entry-returns-5 t c =
+    let after-n : entry-lts.After-n (entry-calls t) (entry-at t) entry.Post = search in
+    let after-head : entry-lts.After-head (entry-calls t) (entry-at t) entry.Post = search in
+    let after-count : entry-lts.After-count (entry-calls t) (entry-at t) entry.Post = search in
+    let after-props : entry-lts.After-props (entry-calls t) (entry-at t) entry.Post = search in
+    let after-entry-type : entry-lts.After-entry-type (entry-calls t) (entry-at t) entry.Post = search in
+    let after-half : entry-lts.After-half (entry-calls t) (entry-at t) entry.Post = search in
+    record { is = entry-list-bad _ _ _ (after-half .half .ensures) (after-entry-type .entry-type .given .1) (after-props .props .ensures) (after-count .count .given .1) (after-head .head .ensures) (after-n .n .given .1) (c .before .before .list .ensures .is) (c .enum-told4 .given .1) }
 
 entry-returns-6 : (t : ℕ) → entry-lts.Need-returns-6 (entry-calls t) (entry-at t) entry.Post
-entry-returns-6 t c = entry-parent _ _ _ _ (c .before .before .before .before .before .before .before .before .before .before .before .before .before .before .before .half .ensures) _ (c .before .before .before .before .before .before .before .before .before .before .before .before .before .kind .given .1) _ (c .before .before .before .before .before .before .before .before .before .before .before .props .ensures) _ _ (c .before .before .before .before .before .before .before .before .before .count .given .1) _ (c .before .before .before .before .before .before .before .head .ensures) _ _ (c .before .before .before .before .before .n .given .1) _ (c .before .before .before .list .ensures) _ _ _ (c .before .controls .given .1)
+entry-returns-6 t c =
+    let after-n : entry-lts.After-n (entry-calls t) (entry-at t) entry.Post = search in
+    let after-head : entry-lts.After-head (entry-calls t) (entry-at t) entry.Post = search in
+    let after-count : entry-lts.After-count (entry-calls t) (entry-at t) entry.Post = search in
+    let after-props : entry-lts.After-props (entry-calls t) (entry-at t) entry.Post = search in
+    let after-entry-type : entry-lts.After-entry-type (entry-calls t) (entry-at t) entry.Post = search in
+    let after-half : entry-lts.After-half (entry-calls t) (entry-at t) entry.Post = search in
+    record { is = entry-parent _ _ _ (after-half .half .ensures) (after-entry-type .entry-type .given .1) (after-props .props .ensures) (after-count .count .given .1) (after-head .head .ensures) (after-n .n .given .1) (c .before .before .before .list .ensures .is) (c .before .controls .given .1) }
 
 pub +entry+list-spec : {M : Type 1} → statement M
-+entry+list-spec = close μ-entry μ-list (λ t. entry-lts.spec (entry-calls t) (entry-at t) entry.Post (entry-half-requires t) (entry-enum-known-kind t) (entry-enum-told t) (entry-returns t) (entry-add-props t) (entry-props-requires t) (entry-enum-known-count t) (entry-enum-told-2 t) (entry-returns-2 t) (entry-head-requires t) (entry-enum-told-3 t) (entry-enum-known-e t) (entry-is-section-requires t) (entry-enum-known-n t) (entry-list-requires t) (entry-enum-told-4 t) (entry-enum-known-controls t) (entry-add-t21 t) (entry-add-t22 t) (entry-returns-3 t) (entry-returns-4 t) (entry-returns-5 t) (entry-returns-6 t)) λ t. list-lts.spec (list-calls t) (list-at t) list.Post list-Inv-loop list-μ-loop (list-loop-holds t) (list-returns t) (list-sub-entry t) (list-entry-requires t) (list-enum-told t) (list-returns-2 t) (list-enum-known-controls t) (list-add-all t) (list-add-theirs t) (list-sub-k t) (list-loop-less t) (list-loop-again t) (list-returns-3 t)
++entry+list-spec =
+    close μ-entry μ-list
+    (λ t. entry-lts.spec (entry-calls t) (entry-at t) entry.Post
+    (λ c κs. search needs) (λ c. search needs) (λ c. search needs)
+    (entry-returns t)
+    (entry-add-props t)
+    (λ c κs. search needs) (λ c. search needs) (λ c. search needs)
+    (entry-returns-2 t)
+    (λ c κs. search needs) (λ c. search needs) (λ c. search needs) (λ c κs. search needs) (λ c. search needs)
+    (entry-list-requires t)
+    (λ c. search needs) (λ c. search needs)
+    (entry-add-t21 t)
+    (entry-add-t22 t)
+    (entry-returns-3 t)
+    (entry-returns-4 t)
+    (entry-returns-5 t)
+    (entry-returns-6 t))
+    λ t. list-lts.spec (list-calls t) (list-at t) list.Post list-Inv-loop list-μ-loop
+    (list-loop-holds t)
+    (list-returns t)
+    (λ c. search needs)
+    (list-entry-requires t)
+    (λ c. search needs)
+    (list-returns-2 t)
+    (λ c. search needs)
+    (list-add-all t)
+    (list-add-theirs t)
+    (λ c. search needs) (λ c. search needs)
+    (list-loop-again t)
+    (list-returns-3 t)

@@ -6,25 +6,54 @@ use Rattle.count2000.proofs.count.Statement.{statement}
 use Rattle.count2000.proofs.count.Tie as tie
 
 returns : tie.Need-returns
-returns c = stream-run-bad _ _ (c .before .before .props .ensures) (c .enum-told .given .1)
+returns c = stream-run-bad _ (c .before .before .props .ensures) (c .enum-told .given .1)
 
 add-t17 : tie.Need-add-t17
-add-t17 c = omega (arith, top-room _ _ _ _ _ _ _ _ (c .before .before .before .before .top .ensures) (c .before .before .controls .given .1), head-room _ _ _ _ _ (c .before .before .before .before .before .before .before .before .head .ensures) (c .before .before .before .before .before .before .n .given .1), run-room _ _ _ _ _ (c .before .before .before .before .before .before .before .before .before .before .before .before .props .ensures) (c .before .before .before .before .before .before .before .before .before .before .own .given .1))
+add-t17 c =
+    let after-top : tie.After-top = search in
+    let after-n : tie.After-n = search in
+    let after-head : tie.After-head = search in
+    let after-own : tie.After-own = search in
+    let after-props : tie.After-props = search in
+    omega (arith, top-room _ _ _ (after-top .top .ensures) (c .before .before .controls .given .1), head-room _ _ _ _ _ (after-head .head .ensures) (after-n .n .given .1), run-room _ _ _ _ _ (after-props .props .ensures) (after-own .own .given .1))
 
 returns-2 : tie.Need-returns-2
-returns-2 c = stream-whole _ _ (c .before .before .before .before .before .before .before .before .before .before .before .before .props .ensures) _ _ (c .before .before .before .before .before .before .before .before .before .before .own .given .1) _ (c .before .before .before .before .before .before .before .before .head .ensures) _ _ (c .before .before .before .before .before .before .n .given .1) _ (c .before .before .before .before .top .ensures) _ _ _ (c .before .before .controls .given .1) (omega (arith, c .if1 .taken))
+returns-2 c =
+    let after-top : tie.After-top = search in
+    let after-n : tie.After-n = search in
+    let after-head : tie.After-head = search in
+    let after-own : tie.After-own = search in
+    let after-props : tie.After-props = search in
+    stream-whole _ (after-props .props .ensures) (after-own .own .given .1) (after-head .head .ensures) (after-n .n .given .1) (after-top .top .ensures) (c .before .before .controls .given .1) (omega (arith, c .if1 .taken))
 
 returns-3 : tie.Need-returns-3
-returns-3 c = stream-more _ _ (c .before .before .before .before .before .before .before .before .before .before .before .before .props .ensures) _ _ (c .before .before .before .before .before .before .before .before .before .before .own .given .1) _ (c .before .before .before .before .before .before .before .before .head .ensures) _ _ (c .before .before .before .before .before .before .n .given .1) _ (c .before .before .before .before .top .ensures) _ _ _ (c .before .before .controls .given .1) (λ z. omega (arith, z, c .if1 .left))
+returns-3 c =
+    let after-top : tie.After-top = search in
+    let after-n : tie.After-n = search in
+    let after-head : tie.After-head = search in
+    let after-own : tie.After-own = search in
+    let after-props : tie.After-props = search in
+    stream-more _ (after-props .props .ensures) (after-own .own .given .1) (after-head .head .ensures) (after-n .n .given .1) (after-top .top .ensures) (c .before .before .controls .given .1) (λ z. omega (arith, z, c .if1 .left))
 
 returns-4 : tie.Need-returns-4
-returns-4 c = stream-list-bad _ _ (c .before .before .before .before .before .before .before .before .before .before .props .ensures) _ _ (c .before .before .before .before .before .before .before .before .own .given .1) _ (c .before .before .before .before .before .before .head .ensures) _ _ (c .before .before .before .before .n .given .1) _ (c .before .before .top .ensures) (c .enum-told2 .given .1)
+returns-4 c =
+    let after-n : tie.After-n = search in
+    let after-head : tie.After-head = search in
+    let after-own : tie.After-own = search in
+    let after-props : tie.After-props = search in
+    stream-list-bad _ (after-props .props .ensures) (after-own .own .given .1) (after-head .head .ensures) (after-n .n .given .1) (c .before .before .top .ensures) (c .enum-told2 .given .1)
 
 returns-5 : tie.Need-returns-5
-returns-5 c = stream-plain _ _ (c .before .before .before .before .before .before .props .ensures) _ _ (c .before .before .before .before .own .given .1) _ (c .before .before .head .ensures) _ (c .enum-told3 .given .1)
+returns-5 c =
+    let after-own : tie.After-own = search in
+    let after-props : tie.After-props = search in
+    stream-plain _ (after-props .props .ensures) (after-own .own .given .1) (c .before .before .head .ensures) (c .enum-told3 .given .1)
 
 returns-6 : tie.Need-returns-6
-returns-6 c = stream-head-bad _ _ (c .before .before .before .before .before .before .props .ensures) _ _ (c .before .before .before .before .own .given .1) _ (c .before .before .head .ensures) (c .enum-told4 .given .1)
+returns-6 c =
+    let after-own : tie.After-own = search in
+    let after-props : tie.After-props = search in
+    stream-head-bad _ (after-props .props .ensures) (after-own .own .given .1) (c .before .before .head .ensures) (c .enum-told4 .given .1)
 
 pub count-spec : {M : Type 1} → statement M
 count-spec =
