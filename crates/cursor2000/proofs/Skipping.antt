@@ -1,4 +1,4 @@
--- Which entries of the top list are passed over.
+-- Which entries of the top list are skipped.
 use Prim.Native.Nat.{ℕ, _+_}
 use native.Mathlib.Omega.{arith}
 use mathlib.Core.Path.{_≡_, refl, sym, ap, _∙_}
@@ -43,46 +43,46 @@ close-section below type ps h e = go (h .0)
     go none = e
     go (some n) = every-when Reported (below n (h .1)) _ λ l _. refl
 
-module _ (s : List ℕ) (p : ℕ) (w : Word) (we : w ≡ told.half (halfAt s p)) where
+module _ (s : List ℕ) (p : ℕ) {w : Word} (we : w ≡ told.half (halfAt s p)) where
   pub skip-short : w ≡ Word.Short → Skips s p Pass.Not
   unfolding entryAt
   skip-short wk = kept s p (rw (word-short (halfAt s p) w we wk) tt)
 
-  module _ (kind : ℕ) (wk : w ≡ Word.Of kind) (b : Bool) (be : b ≡ isSection kind) where
+  module _ {type : ℕ} (wk : w ≡ Word.Of type) {b : Bool} (be : b ≡ isSection type) where
     pub skip-section : b ≡ true → Skips s p Pass.Not
     unfolding entryAt
     skip-section bk = kept s p
-        (rw (word-of (halfAt s p) w kind we wk)
-        (every-when Reported (runAt s (p + 2)) _ λ x _. every-when Reported (headAt s (x .1)) _ λ h _. close-section (deep s) kind (x .0) h (sym be ∙ bk)))
+        (rw (word-of (halfAt s p) w type we wk)
+        (every-when Reported (runAt s (p + 2)) _ λ x _. every-when Reported (headAt s (x .1)) _ λ h _. close-section (deep s) type (x .0) h (sym be ∙ bk)))
 
-    module _ (u : Run) (ue : u ≡ told.run (runAt s (p + 2))) where
+    module _ {u : Run} (ue : u ≡ told.run (runAt s (p + 2))) where
       pub skip-run-bad : u ≡ Run.Bad → Skips s p Pass.Not
       unfolding entryAt
-      skip-run-bad uk = kept s p (rw (word-of (halfAt s p) w kind we wk, run-bad (runAt s (p + 2)) u ue uk) tt)
+      skip-run-bad uk = kept s p (rw (word-of (halfAt s p) w type we wk, run-bad (runAt s (p + 2)) u ue uk) tt)
 
-      module _ (n q : ℕ) (uk : u ≡ Run.Of n q) (o : Opens) (oe : o ≡ told.head (headAt s q)) where
+      module _ {n q : ℕ} (uk : u ≡ Run.Of n q) {o : Opens} (oe : o ≡ told.head (headAt s q)) where
         pub skip-head-bad : o ≡ Opens.Bad → Skips s p Pass.Not
         unfolding entryAt
         skip-head-bad ok =
             let x = run-of (runAt s (p + 2)) u n q ue uk in
-            kept s p (rw (word-of (halfAt s p) w kind we wk, x .2, opens-bad (headAt s q) o oe ok) tt)
+            kept s p (rw (word-of (halfAt s p) w type we wk, x .2, opens-bad (headAt s q) o oe ok) tt)
 
-        pub skip-listed : (m e : ℕ) → o ≡ Opens.Listed m e → Skips s p Pass.Not
+        pub skip-listed : {m e : ℕ} → o ≡ Opens.Listed m e → Skips s p Pass.Not
         unfolding entryAt closeAt
-        skip-listed m e ok =
+        skip-listed {m = m} {e = e} ok =
             let x = run-of (runAt s (p + 2)) u n q ue uk in
-            kept s p (rw (word-of (halfAt s p) w kind we wk, x .2, opens-listed (headAt s q) o m e oe ok) (every-when Reported (deep s m e) _ λ l _. refl))
+            kept s p (rw (word-of (halfAt s p) w type we wk, x .2, opens-listed (headAt s q) o m e oe ok) (every-when Reported (deep s m e) _ λ l _. refl))
 
-        pub skip-plain : (e : ℕ) → o ≡ Opens.Plain e → b ≡ false → Skips s p (Pass.Over e)
+        pub skip-plain : {e : ℕ} → o ≡ Opens.Plain e → b ≡ false → Skips s p (Pass.Over e)
         unfolding entryAt closeAt
-        skip-plain e ok bk = go (run-of (runAt s (p + 2)) u n q ue uk)
+        skip-plain {e = e} ok bk = go (run-of (runAt s (p + 2)) u n q ue uk)
           where
             go : (ps : List Prop) × (length ps ≡ n) × (runAt s (p + 2) ≡ some (ps, q)) → Skips s p (Pass.Over e)
             go x =
-                let r : entryAt s (deep s) p ≡ some (plain kind (x .0), e) = rw (word-of (halfAt s p) w kind we wk, x .2, opens-plain (headAt s q) o e oe ok) in
+                let r : entryAt s (deep s) p ≡ some (plain type (x .0), e) = rw (word-of (halfAt s p) w type we wk, x .2, opens-plain (headAt s q) o e oe ok) in
                 record {
                   over = λ next k.
                       let z : e ≡ next = cc in
-                      (plain kind (x .0), sym (entry-same s (deep s) p) ∙ r ∙ ap (λ y. some (plain kind (x .0), y)) z, sym be ∙ bk);
+                      (plain type (x .0), sym (entry-same s (deep s) p) ∙ r ∙ ap (λ y. some (plain type (x .0), y)) z, sym be ∙ bk);
                   kept = λ k. absurd (let z : _≡_ {A = ℕ} 0 1 = cc in omega arith);
                 }

@@ -1,4 +1,4 @@
--- The entries of an Access 2000 stream are read by their steps; and what the head behind a run says.
+-- The entries of an Access 2000 stream are read by their steps; and what the head after a run says.
 use Prim.Native.Nat.{ℕ, _+_, _<_}
 use native.Mathlib.Omega.{arith}
 use mathlib.Core.Path.{_≡_, refl, ap}
@@ -64,16 +64,16 @@ head-small s h p =
 pub count-small : (s : List ℕ) → Bytes s → (p m e : ℕ) → headAt s p ≡ some (some m, e) → m < 65536
 count-small s h p m e r = every-at CountSmall (headAt s p) (some m, e) (head-small s h p) r
 
--- ---- behind a run
+-- ---- after a run
 module _ (s : List ℕ) (q : ℕ) where
-  pub past-bad : headAt s q ≡ none → (a : List ℕ) (c : Cursor) → PastReady a c (listAt s q) → ⊥
+  pub past-bad : headAt s q ≡ none → {a : List ℕ} {c : Cursor} → PastReady a c (listAt s q) → ⊥
   unfolding listAt
-  past-bad e a c h = rw e at (h .there)
+  past-bad e h = rw e at (h .there)
 
   pub list-some : (list : Option ℕ) (e : ℕ) → headAt s q ≡ some (list, e) → listAt s q ≡ some (countOf list, e)
   unfolding listAt
   list-some list e r = rw r
 
-  pub past-by : (list : Option ℕ) (e : ℕ) → headAt s q ≡ some (list, e) → (a : List ℕ) (c : Cursor) (row : ℕ) (a′ : List ℕ) (r : Cursor)
+  pub past-by : (list : Option ℕ) {e : ℕ} → headAt s q ≡ some (list, e) → {a : List ℕ} {c : Cursor} {row : ℕ} {a′ : List ℕ} {r : Cursor}
       → Moved a c row (countOf list) e a′ r → Past a c row (listAt s q) a′ r
-  past-by list e k a c row a′ r m = rw (list-some list e k) m
+  past-by list {e = e} k m = rw (list-some list e k) m

@@ -22,11 +22,11 @@ stepAt s p = do
   (list, e) ← headAt s q
   some (record { node = node type props; children = list; next = e })
 
--- behind the run that ends at q: how many entries the list has, and where they start
+-- after the run that ends at q: how many entries the list has, and where they start
 unfoldable pub listAt : List ℕ → ℕ → Option (ℕ × ℕ)
 listAt s q = headAt s q >>= λ h. some (countOf (h .0), h .1)
 
--- whether an entry of the top list is passed over
+-- whether an entry of the top list is skipped
 pub record Skips (s : List ℕ) (at : ℕ) (r : Pass) : Type 0 where
   pub over : (next : ℕ) → r ≡ Pass.Over next → (e : Entry Prop) × (topAt (stepAt s) at ≡ some (e, next)) × (isReported e ≡ false)
   pub kept : r ≡ Pass.Not → Every (λ e. isReported (e .0) ≡ true) (topAt (stepAt s) at)

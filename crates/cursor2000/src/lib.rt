@@ -1,6 +1,7 @@
 // A walk over the entries of an Access 2000 stream that fits a reading, by a loop.
 use cursor::Cursor;
-use cursor::behind;
+use cursor::STACK_WORDS;
+use cursor::after_entry;
 use rows::is_section;
 use walk2000::Opens;
 use walk2000::Run;
@@ -12,20 +13,20 @@ ghost use Rattle.rules.specs.Tree.{isReported};
 ghost use Rattle.cursor.specs.Cursors.{Passed, PastReady, Past};
 ghost use Rattle.cursor2000.specs.Steps.{stepAt, listAt, Skips};
 
-// Whether an entry of the top list is passed over.
+// Whether an entry of the top list is skipped.
 enum Pass {
     Over(usize),
     Not,
 }
 
-// An entry of the top list that has no list, and no type of a section, is passed over: its run is all there is to walk.
+// An entry of the top list that has no list, and no type of a section, is skipped: its run is all there is to walk.
 fn skip(s: &[u8], at: usize) -> Pass
     ensures { λ r. ⌜ Skips (now (s .entry)) at r ⌝ }
 {
-    let Word::Of(kind) = half(s, at) else {
+    let Word::Of(entry_type) = half(s, at) else {
         return Pass::Not;
     };
-    if is_section(kind) {
+    if is_section(entry_type) {
         return Pass::Not;
     }
     let Run::Of { count: _, next } = props(s, at + 2) else {
@@ -38,7 +39,7 @@ fn skip(s: &[u8], at: usize) -> Pass
     }
 }
 
-// Passes over the entries of the top list that aren't reported.
+// Skips the entries of the top list that aren't reported.
 pub fn reported(s: &[u8], c: Cursor) -> Cursor
     ensures { λ r. ⌜ Passed (stepAt (now (s .entry))) isReported c r ⌝ }
 {
@@ -73,14 +74,14 @@ pub fn reported(s: &[u8], c: Cursor) -> Cursor
     }
 }
 
-// Goes behind the entry at `c`, which has row `row`, and whose run ends at `run`.
-pub fn past(s: &[u8], stack: &mut [u32; 512], c: Cursor, row: u32, run: usize) -> Cursor
+// Goes on after the entry at `c`, which has row `row`, and whose run ends at `run`.
+pub fn past(s: &[u8], stack: &mut [u32; STACK_WORDS], c: Cursor, row: u32, run: usize) -> Cursor
     requires { ⌜ PastReady (now stack) c (listAt (now s) run) ⌝ }
     ensures { λ r. ⌜ Past (now (stack .entry)) c row (listAt (now (s .entry)) run) (now (stack .exit)) r ⌝ }
 {
     match head(s, run) {
         Opens::Bad => c,
-        Opens::Plain { next } => behind(stack, c, row, 0, next),
-        Opens::Listed { count, next } => behind(stack, c, row, count as u32, next),
+        Opens::Plain { next } => after_entry(stack, c, row, 0, next),
+        Opens::Listed { count, next } => after_entry(stack, c, row, count as u32, next),
     }
 }
