@@ -24,8 +24,11 @@ use Rattle.rows.proofs.PutLaws.{put-length}
 use Rattle.rows.proofs.WritingLaws.{properties-none, properties-more}
 use Rattle.walk2000.specs.Told as told
 use Rattle.walk2000.specs.declared.Spot.{Spot}
+use Rattle.coderows.specs.Look.{bodyRows}
+use Rattle.coderows.specs.declared.Body.{Body}
 use Rattle.run2000.specs.declared.Naming.{Naming}
-use Rattle.run2000.specs.Runs.{prop, ran, runAct, RunFits, nameAt, nameIn, nextName}
+use Rattle.run2000.specs.declared.RunRows.{RunRows}
+use Rattle.run2000.specs.Runs.{prop, shownIn, ran, runAct, RunFits, nameAt, nameIn, nextName, runRows, RunDone}
 
 property-id : (s : List ℕ) (p : ℕ) → Every (λ q. q .id ≡ byte s p) (propertyAt s p)
 unfolding propertyAt
@@ -51,11 +54,11 @@ property-bad (some q) r e k = cc
 abbrev pub Rest : Type 0
 Rest = Option (List Prop × ℕ)
 
-abbrev pub behind : Prop → Rest → Rest
-behind q o = o >>= λ x. some (q ∷ x .0, x .1)
+abbrev pub with-first : Prop → Rest → Rest
+with-first q o = o >>= λ x. some (q ∷ x .0, x .1)
 
 pub run-more : (s : List ℕ) (p : ℕ) (r : Spot) (st sz : ℕ) → goesOn s p ≡ true → r ≡ told.spot (propertyAt s p) → r ≡ Spot.At st sz
-    → runAt s p ≡ behind (prop (byte s p) st sz) (runAt s (st + sz))
+    → runAt s p ≡ with-first (prop (byte s p) st sz) (runAt s (st + sz))
 run-more s p r st sz t e k = (rw t at (run-step s p)) ∙ ap (λ o. o >>= after (runAt s)) (property-is s p r st sz e k)
 
 pub run-stop : (s : List ℕ) (p : ℕ) → goesOn s p ≡ false → runAt s p ≡ some ([], p)
@@ -70,25 +73,25 @@ pub record Left (f : Prop → Property) (s : List ℕ) (at : ℕ) (old : List �
   pub is : runAct f (runAt s p) new n ≡ runAct f (runAt s at) old first
   pub same : length new ≡ length old
 
-pub left-start : (f : Prop → Property) (s : List ℕ) (at : ℕ) (old : List ℕ) (first : ℕ) → Held (RunFits old first) (runAt s at) → Left f s at old first old at first
-left-start f s at old first h = record { fits = h; is = refl; same = refl }
+pub left-start : {f : Prop → Property} {s : List ℕ} {at : ℕ} {old : List ℕ} {first : ℕ} → Held (RunFits old first) (runAt s at) → Left f s at old first old at first
+left-start h = record { fits = h; is = refl; same = refl }
 
-one-room : (q : Prop) (new : List ℕ) (n : ℕ) (o : Rest) → Held (RunFits new n) (behind q o) → n * propertyWidth + propertyWidth ≤ length new
+one-room : (q : Prop) (new : List ℕ) (n : ℕ) (o : Rest) → Held (RunFits new n) (with-first q o) → n * propertyWidth + propertyWidth ≤ length new
 one-room q new n none h = absurd h
 one-room q new n (some x) h = omega (arith, h)
 
-fits-more : (q : Prop) (new new′ : List ℕ) (n : ℕ) (o : Rest) → length new′ ≡ length new → Held (RunFits new n) (behind q o) → Held (RunFits new′ (n + 1)) o
+fits-more : (q : Prop) (new new′ : List ℕ) (n : ℕ) (o : Rest) → length new′ ≡ length new → Held (RunFits new n) (with-first q o) → Held (RunFits new′ (n + 1)) o
 fits-more q new new′ n none l h = h
 fits-more q new new′ n (some x) l h = omega (arith, h, l)
 
-act-more : (f : Prop → Property) (q : Prop) (new : List ℕ) (n : ℕ) (o : Rest) → runAct f o (put propertyWidth new n (propertyRow (f q) ∷ [])) (n + 1) ≡ runAct f (behind q o) new n
+act-more : (f : Prop → Property) (q : Prop) (new : List ℕ) (n : ℕ) (o : Rest) → runAct f o (put propertyWidth new n (propertyRow (f q) ∷ [])) (n + 1) ≡ runAct f (with-first q o) new n
 act-more f q new n none = refl
 act-more f q new n (some x) =
     let a = properties-more (f q) (map f (x .0)) new n in
     let b : n + 1 + length (x .0) ≡ n + length (q ∷ x .0) = omega arith in
     λ i. some (ran (sym a i) (b i) (x .1))
 
-module _ (f : Prop → Property) (s : List ℕ) (at : ℕ) (old : List ℕ) (first : ℕ) (new : List ℕ) (p n : ℕ) (known : Left f s at old first new p n) where
+module _ {f : Prop → Property} {s : List ℕ} {at : ℕ} {old : List ℕ} {first : ℕ} {new : List ℕ} {p n : ℕ} (known : Left f s at old first new p n) where
   pub left-stop : goesOn s p ≡ false → some (ran new n p) ≡ runAct f (runAt s at) old first
   left-stop t =
       let a = properties-none new n in
@@ -96,16 +99,16 @@ module _ (f : Prop → Property) (s : List ℕ) (at : ℕ) (old : List ℕ) (fir
       let e : some (ran new n p) ≡ runAct f (some ([], p)) new n = λ i. some (ran (sym a i) (b i) p) in
       e ∙ ap (λ o. runAct f o new n) (sym (run-stop s p t)) ∙ known .is
 
-  module _ (r : Spot) (goes : goesOn s p ≡ true) (re : r ≡ told.spot (propertyAt s p)) where
+  module _ {r : Spot} (goes : goesOn s p ≡ true) (re : r ≡ told.spot (propertyAt s p)) where
     pub left-bad : r ≡ Spot.Bad → ⊥
     left-bad k = rw (run-bad s p r goes re k) at (known .fits)
 
-    module _ (st sz : ℕ) (k : r ≡ Spot.At st sz) where
+    module _ {st sz : ℕ} (k : r ≡ Spot.At st sz) where
       pub left-room : n * propertyWidth + propertyWidth ≤ length new
       left-room = one-room (prop (byte s p) st sz) new n (runAt s (st + sz)) (rw (run-more s p r st sz goes re k) at (known .fits))
 
-      pub left-more : (q : Property) (new′ : List ℕ) → q ≡ f (prop (byte s p) st sz) → new′ ≡ put propertyWidth new n (propertyRow q ∷ []) → Left f s at old first new′ (st + sz) (n + 1)
-      left-more q new′ qe ne =
+      pub left-more : {q : Property} {new′ : List ℕ} → q ≡ f (prop (byte s p) st sz) → new′ ≡ put propertyWidth new n (propertyRow q ∷ []) → Left f s at old first new′ (st + sz) (n + 1)
+      left-more {q = q} {new′ = new′} qe ne =
           let m = run-more s p r st sz goes re k in
           let e : new′ ≡ put propertyWidth new n (propertyRow (f (prop (byte s p) st sz)) ∷ []) = ne ∙ ap (λ x. put propertyWidth new n (propertyRow x ∷ [])) qe in
           let l : length new′ ≡ length new = ap length ne ∙ put-length propertyWidth new n (propertyRow q ∷ []) in
@@ -123,17 +126,17 @@ pub record Unnamed (s : List ℕ) (w at p : ℕ) : Type 0 where
 unnamed-start : (s : List ℕ) (w at : ℕ) → Held (λ _. Unit {0}) (runAt s at) → Unnamed s w at at
 unnamed-start s w at h = record { good = h; is = refl }
 
-first-is : (s : List ℕ) (w : ℕ) (q : Prop) (o : Rest) → q .id ≡ w → Held (λ _. Unit {0}) (behind q o) → nameIn s w (behind q o) ≡ nameAt s (q .start) (q .size)
+first-is : (s : List ℕ) (w : ℕ) (q : Prop) (o : Rest) → q .id ≡ w → Held (λ _. Unit {0}) (with-first q o) → nameIn s w (with-first q o) ≡ nameAt s (q .start) (q .size)
 unfolding find
 first-is s w q none e h = absurd h
 first-is s w q (some x) e h = rw (eq-eqb (q .id) w e)
 
-first-not : (s : List ℕ) (w : ℕ) (q : Prop) (o : Rest) → (q .id ≡ w → ⊥) → nameIn s w (behind q o) ≡ nameIn s w o
+first-not : (s : List ℕ) (w : ℕ) (q : Prop) (o : Rest) → (q .id ≡ w → ⊥) → nameIn s w (with-first q o) ≡ nameIn s w o
 unfolding find
 first-not s w q none e = refl
 first-not s w q (some x) e = rw (ne-eqb (q .id) w e)
 
-good-more : (q : Prop) (o : Rest) → Held (λ _. Unit {0}) (behind q o) → Held (λ _. Unit {0}) o
+good-more : (q : Prop) (o : Rest) → Held (λ _. Unit {0}) (with-first q o) → Held (λ _. Unit {0}) o
 good-more q none h = h
 good-more q (some x) h = tt
 
@@ -143,9 +146,6 @@ module _ (s : List ℕ) (w at p : ℕ) (known : Unnamed s w at p) where
   unnamed-stop t = ap (nameIn s w) (sym (run-stop s p t)) ∙ known .is
 
   module _ (r : Spot) (goes : goesOn s p ≡ true) (re : r ≡ told.spot (propertyAt s p)) where
-    unnamed-bad : r ≡ Spot.Bad → ⊥
-    unnamed-bad k = rw (run-bad s p r goes re k) at (known .good)
-
     module _ (st sz : ℕ) (k : r ≡ Spot.At st sz) where
       unnamed-found : (x : Name) → byte s p ≡ w → x ≡ nameAt s st sz → x ≡ nameIn s w (runAt s at)
       unnamed-found x e xe =
@@ -160,42 +160,77 @@ module _ (s : List ℕ) (w at p : ℕ) (known : Unnamed s w at p) where
             is = sym (first-not s w (prop (byte s p) st sz) (runAt s (st + sz)) e) ∙ ap (nameIn s w) (sym m) ∙ known .is;
           }
 
--- nothing was found yet, or what was found is the name
-abbrev pub Named : List ℕ → ℕ → ℕ → Naming → ℕ → Type 0
-Named s w at x p =
-    (Unnamed s w at p × (x .name ≡ Name.Numbered) × (x .wanted ≡ w)) ⊎ ((x .name ≡ nameIn s w (runAt s at)) × (x .wanted ≡ 0xFF))
+-- nothing was found yet
+record NotYet (s : List ℕ) (w at : ℕ) (x : Naming) (p : ℕ) : Type 0 where
+  unnamed : Unnamed s w at p
+  numbered : x .name ≡ Name.Numbered
+  wanted-is : x .wanted ≡ w
+
+-- what was found is the name
+record Found (s : List ℕ) (w at : ℕ) (x : Naming) : Type 0 where
+  name-is : x .name ≡ nameIn s w (runAt s at)
+  done : x .wanted ≡ 0xFF
+
+pub record Named (s : List ℕ) (w at : ℕ) (x : Naming) (p : ℕ) : Type 0 where
+  known : NotYet s w at x p ⊎ Found s w at x
 
 held-good : {A : Type 0} (P : A → Type 0) (o : Option A) → Held P o → Held (λ _. Unit {0}) o
 held-good P none h = h
 held-good P (some x) h = tt
 
-pub named-start : (s : List ℕ) (w at : ℕ) (P : List Prop × ℕ → Type 0) → Held P (runAt s at) → Named s w at (record { name = Name.Numbered; wanted = w }) at
-named-start s w at P h = inl (unnamed-start s w at (held-good P (runAt s at) h), refl, refl)
+pub named-start : {s : List ℕ} {w at : ℕ} (P : List Prop × ℕ → Type 0) → Held P (runAt s at) → Named s w at (record { name = Name.Numbered; wanted = w }) at
+named-start {s = s} {w = w} {at = at} P h = record { known = inl (record { unnamed = unnamed-start s w at (held-good P (runAt s at) h); numbered = refl; wanted-is = refl }) }
 
-pub named-stop : (s : List ℕ) (w at : ℕ) (x : Naming) (p : ℕ) → Named s w at x p → goesOn s p ≡ false → x .name ≡ nameIn s w (runAt s at)
-named-stop s w at x p (inl u) t = u .1 ∙ unnamed-stop s w at p (u .0) t
-named-stop s w at x p (inr e) t = e .0
+pub named-stop : {s : List ℕ} {w at : ℕ} {x : Naming} {p : ℕ} → Named s w at x p → goesOn s p ≡ false → x .name ≡ nameIn s w (runAt s at)
+named-stop {s = s} {w = w} {at = at} {x = x} {p = p} h t = go (h .known)
+  where
+    go : NotYet s w at x p ⊎ Found s w at x → x .name ≡ nameIn s w (runAt s at)
+    go (inl u) = u .numbered ∙ unnamed-stop s w at p (u .unnamed) t
+    go (inr e) = e .name-is
 
-module _ (s : List ℕ) (w at : ℕ) (p : ℕ) (r : Spot) (goes : goesOn s p ≡ true) (re : r ≡ told.spot (propertyAt s p)) (st sz : ℕ) (k : r ≡ Spot.At st sz) (low : byte s p < 0xFD) where
-  same-named : (x : Naming) → Named s w at x p → (byte s p ≡ x .wanted → ⊥) → Named s w at x (st + sz)
-  same-named x (inl u) n = inl (unnamed-more s w at p (u .0) r goes re st sz k (λ e. n (e ∙ sym (u .2))), u .1, u .2)
-  same-named x (inr e) n = inr e
+module _ {s : List ℕ} {w at p : ℕ} {x : Naming} (h : Named s w at x p) {r : Spot} (goes : goesOn s p ≡ true) (re : r ≡ told.spot (propertyAt s p)) {st sz : ℕ} (k : r ≡ Spot.At st sz) where
+  same-named : (byte s p ≡ x .wanted → ⊥) → Named s w at x (st + sz)
+  same-named n = record { known = go (h .known) }
+    where
+      go : NotYet s w at x p ⊎ Found s w at x → NotYet s w at x (st + sz) ⊎ Found s w at x
+      go (inl u) = inl (record {
+        unnamed = unnamed-more s w at p (u .unnamed) r goes re st sz k (λ e. n (e ∙ sym (u .wanted-is)));
+        numbered = u .numbered;
+        wanted-is = u .wanted-is;
+      })
+      go (inr e) = inr e
 
-  now-named : (x : Naming) → Named s w at x p → byte s p ≡ x .wanted → nameAt s st sz ≡ nameIn s w (runAt s at)
-  now-named x (inl u) e = unnamed-found s w at p (u .0) r goes re st sz k (nameAt s st sz) (e ∙ u .2) refl
-  now-named x (inr h) e = absurd (omega (arith, low, e, h .1))
+  now-named : byte s p < 0xFD → byte s p ≡ x .wanted → nameAt s st sz ≡ nameIn s w (runAt s at)
+  now-named low e = go (h .known)
+    where
+      go : NotYet s w at x p ⊎ Found s w at x → nameAt s st sz ≡ nameIn s w (runAt s at)
+      go (inl u) = unnamed-found s w at p (u .unnamed) r goes re st sz k (nameAt s st sz) (e ∙ u .wanted-is) refl
+      go (inr f) = absurd (omega (arith, low, e, f .done))
 
-  pub named-more : (x x′ : Naming) → Named s w at x p → x′ ≡ nextName s (byte s p) st sz x → Named s w at x′ (st + sz)
-  named-more x x′ h e = rw e (go (eqb (byte s p) (x .wanted)) refl)
+  pub named-more : {x′ : Naming} → byte s p < 0xFD → x′ ≡ nextName s (byte s p) st sz x → Named s w at x′ (st + sz)
+  named-more low e = rw e (go (eqb (byte s p) (x .wanted)) refl)
     where
       go : (b : Bool) → eqb (byte s p) (x .wanted) ≡ b → Named s w at (cond b (record { name = nameAt s st sz; wanted = 0xFF }) x) (st + sz)
-      go true q = inr (now-named x h (eqb-true _ _ q), refl)
-      go false q = same-named x h (eqb-false _ _ q)
+      go true q = record { known = inr (record { name-is = now-named low (eqb-true _ _ q); done = refl }) }
+      go false q = same-named (eqb-false _ _ q)
 
   -- no name has an id that tells its value's size
-  not-wanted : (x : Naming) → Named s w at x p → 0xBC < w → byte s p ≤ 0xBC → byte s p ≡ x .wanted → ⊥
-  not-wanted x (inl u) hw hb e = omega (arith, u .2)
-  not-wanted x (inr h) hw hb e = omega (arith, h .1)
+  not-wanted : 0xBC < w → byte s p ≤ 0xBC → byte s p ≡ x .wanted → ⊥
+  not-wanted hw hb e = go (h .known)
+    where
+      go : NotYet s w at x p ⊎ Found s w at x → ⊥
+      go (inl u) = omega (arith, u .wanted-is)
+      go (inr f) = omega (arith, f .done)
 
-  pub named-past : (x x′ : Naming) → Named s w at x p → 0xBC < w → byte s p ≤ 0xBC → x′ ≡ x → Named s w at x′ (st + sz)
-  named-past x x′ h hw hb e = rw e (same-named x h (not-wanted x h hw hb))
+  pub named-past : {x′ : Naming} → 0xBC < w → byte s p ≤ 0xBC → x′ ≡ x → Named s w at x′ (st + sz)
+  named-past hw hb e = rw e (same-named (not-wanted hw hb))
+
+-- ---- what the loop keeps
+pub record Keeps (f : Prop → Property) (s : List ℕ) (at : ℕ) (old : List ℕ) (first wanted : ℕ) (new : List ℕ) (p n : ℕ) (x : Naming) : Type 0 where
+  pub left : Left f s at old first new p n
+  pub named : Named s wanted at x p
+
+-- the run ends here
+pub keeps-stop : {t : List ℕ} {body : Body} {s : List ℕ} {at : ℕ} {old : List ℕ} {first wanted : ℕ} {new : List ℕ} {p n : ℕ} {x : Naming} {r : RunRows}
+    → Keeps (shownIn (bodyRows t body) s) s at old first wanted new p n x → r ≡ runRows p n x → goesOn s p ≡ false → RunDone t body s at old first wanted new r
+keeps-stop h e t = rw e (record { rows-are = left-stop (h .left) t; name-is = named-stop (h .named) t })

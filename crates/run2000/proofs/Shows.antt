@@ -22,10 +22,10 @@ use Rattle.coderows.specs.Look.{asRow}
 use Rattle.coderows.specs.declared.Row.{Row}
 use Rattle.run2000.specs.Runs.{prop, shownIn, nameAt}
 
-module _ (ties : List Tie) (s : List ℕ) (id st sz : ℕ) (row : Row) (re : row ≡ asRow (find (isTied id) ties)) (bytes : List ℕ) (be : bytes ≡ part s st sz) (v : Value) where
-  pub shown-tied : (target kind : ℕ) → row ≡ Row.Tied target kind → v ≡ valueAs kind id bytes → property target v (prop id st sz) ≡ shownIn ties s (prop id st sz)
+module _ (ties : List Tie) (s : List ℕ) (id st sz : ℕ) {row : Row} (re : row ≡ asRow (find (isTied id) ties)) {bytes : List ℕ} (be : bytes ≡ part s st sz) {v : Value} where
+  pub shown-tied : {target kind : ℕ} → row ≡ Row.Tied target kind → v ≡ valueAs kind id bytes → property target v (prop id st sz) ≡ shownIn ties s (prop id st sz)
   unfolding shownIn asRow
-  shown-tied target kind k ve = go (find (isTied id) ties) (sym re ∙ k)
+  shown-tied {target = target} {kind = kind} k ve = go (find (isTied id) ties) (sym re ∙ k)
     where
       go : (o : Option Tie) → asRow o ≡ Row.Tied target kind → property target v (prop id st sz) ≡ shown s (prop id st sz) o
       go none e = absurd (let z : _≡_ {A = ℕ} 0 1 = cc in omega arith)
@@ -35,9 +35,9 @@ module _ (ties : List Tie) (s : List ℕ) (id st sz : ℕ) (row : Row) (re : row
           let c : v ≡ valueAs (r .kind) id (part s st sz) = ve ∙ (λ i. valueAs (b i) id (be i)) in
           λ i. property (a i) (c i) (prop id st sz)
 
-  pub shown-untied : (code : ℕ) → row ≡ Row.Untied → code ≡ bitOr 0x8000 id → v ≡ storedValue id bytes → property code v (prop id st sz) ≡ shownIn ties s (prop id st sz)
+  pub shown-untied : {code : ℕ} → row ≡ Row.Untied → code ≡ bitOr 0x8000 id → v ≡ storedValue id bytes → property code v (prop id st sz) ≡ shownIn ties s (prop id st sz)
   unfolding shownIn asRow
-  shown-untied code k ce ve = go (find (isTied id) ties) (sym re ∙ k)
+  shown-untied {code = code} k ce ve = go (find (isTied id) ties) (sym re ∙ k)
     where
       go : (o : Option Tie) → asRow o ≡ Row.Untied → property code v (prop id st sz) ≡ shown s (prop id st sz) o
       go none e =
@@ -45,7 +45,7 @@ module _ (ties : List Tie) (s : List ℕ) (id st sz : ℕ) (row : Row) (re : row
           λ i. property (ce i) (c i) (prop id st sz)
       go (some r) e = absurd (let z : _≡_ {A = ℕ} 0 1 = cc in omega arith)
 
--- ---- the mark 6 is told of UTF-16 alone
+-- ---- only UTF-16 is marked as text
 six-else : (c : Bool) (x y : Value) → (x .mark ≡ 6 → ⊥) → (y .mark ≡ 6 → ⊥) → cond c x y .mark ≡ 6 → ⊥
 six-else true x y hx hy e = hx e
 six-else false x y hx hy e = hy e
@@ -74,15 +74,15 @@ value-six kind id b = go (ltb 0xBC id) (eqb kind 1) (isUtf16 b)
     go true false z e = absurd (none-else e)
     go false y z e = absurd (none-else e)
 
-pub shown-six : (ties : List Tie) (s : List ℕ) (id st sz : ℕ) (p : Property) → p ≡ shownIn ties s (prop id st sz) → p .value .mark ≡ 6 → isUtf16 (part s st sz) ≡ true
+pub shown-six : (ties : List Tie) (s : List ℕ) (id st sz : ℕ) {p : Property} → p ≡ shownIn ties s (prop id st sz) → p .value .mark ≡ 6 → isUtf16 (part s st sz) ≡ true
 unfolding shownIn
-shown-six ties s id st sz p pe e = go (find (isTied id) ties) (ap (λ q. q .value .mark) (sym pe) ∙ e)
+shown-six ties s id st sz pe e = go (find (isTied id) ties) (ap (λ q. q .value .mark) (sym pe) ∙ e)
   where
     go : (o : Option Tie) → shown s (prop id st sz) o .value .mark ≡ 6 → isUtf16 (part s st sz) ≡ true
     go none e = absurd (stored-not-six id (part s st sz) e)
     go (some r) e = value-six (r .kind) id (part s st sz) e
 
-module _ (s : List ℕ) (st sz : ℕ) (bytes : List ℕ) (be : bytes ≡ part s st sz) (b : Bool) (u : b ≡ isUtf16 bytes) where
+module _ (s : List ℕ) (st sz : ℕ) {bytes : List ℕ} (be : bytes ≡ part s st sz) {b : Bool} (u : b ≡ isUtf16 bytes) where
   picked : nameAt s st sz ≡ cond b (Name.Text st sz) Name.Numbered
   picked = ap (λ c. cond c (Name.Text st sz) Name.Numbered) (sym (u ∙ ap isUtf16 be))
 
@@ -92,7 +92,7 @@ module _ (s : List ℕ) (st sz : ℕ) (bytes : List ℕ) (be : bytes ≡ part s 
   pub name-numbered : b ≡ false → Name.Numbered ≡ nameAt s st sz
   name-numbered k = sym (picked ∙ ap (λ c. cond c (Name.Text st sz) Name.Numbered) k)
 
--- bytes behind a length that a row of kind 1 ties are text where they are UTF-16
+-- bytes with a length that a row of kind 1 ties are text where they are UTF-16
 pub plain-text : (kind id : ℕ) (bytes b : List ℕ) → bytes ≡ b → 0xBC < id → kind ≡ 1 → isUtf16 bytes ≡ true → value 6 0 0 ≡ valueAs kind id b
 unfolding valueAs
 plain-text kind id bytes b be h k u =

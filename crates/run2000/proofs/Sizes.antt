@@ -14,14 +14,15 @@ use Rattle.rules.proofs.ListLaws.{Every, every-if, every-then, every-at}
 use Rattle.propvalue.specs.Sized.{Sized}
 use Rattle.walk2000.specs.Told as told
 use Rattle.walk2000.specs.declared.Spot.{Spot}
+use Rattle.run2000.specs.Runs.{Sound}
 use Rattle.run2000.proofs.RunSteps.{property-is}
 
 abbrev Fit : ℕ → ℕ × ℕ → Type 0
 Fit id x = Sized id (x .1)
 
-behind-length : (id : ℕ) (o : Option (ℕ × ℕ)) → 0xBC < id → Every (Fit id) o
-behind-length id none h = tt
-behind-length id (some x) h = record { one = λ l m. omega arith; two = λ l m. omega arith; four = λ l m. omega arith }
+with-length : (id : ℕ) (o : Option (ℕ × ℕ)) → 0xBC < id → Every (Fit id) o
+with-length id none h = tt
+with-length id (some x) h = record { one = λ l m. omega arith; two = λ l m. omega arith; four = λ l m. omega arith }
 
 extent-sized : (s : List ℕ) (id p : ℕ) → Every (Fit id) (extentAt s id p)
 unfolding extentAt
@@ -29,7 +30,7 @@ extent-sized s id p =
     every-if (Fit id) (leb id 0x2F) _ _ (λ t. let h : id ≤ 0x2F = leb-true _ _ t in record { one = λ l m. omega arith; two = λ l m. omega arith; four = λ l m. omega arith }) λ _.
     every-if (Fit id) (leb id 0x5F) _ _ (λ t. let h : id ≤ 0x5F = leb-true _ _ t in record { one = λ l m. omega arith; two = λ l m. omega arith; four = λ l m. omega arith }) λ _.
     every-if (Fit id) (leb id 0x7F) _ _ (λ t. let h : id ≤ 0x7F = leb-true _ _ t in record { one = λ l m. omega arith; two = λ l m. omega arith; four = λ l m. omega arith }) λ _.
-    every-if (Fit id) (leb id 0xBC) _ _ (λ _. record { one = λ l m. omega arith; two = λ l m. omega arith; four = λ l m. omega arith }) λ t. behind-length id (lengthAt s p) (leb-false _ _ t)
+    every-if (Fit id) (leb id 0xBC) _ _ (λ _. record { one = λ l m. omega arith; two = λ l m. omega arith; four = λ l m. omega arith }) λ t. with-length id (lengthAt s p) (leb-false _ _ t)
 
 property-sized : (s : List ℕ) (p : ℕ) → Every (λ q. Sized (byte s p) (q .size)) (propertyAt s p)
 unfolding propertyAt
@@ -40,7 +41,7 @@ property-sized s p =
 pub value-sized : (s : List ℕ) (p : ℕ) (r : Spot) (st sz : ℕ) → r ≡ told.spot (propertyAt s p) → r ≡ Spot.At st sz → Sized (byte s p) sz
 value-sized s p r st sz e k = every-at (λ q. Sized (byte s p) (q .size)) (propertyAt s p) _ (property-sized s p) (property-is s p r st sz e k)
 
-pub bytes-sized : (id : ℕ) (s : List ℕ) (st sz : ℕ) (bytes : List ℕ) → bytes ≡ part s st sz → st + sz ≤ length s → Sized id sz → Sized id (length bytes)
-bytes-sized id s st sz bytes be h z =
-    let e : length bytes ≡ sz = ap length be ∙ length-take-le sz (drop st s) (omega (arith, length-drop st s)) in
-    rw e z
+pub bytes-sized : {id : ℕ} {s : List ℕ} {st sz : ℕ} {bytes : List ℕ} → bytes ≡ part s st sz → Sound s id st sz → Sized id (length bytes)
+bytes-sized {s = s} {st = st} {sz = sz} {bytes = bytes} be h =
+    let e : length bytes ≡ sz = ap length be ∙ length-take-le sz (drop st s) (omega (arith, h .inside, length-drop st s)) in
+    rw e (h .sized)

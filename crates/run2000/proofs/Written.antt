@@ -18,9 +18,9 @@ pub record RunOf (f : Prop → Property) (x : List Prop × ℕ) (old : List ℕ)
   pub row-is : row ≡ first + length (x .0)
   pub next-is : next ≡ x .1
 
-pub run-written : (f : Prop → Property) (o : Option (List Prop × ℕ)) (x : List Prop × ℕ) (old : List ℕ) (first : ℕ) (new : List ℕ) (row next : ℕ)
+pub run-written : {f : Prop → Property} {o : Option (List Prop × ℕ)} {x : List Prop × ℕ} {old : List ℕ} {first : ℕ} {new : List ℕ} {row next : ℕ}
     → o ≡ some x → some (ran new row next) ≡ runAct f o old first → RunOf f x old first new row next
-run-written f o x old first new row next oe e =
+run-written {f = f} {x = x} {old = old} {first = first} {new = new} {row = row} {next = next} oe e =
     let k : some (ran new row next) ≡ some (ran (writeProperties (map f (x .0)) old first) (first + length (x .0)) (x .1)) = e ∙ ap (λ z. runAct f z old first) oe in
     let z : ran new row next ≡ ran (writeProperties (map f (x .0)) old first) (first + length (x .0)) (x .1) = cc in
     record { rows = ap (λ r. r .rows) z; row-is = ap (λ r. r .row) z; next-is = ap (λ r. r .next) z }

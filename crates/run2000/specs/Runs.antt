@@ -1,5 +1,5 @@
 -- What the functions that write a run of an Access 2000 stream ask and do.
-use Prim.Native.Nat.{ℕ, _+_, _*_, _≤_}
+use Prim.Native.Nat.{ℕ, _+_, _*_, _≤_, _<_}
 use mathlib.Core.Path.{_≡_}
 use mathlib.Core.Bool.{true, cond}
 use mathlib.Core.List.{List, map}
@@ -23,6 +23,7 @@ use Rattle.rows.specs.Acts.{Held}
 use Rattle.coderows.specs.Look.{Sorted, bodyRows}
 use Rattle.coderows.specs.declared.Body.{Body}
 use Rattle.run2000.specs.declared.Naming.{Naming}
+use Rattle.run2000.specs.declared.RunRows.{RunRows}
 
 -- ---- a property, and a run of them
 abbrev pub prop : ℕ → ℕ → ℕ → Prop
@@ -32,6 +33,11 @@ prop id start size = record { id = id; start = start; size = size }
 unfoldable pub shownIn : List Tie → List ℕ → Prop → Property
 shownIn ties s q = shown s q (find (isTied (q .id)) ties)
 
+-- a value within the stream, as long as its id tells
+pub record Sound (s : List ℕ) (id start size : ℕ) : Type 0 where
+  pub inside : start + size ≤ length s
+  pub sized : Sized id size
+
 -- a value within a stream that isn't too long, as long as its id tells, and the rows that tie its id
 pub record Inside (t : List ℕ) (body : Body) (s : List ℕ) (id start size : ℕ) : Type 0 where
   pub small : length s ≤ longest
@@ -39,7 +45,7 @@ pub record Inside (t : List ℕ) (body : Body) (s : List ℕ) (id start size : �
   pub inside : start + size ≤ length s
   pub sized : Sized id size
 
--- the property rows at exit, the row behind the last, and the place behind the run
+-- the property rows at exit, the row after the last, and the place after the run
 pub record Ran : Type 0 where
   pub rows : List ℕ
   pub row : ℕ
@@ -55,10 +61,12 @@ runAct f (some x) rows first = some (ran (writeProperties (map f (x .0)) rows fi
 abbrev pub RunFits : List ℕ → ℕ → List Prop × ℕ → Type 0
 RunFits rows first x = (first + length (x .0)) * propertyWidth ≤ length rows
 
-pub record RunReady (t : List ℕ) (body : Body) (s : List ℕ) (at : ℕ) (rows : List ℕ) (first : ℕ) : Type 0 where
+-- the run at `at` fits from row `first` on, and no id that tells its value's size is wanted
+pub record RunReady (t : List ℕ) (body : Body) (s : List ℕ) (at : ℕ) (rows : List ℕ) (first wanted : ℕ) : Type 0 where
   pub small : length s ≤ longest
   pub sorted : Sorted (bodyRows t body)
   pub fits : Held (RunFits rows first) (runAt s at)
+  pub above : 0xBC < wanted
 
 -- ---- a name
 abbrev pub nameAt : List ℕ → ℕ → ℕ → Name
@@ -68,7 +76,7 @@ abbrev pub nameIn : List ℕ → ℕ → Option (List Prop × ℕ) → Name
 nameIn s id none = Numbered
 nameIn s id (some x) = nameBy s (find (λ q. eqb (q .id) id) (x .0))
 
--- a value within the stream whose mark is 6 only where it is UTF-16
+-- a value within the stream that is marked as text only where it is UTF-16
 pub record NameReady (s : List ℕ) (mark start size : ℕ) : Type 0 where
   pub small : length s ≤ longest
   pub inside : start + size ≤ length s
@@ -76,3 +84,11 @@ pub record NameReady (s : List ℕ) (mark start size : ℕ) : Type 0 where
 
 abbrev pub nextName : List ℕ → ℕ → ℕ → ℕ → Naming → Naming
 nextName s id start size n = cond (eqb id (n .wanted)) (record { name = nameAt s start size; wanted = 0xFF }) n
+
+abbrev pub runRows : ℕ → ℕ → Naming → RunRows
+runRows at row n = record { at = at; row = row; name = n .name }
+
+-- at exit the run's rows are written, by the rows of its scope, and its name is that of the first with the id that is wanted
+pub record RunDone (t : List ℕ) (body : Body) (s : List ℕ) (at : ℕ) (rows : List ℕ) (first wanted : ℕ) (rows′ : List ℕ) (r : RunRows) : Type 0 where
+  pub rows-are : some (ran rows′ (r .row) (r .at)) ≡ runAct (shownIn (bodyRows t body) s) (runAt s at) rows first
+  pub name-is : r .name ≡ nameIn s wanted (runAt s at)

@@ -14,19 +14,34 @@ use rules::Value;
 use walk2000::Spot;
 use walk2000::value;
 ghost use mathlib.Core.Path.{_≡_};
-ghost use mathlib.Core.Option.{some};
-ghost use Prim.Native.Nat.{_+_, _≤_, _<_};
+ghost use Prim.Native.Nat.{_+_, _≤_};
 ghost use lib.Bits.{bitOr};
 ghost use lib.ListN.{length};
 ghost use Rattle.coderows.specs.Look.{bodyRows};
-ghost use Rattle.propvalue.specs.Sized.{Sized};
 ghost use Rattle.rules.specs.Bytes.{part};
 ghost use Rattle.rules.specs.Value.{valueAs};
-ghost use Rattle.rules.specs.Access2000.{runAt};
 ghost use Rattle.run2000.specs.Runs as runs;
 
-// The place behind a run, the row behind its last, and the name that it holds.
-pub struct Rows {
+// The mark of a value that is text.
+const MARK_TEXT: u32 = 6;
+
+// The kind of a row that ties an id to text.
+const KIND_TEXT: u8 = 1;
+
+// Joined by OR to an id that the table doesn't tie.
+const UNMAPPED: u32 = 0x8000;
+
+// The last id that tells its value's size.
+const LAST_SIZED_ID: u8 = 0xBC;
+
+// The last id: what is above ends a run.
+const LAST_ID: u8 = 0xFC;
+
+// No property has this id.
+pub const NO_ID: u8 = 0xFF;
+
+// The place after a run, the row after its last, and the name that it holds.
+pub struct RunRows {
     pub at: usize,
     pub row: usize,
     pub name: Name,
@@ -47,24 +62,24 @@ fn part(s: &[u8], start: usize, size: usize) -> &[u8]
 }
 
 // A mark or a prefix joined by OR with a code.
-pub fn join(mark: u32, code: u32) -> u32
+pub fn bit_or(mark: u32, code: u32) -> u32
     ensures { λ r. ⌜ r ≡ bitOr mark code ⌝ }
 {
     mark | code
 }
 
-// The value of a tied id. What is most often met, a value whose size the id tells or plain text, is told here; the rest by value_as.
-fn tied_value(s: &[u8], kind: u8, id: u8, start: usize, size: usize) -> Value
-    requires { ⌜ (start + size ≤ length (now s)) × Sized id size ⌝ }
+// The value of an id that a row of this kind ties. What is most often met, a value whose size the id tells or plain text, is told here; the rest by value_as.
+fn value_by_kind(s: &[u8], kind: u8, id: u8, start: usize, size: usize) -> Value
+    requires { ⌜ runs.Sound (now s) id start size ⌝ }
     ensures { λ r. ⌜ r ≡ valueAs kind id (part (now (s .entry)) start size) ⌝ }
 {
-    if id <= 0xBC {
+    if id <= LAST_SIZED_ID {
         return told_value(id, part(s, start, size));
     }
-    if kind == 1 {
+    if kind == KIND_TEXT {
         if is_plain(part(s, start, size)) {
             return Value {
-                mark: 6,
+                mark: MARK_TEXT,
                 low: 0,
                 high: 0,
             };
@@ -89,12 +104,12 @@ fn property(
     match find_row(table, hints, body, id) {
         Row::Tied { target, kind } => Property {
             id: target as u32,
-            value: tied_value(s, kind, id, start, size),
+            value: value_by_kind(s, kind, id, start, size),
             start: start as u32,
             size: size as u32,
         },
         Row::Untied => Property {
-            id: join(0x8000, id as u32),
+            id: bit_or(UNMAPPED, id as u32),
             value: stored_value(id, part(s, start, size)),
             start: start as u32,
             size: size as u32,
@@ -102,12 +117,12 @@ fn property(
     }
 }
 
-// The name that a property holds whose value was read with this mark: 6 is told of UTF-16 alone.
+// The name that a property holds whose value was read with this mark: only UTF-16 is marked as text.
 fn name_at(s: &[u8], mark: u32, start: usize, size: usize) -> Name
     requires { ⌜ runs.NameReady (now s) mark start size ⌝ }
     ensures { λ r. ⌜ r ≡ runs.nameAt (now (s .entry)) start size ⌝ }
 {
-    if mark == 6 {
+    if mark == MARK_TEXT {
         return Name::Text {
             start: start as u32,
             size: size as u32,
@@ -131,20 +146,20 @@ fn next_name(so_far: Naming, s: &[u8], id: u8, mark: u32, start: usize, size: us
     if id == so_far.wanted {
         return Naming {
             name: name_at(s, mark, start, size),
-            wanted: 0xFF,
+            wanted: NO_ID,
         };
     }
     so_far
 }
 
-fn run_rows(at: usize, row: usize, naming: Naming) -> Rows
-    ensures { λ r. ⌜ (r .at ≡ at) × (r .row ≡ row) × (r .name ≡ naming .name) ⌝ }
+fn run_rows(at: usize, row: usize, naming: Naming) -> RunRows
+    ensures { λ r. ⌜ r ≡ runs.runRows at row naming ⌝ }
 {
     let name = naming.name;
-    Rows { at, row, name }
+    RunRows { at, row, name }
 }
 
-// Writes a row for each property of the run at `at`, from row `first` on; the name is that of the first property with the id `wanted`, which is one behind a length.
+// Writes a row for each property of the run at `at`, from row `first` on; the name is that of the first property with the id `wanted`, whose value has a length.
 pub fn properties(
     table: &[u8],
     hints: &mut [u8; 4352],
@@ -154,9 +169,9 @@ pub fn properties(
     rows: &mut [u32],
     first: usize,
     wanted: u8,
-) -> Rows
-    requires { ⌜ runs.RunReady (now table) body (now s) at (now rows) first × (0xBC < wanted) ⌝ }
-    ensures { λ r. ⌜ (some (runs.ran (now (rows .exit)) (r .row) (r .at)) ≡ runs.runAct (runs.shownIn (bodyRows (now (table .entry)) body) (now (s .entry))) (runAt (now (s .entry)) at) (now (rows .entry)) first) × (r .name ≡ runs.nameIn (now (s .entry)) wanted (runAt (now (s .entry)) at)) ⌝ }
+) -> RunRows
+    requires { ⌜ runs.RunReady (now table) body (now s) at (now rows) first wanted ⌝ }
+    ensures { λ r. ⌜ runs.RunDone (now (table .entry)) body (now (s .entry)) at (now (rows .entry)) first wanted (now (rows .exit)) r ⌝ }
 {
     let mut p = at;
     let mut n = first;
@@ -166,7 +181,7 @@ pub fn properties(
     };
     while p < s.len() {
         let id = s[p];
-        if 0xFD <= id {
+        if LAST_ID < id {
             return run_rows(p, n, naming);
         }
         let Spot::At { start, size } = value(s, p) else {
@@ -174,7 +189,7 @@ pub fn properties(
         };
         let shown = property(table, hints, body, s, id, start, size);
         let v = shown.value;
-        if 0xBC < id {
+        if LAST_SIZED_ID < id {
             naming = next_name(naming, s, id, v.mark, start, size);
         }
         put_property(rows, n, shown);

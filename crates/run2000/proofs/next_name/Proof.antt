@@ -6,13 +6,14 @@ use Rattle.run2000.specs.declared.Naming.{Naming}
 use Rattle.run2000.proofs.next_name.Statement.{statement}
 use Rattle.run2000.proofs.next_name.Tie as tie
 
--- a name, behind which none is wanted
+-- a name, after which none is wanted
 abbrev found : Name → Naming
 found x = record { name = x; wanted = 255 }
 
 returns : tie.Need-returns
 returns c =
-    let a = c .before .before .before .before .args in
+    let start : tie.Start = search in
+    let a = start .args in
     rw (eq-eqb (a .id) (a .so-far .wanted) (c .before .if1 .taken)) (ap found (c .name-at .ensures))
 
 returns-2 : tie.Need-returns-2

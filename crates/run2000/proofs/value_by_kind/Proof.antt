@@ -5,17 +5,17 @@ use Rattle.rules.specs.Value.{valueAs}
 use Rattle.propvalue.proofs.Values.{by-id}
 use Rattle.run2000.proofs.Sizes.{bytes-sized}
 use Rattle.run2000.proofs.Shows.{plain-text}
-use Rattle.run2000.proofs.tied_value.Statement.{statement}
-use Rattle.run2000.proofs.tied_value.Tie as tie
+use Rattle.run2000.proofs.value_by_kind.Statement.{statement}
+use Rattle.run2000.proofs.value_by_kind.Tie as tie
 
 told-value-requires : tie.Need-told-value-requires
 told-value-requires c κs =
-    let p = c .before .before .before .pre in
-    (omega arith, bytes-sized _ _ _ _ _ (c .part .ensures) (p .0) (p .1))
+    (omega arith, bytes-sized (c .part .ensures) (c .before .before .before .pre))
 
 returns : tie.Need-returns
 returns c =
-    let a = c .before .before .before .before .args in
+    let start : tie.Start = search in
+    let a = start .args in
     c .told-value .ensures ∙ sym (by-id (a .id) _ (a .kind) (omega arith)) ∙ ap (valueAs (a .kind) (a .id)) (c .before .part .ensures)
 
 returns-2 : tie.Need-returns-2
@@ -24,11 +24,12 @@ returns-2 c =
 
 returns-3 : tie.Need-returns-3
 returns-3 c =
-    let a = c .before .before .before .before .before .args in
+    let start : tie.Start = search in
+    let a = start .args in
     c .value-as .ensures ∙ ap (valueAs (a .kind) (a .id)) (c .before .part3 .ensures)
 
-pub tied-value-spec : {M : Type 1} → statement M
-tied-value-spec =
+pub value-by-kind-spec : {M : Type 1} → statement M
+value-by-kind-spec =
     tie.close
     (tie.spec
     (λ c κs. search needs)
