@@ -17,17 +17,20 @@ use Rattle.rules.specs.Access2000.{Prop, runAt}
 use Rattle.rules.specs.Reading.{nameWords, controlRow}
 use Rattle.rules.specs.Rows.{controlWidth}
 use Rattle.rules.specs.Read2000.{propertyIn, typeCode, isReport, nameId, nameOf, controlOf}
-use Rattle.rules.specs.declared.Name.{Name}
 use Rattle.rules.proofs.ListLaws.{Every, every-if, every-then}
 use Rattle.rows.specs.Put.{put}
 use Rattle.rows.specs.Writing.{State, state, theirs, writeProperties}
-use Rattle.rows.specs.Acts.{Held, Fit, stood}
+use Rattle.rows.specs.Acts.{Held, Fit, stateAt}
+use Rattle.rows.specs.declared.Next.{Next}
+use Rattle.rows.proofs.ActLaws.{at-place}
 use Rattle.rows.proofs.WritingLaws.{theirs-one, write-one}
 use Rattle.coderows.specs.Look.{Finds, bodyRows}
 use Rattle.coderows.specs.declared.Body.{Body}
-use Rattle.run2000.specs.Runs.{shownIn, ran, runAct, RunReady, nameIn}
+use Rattle.run2000.specs.Runs.{shownIn, RunReady, nameIn, RunDone}
+use Rattle.run2000.specs.declared.RunRows.{RunRows}
 use Rattle.run2000.proofs.Written.{RunOf, run-written, shown-same}
-use Rattle.node2000.specs.Nodes.{nodeAt, act, NodesReady}
+use Rattle.node2000.specs.Nodes.{nodeAt, act, NodeReady, NodeDone}
+use Rattle.node2000.proofs.Types.{name-id-above}
 
 -- ---- two bytes
 byte-is : (s : List ℕ) (p : ℕ) → Every (λ b. (b ≡ byte s p) × (p < length s)) (byteAt s p)
@@ -50,27 +53,28 @@ pub record NodeParts (t s : List ℕ) (p : ℕ) (st : State) : Type 0 where
   pub is : nodeAt s p ≡ some (node (u16 s p) props ∷ [], end)
   pub fit : Fit (controlOf t s (node (u16 s p) props) ∷ []) st
 
-pub node-parts : (t scopes s : List ℕ) (p : ℕ) (st : State) → NodesReady t scopes s (nodeAt s p) st → NodeParts t s p st
-unfolding nodeAt
-node-parts t scopes s p st h = go (halfAt s p) (runAt s (p + 2)) (half-is s p) refl refl (h .fits)
-  where
-    go : (a : Option ℕ) (b : Option (List Prop × ℕ)) → Every (λ n. (n ≡ u16 s p) × (p + 1 < length s)) a → runAt s (p + 2) ≡ b
-        → nodeAt s p ≡ (a >>= λ type. b >>= λ x. some (node type (x .0) ∷ [], x .1))
-        → Held {A = List (Node Prop) × ℕ} (λ x. Fit (map (controlOf t s) (x .0)) st) (a >>= λ type. b >>= λ x. some (node type (x .0) ∷ [], x .1)) → NodeParts t s p st
-    go none b e r n f = absurd f
-    go (some type) none e r n f = absurd f
-    go (some type) (some x) e r n f = record {
-      inside = e .1;
-      props = x .0;
-      end = x .1;
-      run = r;
-      is = n ∙ ap (λ k. some (node k (x .0) ∷ [], x .1)) (e .0);
-      fit = rw (e .0) at f;
-    }
+module _ {t scopes s controls rows : List ℕ} {from : Next} (h : NodeReady t scopes s controls rows from) where
+  abbrev at : ℕ
+  at = from .at
 
-module _ (t scopes s : List ℕ) (at : ℕ) (cs : List ℕ) (ci : ℕ) (ps : List ℕ) (pi : ℕ) (h : NodesReady t scopes s (nodeAt s at) (state cs ci ps pi)) where
-  parts : NodeParts t s at (state cs ci ps pi)
-  parts = node-parts t scopes s at (state cs ci ps pi) h
+  parts : NodeParts t s at (stateAt controls rows from)
+  unfolding nodeAt
+  parts = go (halfAt s at) (runAt s (at + 2)) (half-is s at) refl refl (h .ready .fits)
+    where
+      go : (a : Option ℕ) (b : Option (List Prop × ℕ)) → Every (λ n. (n ≡ u16 s at) × (at + 1 < length s)) a → runAt s (at + 2) ≡ b
+          → nodeAt s at ≡ (a >>= λ type. b >>= λ x. some (node type (x .0) ∷ [], x .1))
+          → Held {A = List (Node Prop) × ℕ} (λ x. Fit (map (controlOf t s) (x .0)) (stateAt controls rows from)) (a >>= λ type. b >>= λ x. some (node type (x .0) ∷ [], x .1))
+          → NodeParts t s at (stateAt controls rows from)
+      go none b e r n f = absurd f
+      go (some type) none e r n f = absurd f
+      go (some type) (some x) e r n f = record {
+        inside = e .1;
+        props = x .0;
+        end = x .1;
+        run = r;
+        is = n ∙ ap (λ k. some (node k (x .0) ∷ [], x .1)) (e .0);
+        fit = rw (e .0) at f;
+      }
 
   theirs-many : length (theirs (controlOf t s (node (u16 s at) (parts .props)) ∷ [])) ≡ length (parts .props)
   unfolding controlOf
@@ -79,44 +83,47 @@ module _ (t scopes s : List ℕ) (at : ℕ) (cs : List ℕ) (ci : ℕ) (ps : Lis
   pub node-inside : at + 1 < length s
   node-inside = parts .inside
 
-  pub node-row-room : ci * controlWidth + controlWidth ≤ length cs
+  pub node-row-room : from .control * controlWidth + controlWidth ≤ length controls
   node-row-room = omega (arith, parts .fit .room .controls)
 
-  pub node-small : (ci ≤ longest) × (pi ≤ longest)
+  pub node-small : (from .control ≤ longest) × (from .property ≤ longest)
   node-small = omega (arith, parts .fit .few)
 
-  module _ (kind : ℕ) (ke : kind ≡ u16 s at) (body : Body) (be : Finds t 2 kind body) where
-    pub node-run-ready : RunReady t body s (at + 2) ps pi
+  -- its type, the rows of its scope, and the id of its name
+  module _ {type : ℕ} (te : type ≡ u16 s at) {body : Body} (be : Finds t 2 type body) {id : ℕ} (ie : id ≡ nameId type) where
+    pub node-run-ready : RunReady t body s (at + 2) rows (from .property) id
     node-run-ready = record {
-      small = h .known .small;
-      sorted = be .sorted (h .known .formed);
+      small = h .ready .known .small;
+      sorted = be .sorted (h .ready .known .formed);
       fits = rw (parts .run) (omega (arith, parts .fit .room .properties, theirs-many));
+      above = name-id-above type id ie;
     }
 
-    module _ (ps′ : List ℕ) (row end : ℕ) (we : some (ran ps′ row end) ≡ runAct (shownIn (bodyRows t body) s) (runAt s (at + 2)) ps pi) where
-      ran-run : RunOf (shownIn (bodyRows t body) s) (parts .props, parts .end) ps pi ps′ row end
-      ran-run = run-written (shownIn (bodyRows t body) s) (runAt s (at + 2)) (parts .props, parts .end) ps pi ps′ row end (parts .run) we
+    module _ {rows′ : List ℕ} {own : RunRows} (done : RunDone t body s (at + 2) rows (from .property) id rows′ own) where
+      ran-run : RunOf (shownIn (bodyRows t body) s) (parts .props, parts .end) rows (from .property) rows′ (own .row) (own .at)
+      ran-run = run-written (parts .run) (done .rows-are)
 
-      pub node-rows : (pi ≤ row) × (row - pi ≤ longest)
+      pub node-rows : (from .property ≤ own .row) × (own .row - from .property ≤ longest)
       node-rows = omega (arith, ran-run .row-is, parts .fit .few, theirs-many)
 
-      pub node-done : (id : ℕ) (nm : Name) (report : Bool) (code : ℕ) (words cs′ : List ℕ)
-          → id ≡ nameId kind → nm ≡ nameIn s id (runAt s (at + 2)) → report ≡ isReport s → code ≡ typeCode (header t) report kind
-          → words ≡ code ∷ nameWords ci nm ++ (pi ∷ (row - pi) ∷ []) → cs′ ≡ put controlWidth cs ci (words ∷ [])
-          → some (stood cs′ (ci + 1) ps′ row end) ≡ act t s (nodeAt s at) (state cs ci ps pi)
+      pub node-done : {report : Bool} {code : ℕ} {words controls′ : List ℕ} → report ≡ isReport s → code ≡ typeCode (header t) report type
+          → words ≡ code ∷ nameWords (from .control) (own .name) ++ (from .property ∷ (own .row - from .property) ∷ []) → controls′ ≡ put controlWidth controls (from .control) (words ∷ [])
+          → NodeDone t s controls rows from controls′ rows′ (record { at = own .at; control = from .control + 1; property = own .row })
       unfolding controlOf controlRow nameOf
-      node-done id nm report code words cs′ ie ne be′ ce we′ xe =
+      node-done {report = report} {code = code} {words = words} {controls′ = controls′} re ce we xe =
+          let ci = from .control in
+          let pi = from .property in
           let c = controlOf t s (node (u16 s at) (parts .props)) in
-          let f : shownIn (bodyRows t body) s ≡ propertyIn t s (record { kind = 2; code = u16 s at }) = shown-same t s 2 kind body (h .known .formed) be ∙ ap (λ k. propertyIn t s (record { kind = 2; code = k })) ke in
-          let n : nm ≡ c .name = ne ∙ ap (λ k. nameIn s k (runAt s (at + 2))) ie ∙ (λ i. nameIn s (nameId (ke i)) (parts .run i)) in
-          let d : code ≡ c .type = ce ∙ (λ i. typeCode (header t) (be′ i) (ke i)) in
+          let f : shownIn (bodyRows t body) s ≡ propertyIn t s (record { kind = 2; code = u16 s at }) = shown-same t s 2 type body (h .ready .known .formed) be ∙ ap (λ k. propertyIn t s (record { kind = 2; code = k })) te in
+          let n : own .name ≡ c .name = done .name-is ∙ ap (λ k. nameIn s k (runAt s (at + 2))) ie ∙ (λ i. nameIn s (nameId (te i)) (parts .run i)) in
+          let d : code ≡ c .type = ce ∙ (λ i. typeCode (header t) (re i) (te i)) in
           let l : length (c .properties) ≡ length (parts .props) = simp length-map in
-          let m : row - pi ≡ length (c .properties) = omega (arith, ran-run .row-is, l) in
-          let r : row ≡ pi + length (c .properties) = omega (arith, ran-run .row-is, l) in
-          let w : words ≡ controlRow ci pi c = we′ ∙ (λ i. d i ∷ nameWords ci (n i) ++ (pi ∷ m i ∷ [])) in
-          let x : cs′ ≡ put controlWidth cs ci (controlRow ci pi c ∷ []) = xe ∙ ap (λ z. put controlWidth cs ci (z ∷ [])) w in
-          let y : ps′ ≡ writeProperties (c .properties) ps pi = ran-run .rows ∙ ap (λ g. writeProperties (map g (parts .props)) ps pi) f in
-          let e : end ≡ parts .end = ran-run .next-is in
-          (λ i. some (stood (x i) (ci + 1) (y i) (r i) (e i)))
-          ∙ ap (λ (st : State). some (record { state = st; next = parts .end })) (sym (write-one c (state cs ci ps pi)))
-          ∙ ap (λ o. act t s o (state cs ci ps pi)) (sym (parts .is))
+          let m : own .row - pi ≡ length (c .properties) = omega (arith, ran-run .row-is, l) in
+          let r : own .row ≡ pi + length (c .properties) = omega (arith, ran-run .row-is, l) in
+          let w : words ≡ controlRow ci pi c = we ∙ (λ i. d i ∷ nameWords ci (n i) ++ (pi ∷ m i ∷ [])) in
+          let x : controls′ ≡ put controlWidth controls ci (controlRow ci pi c ∷ []) = xe ∙ ap (λ z. put controlWidth controls ci (z ∷ [])) w in
+          let y : rows′ ≡ writeProperties (c .properties) rows pi = ran-run .rows ∙ ap (λ g. writeProperties (map g (parts .props)) rows pi) f in
+          let e : own .at ≡ parts .end = ran-run .next-is in
+          (λ i. some (at-place (state (x i) (ci + 1) (y i) (r i)) (e i)))
+          ∙ ap (λ (st : State). some (at-place st (parts .end))) (sym (write-one c (stateAt controls rows from)))
+          ∙ ap (λ o. act t s o (stateAt controls rows from)) (sym (parts .is))

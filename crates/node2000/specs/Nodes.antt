@@ -13,7 +13,8 @@ use Rattle.rules.specs.Tree.{node}
 use Rattle.rules.specs.Access2000.{Prop, runAt}
 use Rattle.rules.specs.Read2000.{controlOf}
 use Rattle.rows.specs.Writing.{State}
-use Rattle.rows.specs.Acts.{Nodes, Stood, actBy, Ready}
+use Rattle.rows.specs.Acts.{Nodes, Stood, stateAt, stoodAt, actBy, Ready}
+use Rattle.rows.specs.declared.Next.{Next}
 use Rattle.coderows.specs.Look.{Listed}
 
 -- an entry without its list
@@ -34,3 +35,11 @@ pub record Given (t scopes s : List ℕ) : Type 0 where
 
 abbrev pub NodesReady : List ℕ → List ℕ → List ℕ → Nodes Prop → State → Type 0
 NodesReady t scopes s o st = Ready (Given t scopes s) (controlOf t s) o st
+
+-- the entry at a cursor could be read, and its rows fit from there on
+pub record NodeReady (t scopes s controls rows : List ℕ) (from : Next) : Type 0 where
+  pub ready : NodesReady t scopes s (nodeAt s (from .at)) (stateAt controls rows from)
+
+-- at exit its rows are written, and r stands after its run
+abbrev pub NodeDone : (t s controls rows : List ℕ) → Next → (controls′ rows′ : List ℕ) → Next → Type 0
+NodeDone t s controls rows from controls′ rows′ r = some (stoodAt controls′ rows′ r) ≡ act t s (nodeAt s (from .at)) (stateAt controls rows from)

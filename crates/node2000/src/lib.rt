@@ -7,73 +7,97 @@ use rows::Next;
 use rows::control_row;
 use rows::is_section;
 use rows::put_control;
-use run2000::join;
+use run2000::bit_or;
 use run2000::properties;
 ghost use mathlib.Core.Path.{_≡_};
 ghost use mathlib.Core.Bool.{cond};
-ghost use mathlib.Core.Option.{some};
 ghost use Rattle.rules.specs.CodeTable.{header};
 ghost use Rattle.rules.specs.Read2000.{isReport, typeCode, nameId};
-ghost use Rattle.rows.specs.Writing.{state};
-ghost use Rattle.rows.specs.Acts.{stood};
 ghost use Rattle.node2000.specs.Nodes as nodes;
 
-fn name_id(kind: u16) -> u8
-    ensures { λ r. ⌜ r ≡ nameId kind ⌝ }
+// The kind of an entry's scope.
+const SCOPE_ENTRY: u8 = 2;
+
+// The id under which the name of a section stands, and of any other control.
+const SECTION_NAME_ID: u8 = 0xDF;
+
+const CONTROL_NAME_ID: u8 = 0xDC;
+
+// Which byte tells a report, and by which value.
+const OBJECT_BYTE: usize = 8;
+
+const REPORT: u8 = 0x97;
+
+// Joined by OR to a header code, of a form and of a report.
+const FORM_HEADER: u32 = 0x1800;
+
+const REPORT_HEADER: u32 = 0x1900;
+
+fn name_id(entry_type: u16) -> u8
+    ensures { λ r. ⌜ r ≡ nameId «entry_type» ⌝ }
 {
-    if is_section(kind as usize) {
-        0xDF
+    if is_section(entry_type as usize) {
+        SECTION_NAME_ID
     } else {
-        0xDC
+        CONTROL_NAME_ID
     }
 }
 
 pub fn is_report(s: &[u8]) -> bool
     ensures { λ r. ⌜ r ≡ isReport (now (s .entry)) ⌝ }
 {
-    byte_at(s, 8) == 0x97
+    byte_at(s, OBJECT_BYTE) == REPORT
 }
 
 fn header_mark(report: bool) -> u32
     ensures { λ r. ⌜ r ≡ cond report 0x1900 0x1800 ⌝ }
 {
-    if report { 0x1900 } else { 0x1800 }
+    if report { REPORT_HEADER } else { FORM_HEADER }
 }
 
-fn type_code(table: &[u8], report: bool, kind: u16) -> u32
-    ensures { λ r. ⌜ r ≡ typeCode (header (now (table .entry))) report kind ⌝ }
+fn type_code(table: &[u8], report: bool, entry_type: u16) -> u32
+    ensures { λ r. ⌜ r ≡ typeCode (header (now (table .entry))) report «entry_type» ⌝ }
 {
-    if is_header(table, kind) {
-        return join(header_mark(report), kind as u32);
+    if is_header(table, entry_type) {
+        return bit_or(header_mark(report), entry_type as u32);
     }
-    kind as u32
+    entry_type as u32
 }
 
-// Writes the entry at `at` without its list: its property rows, and its control row.
+// Writes the entry at a cursor without its list: its property rows, and its control row.
 pub fn put_node(
     table: &[u8],
     hints: &mut [u8; 4352],
     scopes: &[u32; 192],
     s: &[u8],
-    at: usize,
     controls: &mut [u32],
-    c: usize,
     rows: &mut [u32],
-    p: usize,
+    from: Next,
 ) -> Next
-    requires { ⌜ nodes.NodesReady (now table) (now scopes) (now s) (nodes.nodeAt (now s) at) (state (now controls) c (now rows) p) ⌝ }
-    ensures { λ r. ⌜ some (stood (now (controls .exit)) (r .control) (now (rows .exit)) (r .property) (r .at)) ≡ nodes.act (now (table .entry)) (now (s .entry)) (nodes.nodeAt (now (s .entry)) at) (state (now (controls .entry)) c (now (rows .entry)) p) ⌝ }
+    requires { ⌜ nodes.NodeReady (now table) (now scopes) (now s) (now controls) (now rows) from ⌝ }
+    ensures { λ r. ⌜ nodes.NodeDone (now (table .entry)) (now (s .entry)) (now (controls .entry)) (now (rows .entry)) from (now (controls .exit)) (now (rows .exit)) r ⌝ }
 {
-    let kind = u16_at(s, at);
-    let run = at + 2;
-    let body = find_scope(table, hints, scopes, 2, kind);
-    let own = properties(table, hints, body, s, run, rows, p, name_id(kind));
+    let at = from.at;
+    let n = from.control;
+    let first = from.property;
+    let entry_type = u16_at(s, at);
+    let body = find_scope(table, hints, scopes, SCOPE_ENTRY, entry_type);
+    let own = properties(
+        table,
+        hints,
+        body,
+        s,
+        at + 2,
+        rows,
+        first,
+        name_id(entry_type),
+    );
     let next = own.row;
-    let named = own.name;
-    let code = type_code(table, is_report(s), kind);
-    let row = control_row(code, named, c as u32, p as u32, (next - p) as u32);
-    let below = c + 1;
-    put_control(controls, c, row);
+    let name = own.name;
+    let code = type_code(table, is_report(s), entry_type);
+    let row = control_row(code, name, n as u32, first as u32, (next - first) as u32);
+    let below = n + 1;
+    put_control(controls, n, row);
     Next {
         at: own.at,
         control: below,
