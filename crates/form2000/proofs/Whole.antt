@@ -2,7 +2,6 @@
 use Prim.Native.Nat.{ℕ, _+_, _≤_}
 use native.Mathlib.Omega.{arith}
 use mathlib.Core.Path.{_≡_, refl, sym, ap, _∙_}
-use mathlib.Core.Bool.{true}
 use mathlib.Core.List.{List, map}
 use mathlib.Core.Option.{Option, none, some}
 use lib.Dec.{eqb}
@@ -10,33 +9,33 @@ use lib.ListN.{length, length-map}
 use borrow.Author.Tests.{eqb-true}
 use Rattle.rules.specs.Lists.{concat}
 use Rattle.rules.specs.Answer.{refusal, longest, noReading}
-use Rattle.rules.specs.CodeTable.{wellFormed}
 use Rattle.rules.specs.Tree.{Entries, reported, nodesOf, levels}
 use Rattle.rules.specs.Access2000.{Prop, runAt, headAt, entriesAt, streamOf}
 use Rattle.rules.specs.Rows.{controlWidth, propertyWidth, room}
 use Rattle.rules.specs.Read2000.{objectPlace, propertyIn, controlOf, read2000}
-use Rattle.rules.specs.Blob.{readBy}
 use Rattle.rules.specs.declared.Answer.{Answer}
 use Rattle.rules.proofs.ListLaws.{none-some, Every, every-if, every-when, every-at}
 use Rattle.rows.specs.Counting.{size, props, propsIn}
 use Rattle.rows.specs.Writing.{state, writeProperties}
-use Rattle.rows.specs.Acts.{topNodes, Held, stood}
+use Rattle.rows.specs.Acts.{topNodes, Held, stateAt}
+use Rattle.rows.specs.declared.Next.{Next}
 use Rattle.rows.proofs.LevelLaws.{EntriesGrow, fewer}
 use Rattle.rows.proofs.CountingLaws as counting
 use Rattle.rows.proofs.WritingLaws.{properties-length}
-use Rattle.judge.specs.Judge.{Counts, Judged, Roomy, Exits}
-use Rattle.judge.proofs.JudgeLaws.{exits-refused, roomy, exits-read, made-counts, made-fit, made-written}
+use Rattle.rows.specs.Judge.{Counts, Answerable, Judged, Roomy}
+use Rattle.rows.proofs.JudgeLaws.{exits-refused, roomy, exits-read, made-counts, made-fit, made-written}
 use Rattle.coderows.specs.Look.{Listed, Finds, bodyRows}
 use Rattle.coderows.specs.declared.Body.{Body}
 use Rattle.walk2000.specs.Told as walked
 use Rattle.count2000.specs.Told as told
 use Rattle.walk2000.specs.declared.Opens.{Opens}
-use Rattle.count2000.specs.declared.Counted.{Counted}
+use Rattle.count2000.specs.declared.StreamTally.{StreamTally}
 use Rattle.walk2000.proofs.Inverse.{opens-plain, opens-listed, opens-bad}
 use Rattle.walk2000.proofs.Grows.{run-grows, head-grows, entries-grow}
-use Rattle.run2000.specs.Runs.{shownIn, ran, runAct, RunReady}
-use Rattle.node2000.specs.Nodes.{act, NodesReady}
-use Rattle.form2000.specs.Acts.{StreamReady, StreamDone}
+use Rattle.run2000.specs.Runs.{shownIn, RunReady, RunDone}
+use Rattle.run2000.specs.declared.RunRows.{RunRows}
+use Rattle.node2000.specs.Nodes.{act}
+use Rattle.form2000.specs.Acts.{TopReady, TopDone, StreamReady, StreamDone, ReadReady, Reads}
 use Rattle.run2000.proofs.Written.{RunOf, run-written, shown-same}
 
 -- ---- the parts of a stream
@@ -100,24 +99,26 @@ known t s controls rows h = go (streamOf s) refl (h .fits)
     go none e k = absurd k
     go (some x) e k = record { tree = x; reads = e; fits = k }
 
-module _ (t s controls rows : List ℕ) (h : StreamReady t s controls rows) where
+module _ {t s controls rows : List ℕ} (h : StreamReady t s controls rows) where
   is : Known t s controls rows
   is = known t s controls rows h
 
   parts : StreamParts s (is .tree)
   parts = every-at (StreamParts s) (streamOf s) (is .tree) (stream-parts s) (is .reads)
 
-  module _ (kind : ℕ) (ke : kind ≡ objectPlace s .kind) (body : Body) (be : Finds t kind 0 body) where
-    pub own-ready : RunReady t body s 10 rows 0
+  -- the object's scope, and the rows of it
+  module _ {kind : ℕ} (ke : kind ≡ objectPlace s .kind) {body : Body} (be : Finds t kind 0 body) where
+    pub own-ready : RunReady t body s 10 rows 0 0xFF
     own-ready = record {
       small = h .small;
       sorted = be .sorted (h .formed);
       fits = rw (parts .run) (omega (arith, is .fits .properties, counts t s (is .tree) .properties-are));
+      above = omega arith;
     }
 
-    module _ (rows′ : List ℕ) (row end : ℕ) (we : some (ran rows′ row end) ≡ runAct (shownIn (bodyRows t body) s) (runAt s 10) rows 0) where
-      own-run : RunOf (shownIn (bodyRows t body) s) (is .tree .0, parts .place) rows 0 rows′ row end
-      own-run = run-written (shownIn (bodyRows t body) s) (runAt s 10) (is .tree .0, parts .place) rows 0 rows′ row end (parts .run) we
+    module _ {rows′ : List ℕ} {own : RunRows} (done : RunDone t body s 10 rows 0 0xFF rows′ own) where
+      own-run : RunOf (shownIn (bodyRows t body) s) (is .tree .0, parts .place) rows 0 rows′ (own .row) (own .at)
+      own-run = run-written (parts .run) (done .rows-are)
 
       own-rows : rows′ ≡ writeProperties (read2000 t s (is .tree) .own) rows 0
       unfolding read2000 objectPlace
@@ -125,25 +126,26 @@ module _ (t s controls rows : List ℕ) (h : StreamReady t s controls rows) wher
           let f : shownIn (bodyRows t body) s ≡ propertyIn t s (objectPlace s) = shown-same t s kind 0 body (h .formed) be ∙ ap (λ k. propertyIn t s (record { kind = k; code = 0 })) ke in
           own-run .rows ∙ ap (λ g. writeProperties (map g (is .tree .0)) rows 0) f
 
-      module _ (o : Opens) (oe : o ≡ walked.head (headAt s end)) where
-        head-is : headAt s end ≡ some (some (parts .many), parts .first)
+      -- what stands after the object's run
+      module _ {o : Opens} (oe : o ≡ walked.head (headAt s (own .at))) where
+        head-is : headAt s (own .at) ≡ some (some (parts .many), parts .first)
         head-is = ap (headAt s) (own-run .next-is) ∙ parts .head
 
-        pub write-plain : (e : ℕ) → o ≡ Opens.Plain e → ⊥
-        write-plain e k =
-            let z : _≡_ {A = Option (Option ℕ × ℕ)} (some (none, e)) (some (some (parts .many), parts .first)) = sym (opens-plain (headAt s end) o e oe k) ∙ head-is in
+        pub write-plain : {e : ℕ} → o ≡ Opens.Plain e → ⊥
+        write-plain {e = e} k =
+            let z : _≡_ {A = Option (Option ℕ × ℕ)} (some (none, e)) (some (some (parts .many), parts .first)) = sym (opens-plain (headAt s (own .at)) o e oe k) ∙ head-is in
             let w : _≡_ {A = Option ℕ × ℕ} (none, e) (some (parts .many), parts .first) = cc in
             none-some (ap (λ v. v .0) w)
 
         pub write-bad : o ≡ Opens.Bad → ⊥
         write-bad k =
-            let z : _≡_ {A = Option (Option ℕ × ℕ)} none (some (some (parts .many), parts .first)) = sym (opens-bad (headAt s end) o oe k) ∙ head-is in
+            let z : _≡_ {A = Option (Option ℕ × ℕ)} none (some (some (parts .many), parts .first)) = sym (opens-bad (headAt s (own .at)) o oe k) ∙ head-is in
             none-some z
 
-        module _ (n next : ℕ) (k : o ≡ Opens.Listed n next) where
+        module _ {n next : ℕ} (k : o ≡ Opens.Listed n next) where
           list-is : entriesAt levels s n next ≡ some (is .tree .1, length s)
           list-is =
-              let z : _≡_ {A = Option (Option ℕ × ℕ)} (some (some n, next)) (some (some (parts .many), parts .first)) = sym (opens-listed (headAt s end) o n next oe k) ∙ head-is in
+              let z : _≡_ {A = Option (Option ℕ × ℕ)} (some (some n, next)) (some (some (parts .many), parts .first)) = sym (opens-listed (headAt s (own .at)) o n next oe k) ∙ head-is in
               let w : _≡_ {A = Option ℕ × ℕ} (some n, next) (some (parts .many), parts .first) = cc in
               let a : some n ≡ some (parts .many) = ap (λ v. v .0) w in
               let b : n ≡ parts .many = cc in
@@ -151,26 +153,32 @@ module _ (t s controls rows : List ℕ) (h : StreamReady t s controls rows) wher
               let d : entriesAt levels s n next ≡ entriesAt levels s (parts .many) (parts .first) = λ i. entriesAt levels s (b i) (c i) in
               d ∙ parts .list
 
-          pub top-ready : (scopes : List ℕ) → Listed t scopes → NodesReady t scopes s (topNodes (entriesAt levels s n next)) (state controls 0 rows′ row)
+          -- where the top list is written from
+          abbrev pub start : Next
+          start = record { at = next; control = 0; property = own .row }
+
+          pub top-ready : {scopes : List ℕ} → Listed t scopes → TopReady t scopes s n controls rows′ start
           unfolding read2000 nodesOf
-          top-ready scopes listed =
+          top-ready listed =
               let x = is .tree in
               let l : length rows′ ≡ length rows = ap length own-rows ∙ properties-length (read2000 t s x .own) rows 0 in
-              let q : row ≡ length (x .0) = own-run .row-is ∙ omega arith in
+              let q : own .row ≡ length (x .0) = own-run .row-is ∙ omega arith in
               let m : length (x .0) + length (nodesOf (x .1)) + propsIn (nodesOf (x .1)) ≤ longest = omega (arith, few t s x (is .reads), h .small, counting.nodes (reported (x .1)), counting.in-all (reported (x .1))) in
               record {
-                known = record { formed = h .formed; listed = listed; small = h .small };
-                fits = rw (list-is, q) (made-fit (propertyIn t s (objectPlace s)) (controlOf t s) (same-properties t s) (x .0) (nodesOf (x .1)) controls rows rows′ (is .fits) l m);
+                ready = record {
+                  known = record { formed = h .formed; listed = listed; small = h .small };
+                  fits = rw (list-is, q) (made-fit (propertyIn t s (objectPlace s)) (controlOf t s) (same-properties t s) (x .0) (nodesOf (x .1)) controls rows rows′ (is .fits) l m);
+                };
+                first = refl;
               }
 
-          pub top-done : (controls′ : List ℕ) (c : ℕ) (rows″ : List ℕ) (p e : ℕ)
-              → some (stood controls′ c rows″ p e) ≡ act t s (topNodes (entriesAt levels s n next)) (state controls 0 rows′ row) → StreamDone t s controls rows controls′ rows″
+          pub top-done : {controls′ rows″ : List ℕ} {r : Next} → TopDone t s n controls rows′ start controls′ rows″ r → StreamDone t s controls rows controls′ rows″
           unfolding read2000
-          top-done controls′ c rows″ p e w =
+          top-done {controls′ = controls′} {rows″ = rows″} {r = r} w =
               let x = is .tree in
-              let q : row ≡ length (x .0) = own-run .row-is ∙ omega arith in
-              let z = w ∙ ap (λ o. act t s (topNodes o) (state controls 0 rows′ row)) list-is ∙ (λ i. act t s (some (nodesOf (x .1), length s)) (state controls 0 (own-rows i) (q i))) in
-              rw (is .reads) (made-written (propertyIn t s (objectPlace s)) (controlOf t s) (same-properties t s) (x .0) (nodesOf (x .1)) controls rows controls′ rows″ c p e (length s) z)
+              let q : own .row ≡ length (x .0) = own-run .row-is ∙ omega arith in
+              let z = w ∙ ap (λ o. act t s (topNodes o) (stateAt controls rows′ start)) list-is ∙ (λ i. act t s (some (nodesOf (x .1), length s)) (state controls 0 (own-rows i) (q i))) in
+              rw (is .reads) (made-written (propertyIn t s (objectPlace s)) (controlOf t s) (same-properties t s) (x .0) (nodesOf (x .1)) controls rows controls′ rows″ (r .control) (r .property) (r .at) (length s) z)
 
 -- ---- the answer
 -- what is known of a stream that was counted
@@ -178,19 +186,20 @@ record Facts (t s : List ℕ) (all theirs own : ℕ) : Type 0 where
   tree : List Prop × Entries Prop
   reads : streamOf s ≡ some tree
   has : Counts (read2000 t s tree) all theirs own
-  small : (all + theirs ≤ length s) × (own ≤ theirs)
+  few-all : all + theirs ≤ length s
+  few-own : own ≤ theirs
 
-module _ (t s controls rows : List ℕ) (r : Counted) (re : r ≡ told.counted (streamOf s)) where
-  none-of : (o : Option (List Prop × Entries Prop)) → r ≡ told.counted o → r ≡ Counted.Bad → o ≡ none
+module _ (t s controls rows : List ℕ) {r : StreamTally} (re : r ≡ told.streamTally (streamOf s)) where
+  none-of : (o : Option (List Prop × Entries Prop)) → r ≡ told.streamTally o → r ≡ StreamTally.Bad → o ≡ none
   none-of none e k = refl
   none-of (some x) e k = cc
 
-  pub read-bad : r ≡ Counted.Bad → (a : Answer) → a ≡ refusal noReading → Exits (readBy t s (streamOf s)) controls rows a controls rows
+  pub read-bad : r ≡ StreamTally.Bad → {a : Answer} → a ≡ refusal noReading → Reads t s controls rows a controls rows
   unfolding concat
-  read-bad k a e = rw (none-of (streamOf s) re k, e)
+  read-bad k e = rw (none-of (streamOf s) re k, e)
 
-  module _ (all theirs own : ℕ) (k : r ≡ Counted.Of all theirs own) where
-    facts : (o : Option (List Prop × Entries Prop)) → streamOf s ≡ o → r ≡ told.counted o → Facts t s all theirs own
+  module _ {all theirs own : ℕ} (k : r ≡ StreamTally.Of all theirs own) where
+    facts : (o : Option (List Prop × Entries Prop)) → streamOf s ≡ o → r ≡ told.streamTally o → Facts t s all theirs own
     facts none e re = absurd (let z : _≡_ {A = ℕ} 0 1 = cc in omega arith)
     facts (some x) e re =
         let a : size (reported (x .1)) ≡ all = cc in
@@ -202,22 +211,23 @@ module _ (t s controls rows : List ℕ) (r : Counted) (re : r ≡ told.counted (
           tree = x;
           reads = e;
           has = record { controls-are = n .controls-are ∙ a; properties-are = n .properties-are ∙ b; own-are = n .own-are ∙ c };
-          small = omega (arith, f, a, b, c);
+          few-all = omega (arith, f, a, b, c);
+          few-own = omega (arith, b, c);
         }
 
     now : Facts t s all theirs own
     now = facts (streamOf s) refl re
 
-    pub read-small : length s ≤ longest → (all + theirs ≤ longest) × (own ≤ theirs)
-    read-small small = omega (arith, now .small .0, small, now .small .1)
+    pub read-small : length s ≤ longest → Answerable all theirs own
+    read-small small = record { few = omega (arith, now .few-all, small); among = now .few-own }
 
-    module _ (a : Answer) (j : Judged all theirs own (room controlWidth controls) (room propertyWidth rows) a) where
-      pub read-refused : (a .number ≡ 0 → ⊥) → Exits (readBy t s (streamOf s)) controls rows a controls rows
+    module _ {a : Answer} (j : Judged all theirs own (room controlWidth controls) (room propertyWidth rows) a) where
+      pub read-refused : (a .number ≡ 0 → ⊥) → Reads t s controls rows a controls rows
       read-refused h = rw (now .reads) (exits-refused controls rows (read2000 t s (now .tree)) a (j _ (now .has)) h)
 
       module _ (z : a .number ≡ 0) where
-        pub read-ready : wellFormed t ≡ true → length s ≤ longest → StreamReady t s controls rows
-        read-ready formed small = record { formed = formed; small = small; fits = rw (now .reads) (roomy controls rows (read2000 t s (now .tree)) a (j _ (now .has)) z) }
+        pub read-ready : ReadReady t s → StreamReady t s controls rows
+        read-ready h = record { formed = h .formed; small = h .small; fits = rw (now .reads) (roomy controls rows (read2000 t s (now .tree)) a (j _ (now .has)) z) }
 
-        pub read-done : (controls′ rows′ : List ℕ) → StreamDone t s controls rows controls′ rows′ → Exits (readBy t s (streamOf s)) controls rows a controls′ rows′
-        read-done controls′ rows′ d = rw (now .reads) (exits-read controls rows (read2000 t s (now .tree)) a (j _ (now .has)) z controls′ rows′ (rw (now .reads) at d))
+        pub read-done : {controls′ rows′ : List ℕ} → StreamDone t s controls rows controls′ rows′ → Reads t s controls rows a controls′ rows′
+        read-done {controls′ = controls′} {rows′ = rows′} d = rw (now .reads) (exits-read controls rows (read2000 t s (now .tree)) a (j _ (now .has)) z controls′ rows′ (rw (now .reads) at d))

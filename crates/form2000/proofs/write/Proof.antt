@@ -8,35 +8,71 @@ use Rattle.form2000.proofs.Whole.{own-ready, top-ready, top-done, write
 use Rattle.form2000.proofs.write.Statement.{statement}
 use Rattle.form2000.proofs.write.Tie as tie
 
+-- ---- places, each from a later one
+abbrev head-of : tie.After-count → tie.After-head
+head-of c = search
+
+abbrev ran-of : tie.After-head → tie.After-properties
+ran-of c = search
+
+abbrev scope-of : tie.After-properties → tie.After-find-scope
+scope-of c = search
+
+abbrev listed-of : tie.After-find-scope → tie.After-list-scopes
+listed-of c = search
+
+abbrev start-of : tie.After-find-scope → tie.Start
+start-of c = search
+
+abbrev bytes-of : tie.After-find-scope → tie.After-shared-slice-known2
+bytes-of c = search
+
 -- the rows that were found are the object's scope's
-found : (c : tie.After-find-scope) → Finds (now (c .before .before .before .before .before .before .before .before .before .before .before .args .table)) (c .before .object-kind .result) 0 (c .find-scope .result)
-found c = c .find-scope .ensures (c .before .before .before .before .before .list-scopes .ensures)
+found : (c : tie.After-find-scope) → Finds (now (start-of c .args .table)) (c .before .object-scope .result) 0 (c .find-scope .result)
+found c = c .find-scope .ensures (listed-of c .list-scopes .ensures)
 
 properties-requires : tie.Need-properties-requires
-properties-requires c κs = (own-ready _ _ _ _ (c .before .before .before .before .before .before .before .before .before .before .before .before .before .pre) _ (c .before .before .before .object-kind .ensures) _ (found (c .before .before)), omega arith)
+properties-requires c κs =
+    let scope : tie.After-find-scope = search in
+    own-ready (start-of scope .pre) (scope .before .object-scope .ensures) (found scope)
 
 cast-put-top : tie.Need-cast-put-top
-cast-put-top c = omega (arith, count-small _ (λ i. c .before .before .before .before .before .before .before .before .before .before .before .before .before .before .before .before .before .before .before .before .shared-slice-known2 .given i .fits) _ _ _ (opens-listed _ _ _ _ (c .before .before .before .before .before .head .ensures) (c .before .before .before .count .given .1)))
+cast-put-top c =
+    let listed : tie.After-count = search in
+    let headed = head-of listed in
+    let bytes = bytes-of (scope-of (ran-of headed)) in
+    omega (arith, count-small _ (λ i. bytes .shared-slice-known2 .given i .fits) _ _ _ (opens-listed _ _ _ _ (headed .head .ensures) (listed .count .given .1)))
 
 put-top-requires : tie.Need-put-top-requires
 put-top-requires c κs =
-    top-ready _ _ _ _ (c .before .before .before .before .before .before .before .before .before .before .before .before .before .before .before .before .before .before .before .before .before .before .before .before .pre) _ (c .before .before .before .before .before .before .before .before .before .before .before .before .before .before .object-kind .ensures) _ (found (c .before .before .before .before .before .before .before .before .before .before .before .before .before)) _ _ _ (c .before .before .before .before .before .before .before .before .before .before .properties .ensures .0)
-    _ (c .before .before .before .before .before .before .before .head .ensures) _ _ (c .before .before .before .before .before .count .given .1) _ (c .before .before .before .before .before .before .before .before .before .before .before .before .before .before .before .before .before .before .list-scopes .ensures)
+    let listed : tie.After-count = search in
+    let headed = head-of listed in
+    let ran = ran-of headed in
+    let scope = scope-of ran in
+    top-ready (start-of scope .pre) (scope .before .object-scope .ensures) (found scope) (ran .properties .ensures) (headed .head .ensures) (listed .count .given .1) (listed-of scope .list-scopes .ensures)
 
 returns : tie.Need-returns
 returns c =
-    top-done _ _ _ _ (c .before .before .before .before .before .before .before .before .before .before .before .before .before .before .before .before .before .before .before .before .before .before .before .before .before .before .before .before .before .pre) _ (c .before .before .before .before .before .before .before .before .before .before .before .before .before .before .before .before .before .before .before .object-kind .ensures) _ (found (c .before .before .before .before .before .before .before .before .before .before .before .before .before .before .before .before .before .before)) _ _ _ (c .before .before .before .before .before .before .before .before .before .before .before .before .before .before .before .properties .ensures .0)
-    _ (c .before .before .before .before .before .before .before .before .before .before .before .before .head .ensures) _ _ (c .before .before .before .before .before .before .before .before .before .before .count .given .1) _ _ _ _ _ (c .before .before .before .before .put-top .ensures)
+    let put : tie.After-put-top = search in
+    let listed : tie.After-count = search in
+    let headed = head-of listed in
+    let ran = ran-of headed in
+    let scope = scope-of ran in
+    top-done (start-of scope .pre) (scope .before .object-scope .ensures) (found scope) (ran .properties .ensures) (headed .head .ensures) (listed .count .given .1) (put .put-top .ensures)
 
 returns-2 : tie.Need-returns-2
 returns-2 c =
-    absurd (write-plain _ _ _ _ (c .before .before .before .before .before .before .before .before .before .before .before .before .before .before .before .before .before .before .before .pre) _ (c .before .before .before .before .before .before .before .before .before .object-kind .ensures) _ (found (c .before .before .before .before .before .before .before .before)) _ _ _ (c .before .before .before .before .before .properties .ensures .0)
-    _ (c .before .before .head .ensures) _ (c .enum-told .given .1))
+    let headed = c .before .before in
+    let ran = ran-of headed in
+    let scope = scope-of ran in
+    absurd (write-plain (start-of scope .pre) (scope .before .object-scope .ensures) (found scope) (ran .properties .ensures) (headed .head .ensures) (c .enum-told .given .1))
 
 returns-3 : tie.Need-returns-3
 returns-3 c =
-    absurd (write-bad _ _ _ _ (c .before .before .before .before .before .before .before .before .before .before .before .before .before .before .before .before .before .before .before .pre) _ (c .before .before .before .before .before .before .before .before .before .object-kind .ensures) _ (found (c .before .before .before .before .before .before .before .before)) _ _ _ (c .before .before .before .before .before .properties .ensures .0)
-    _ (c .before .before .head .ensures) (c .enum-told2 .given .1))
+    let headed = c .before .before in
+    let ran = ran-of headed in
+    let scope = scope-of ran in
+    absurd (write-bad (start-of scope .pre) (scope .before .object-scope .ensures) (found scope) (ran .properties .ensures) (headed .head .ensures) (c .enum-told2 .given .1))
 
 pub write-spec : {M : Type 1} → statement M
 write-spec =

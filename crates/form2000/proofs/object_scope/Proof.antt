@@ -2,8 +2,8 @@ use mathlib.Core.Path.{sym, ap, _∙_}
 use mathlib.Core.Bool.{Bool, cond}
 use Rattle.rules.specs.Read2000.{objectPlace}
 use borrow.Author.Needs.{needs}
-use Rattle.form2000.proofs.object_kind.Statement.{statement}
-use Rattle.form2000.proofs.object_kind.Tie as tie
+use Rattle.form2000.proofs.object_scope.Statement.{statement}
+use Rattle.form2000.proofs.object_scope.Tie as tie
 
 returns : tie.Need-returns
 unfolding objectPlace
@@ -13,5 +13,5 @@ returns-2 : tie.Need-returns-2
 unfolding objectPlace
 returns-2 c = sym (ap (λ (b : Bool). cond b 1 0) (sym (c .before .is-report .ensures) ∙ c .if1 .left))
 
-pub object-kind-spec : {M : Type 1} → statement M
-object-kind-spec = tie.close (tie.spec (λ c κs. search needs) returns returns-2)
+pub object-scope-spec : {M : Type 1} → statement M
+object-scope-spec = tie.close (tie.spec (λ c κs. search needs) returns returns-2)
