@@ -1,4 +1,4 @@
--- The room of each layout, by the bytes behind its head.
+-- The room of each layout, by the bytes after its head.
 use Prim.Native.Nat.{ℕ, _-_, _/_}
 use native.Mathlib.Omega.{arith}
 use mathlib.Core.Path.{_≡_, ap, ap₂}

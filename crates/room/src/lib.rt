@@ -4,18 +4,36 @@ ghost use mathlib.Core.Path.{_≡_};
 ghost use Prim.Native.Nat.{_-_};
 ghost use Rattle.rules.specs.Room.{readable, room2000, roomLater, roomFor, typeInfoRoom};
 
+// The longest stream that is read, in bytes.
+const LONGEST: u32 = 16777216;
+
+// The bytes of an Access 2000 stream that hold no row, and the fewest of an entry.
+const HEAD_2000: u32 = 11;
+
+const ENTRY_2000: u32 = 3;
+
+// The same of a later stream, and the fewest of a property.
+const HEAD_LATER: u32 = 14;
+
+const PROPERTY_LATER: u32 = 18;
+
+// The same of a TypeInfo stream, and the fewest of an entry.
+const HEAD_INFO: u32 = 32;
+
+const ENTRY_INFO: u32 = 8;
+
 // A longer stream is refused before it needs a row.
 fn readable(length: usize) -> u32
     ensures { λ r. ⌜ r ≡ readable length ⌝ }
 {
-    if length < 16777216 {
+    if length < LONGEST as usize {
         return length as u32;
     }
-    16777216
+    LONGEST
 }
 
-// The bytes behind the first `head` of them.
-fn behind(length: usize, head: u32) -> u32
+// The bytes after the first `head` of them.
+fn after_head(length: usize, head: u32) -> u32
     ensures { λ r. ⌜ r ≡ readable length - head ⌝ }
 {
     let n = readable(length);
@@ -29,9 +47,9 @@ fn behind(length: usize, head: u32) -> u32
 pub fn room_2000(length: usize) -> Room
     ensures { λ r. ⌜ r ≡ room2000 length ⌝ }
 {
-    let n = behind(length, 11);
+    let n = after_head(length, HEAD_2000);
     Room {
-        controls: n / 3,
+        controls: n / ENTRY_2000,
         properties: n,
     }
 }
@@ -40,7 +58,7 @@ pub fn room_2000(length: usize) -> Room
 pub fn room_later(length: usize) -> Room
     ensures { λ r. ⌜ r ≡ roomLater length ⌝ }
 {
-    let n = behind(length, 14) / 18;
+    let n = after_head(length, HEAD_LATER) / PROPERTY_LATER;
     Room {
         controls: n,
         properties: n,
@@ -58,5 +76,5 @@ pub fn room_for(length: usize) -> Room
 pub fn type_info_room(length: usize) -> u32
     ensures { λ r. ⌜ r ≡ typeInfoRoom length ⌝ }
 {
-    behind(length, 32) / 8
+    after_head(length, HEAD_INFO) / ENTRY_INFO
 }
