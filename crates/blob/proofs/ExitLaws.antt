@@ -14,7 +14,7 @@ use Rattle.rules.specs.Access2000.{streamOf}
 use Rattle.rules.specs.ReadLater.{readLater}
 use Rattle.rules.specs.Blob.{is2000, readBy, readingOf, outcome, exit}
 use Rattle.rules.specs.declared.Answer.{Answer}
-use Rattle.judge.specs.Judge.{Exits}
+use Rattle.rows.specs.Judge.{Exits}
 use Rattle.blob.specs.Exit.{exited}
 
 pub not-true : (b : Bool) → not b ≡ true → b ≡ false

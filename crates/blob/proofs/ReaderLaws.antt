@@ -13,7 +13,7 @@ use Rattle.rules.specs.Access2000.{streamOf}
 use Rattle.rules.specs.ReadLater.{readLater}
 use Rattle.rules.specs.Blob.{speaks2000, is2000, readBy, outcome2000, outcomeLater, exit2000, exitLater}
 use Rattle.rules.specs.declared.Answer.{Answer}
-use Rattle.judge.specs.Judge.{Exits}
+use Rattle.rows.specs.Judge.{Exits}
 use Rattle.blob.specs.Exit.{exited}
 
 -- ---- the reader of Access 2000 streams

@@ -10,7 +10,7 @@ ghost use Rattle.rules.specs.CodeTable.{wellFormed};
 ghost use Rattle.rules.specs.Access2000.{streamOf};
 ghost use Rattle.rules.specs.Blob.{speaks2000, is2000, readBy, exit, exit2000, exitLater};
 ghost use Rattle.rules.specs.NamePart.{namePart, partBytes};
-ghost use Rattle.judge.specs.Judge.{Exits};
+ghost use Rattle.rows.specs.Judge.{Exits};
 ghost use Rattle.blob.specs.Exit.{exited, partOr, placeOr, partPlace};
 
 // The longest stream that is read, in bytes.

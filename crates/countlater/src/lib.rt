@@ -2,13 +2,13 @@
 use leaf::u16_at;
 use leaf::u32_at;
 use matchlater::find_match;
-use rows::Part;
+use rows::Tally;
 use rows::is_section;
 ghost use mathlib.Core.Path.{_≡_};
 ghost use Prim.Native.Nat.{_+_, _≤_};
 ghost use lib.ListN.{length};
 ghost use Rattle.rules.specs.Later.{endsGroup, groupAt, childrenAt, nodesAt};
-ghost use Rattle.rows.specs.Counting.{part1, part, partTop};
+ghost use Rattle.rows.specs.Counting.{tally1, tally, tallyTop};
 ghost use Rattle.countlater.specs.Count.{item, group, children, head, oneNode, section, wholeTree, ScanCounted, CountedBy, Counted};
 
 // ---- properties and groups
@@ -159,8 +159,8 @@ fn head_at(s: &[u8], at: usize) -> Head
 }
 
 // Counts the node at `at` and all below it, where `left` levels are left below it.
-fn parse_node(s: &[u8], at: usize, left: usize) -> Part
-    ensures { λ r. ⌜ r ≡ part1 (oneNode left (now (s .entry)) at) ⌝ }
+fn parse_node(s: &[u8], at: usize, left: usize) -> Tally
+    ensures { λ r. ⌜ r ≡ tally1 (oneNode left (now (s .entry)) at) ⌝ }
 {
     let Head::Of {
         count,
@@ -168,15 +168,15 @@ fn parse_node(s: &[u8], at: usize, left: usize) -> Part
         next: q,
     } = head_at(s, at)
     else {
-        return Part::Bad;
+        return Tally::Bad;
     };
     match parse_nodes(s, below, q, left) {
-        Part::Bad => Part::Bad,
-        Part::Of {
+        Tally::Bad => Tally::Bad,
+        Tally::Of {
             controls,
             props,
             next,
-        } => Part::Of {
+        } => Tally::Of {
             controls: 1 + controls,
             props: count + props,
             next,
@@ -185,8 +185,8 @@ fn parse_node(s: &[u8], at: usize, left: usize) -> Part
 }
 
 // Counts `n` nodes from `at` on, with `left` levels left.
-fn parse_nodes(s: &[u8], n: usize, at: usize, left: usize) -> Part
-    ensures { λ r. ⌜ r ≡ part (nodesAt left (now (s .entry)) n at) ⌝ }
+fn parse_nodes(s: &[u8], n: usize, at: usize, left: usize) -> Tally
+    ensures { λ r. ⌜ r ≡ tally (nodesAt left (now (s .entry)) n at) ⌝ }
 {
     let mut p = at;
     let mut k = n;
@@ -194,13 +194,13 @@ fn parse_nodes(s: &[u8], n: usize, at: usize, left: usize) -> Part
     let mut theirs: usize = 0;
     while 0 < k {
         if left == 0 {
-            return Part::Bad;
+            return Tally::Bad;
         }
         match parse_node(s, p, left - 1) {
-            Part::Bad => {
-                return Part::Bad;
+            Tally::Bad => {
+                return Tally::Bad;
             }
-            Part::Of {
+            Tally::Of {
                 controls,
                 props,
                 next,
@@ -212,7 +212,7 @@ fn parse_nodes(s: &[u8], n: usize, at: usize, left: usize) -> Part
             }
         }
     }
-    Part::Of {
+    Tally::Of {
         controls: all,
         props: theirs,
         next: p,
@@ -243,8 +243,8 @@ pub fn section_at(s: &[u8], at: usize) -> Section
 }
 
 // Counts the reported of the `n` top nodes from `at` on, with all below them.
-fn sections(s: &[u8], n: usize, at: usize) -> Part
-    ensures { λ r. ⌜ r ≡ partTop (nodesAt 256 (now (s .entry)) n at) ⌝ }
+fn sections(s: &[u8], n: usize, at: usize) -> Tally
+    ensures { λ r. ⌜ r ≡ tallyTop (nodesAt 256 (now (s .entry)) n at) ⌝ }
 {
     let mut p = at;
     let mut k = n;
@@ -257,10 +257,10 @@ fn sections(s: &[u8], n: usize, at: usize) -> Part
                 k = k - 1;
             }
             Section::Kept => match parse_node(s, p, 255) {
-                Part::Bad => {
-                    return Part::Bad;
+                Tally::Bad => {
+                    return Tally::Bad;
                 }
-                Part::Of {
+                Tally::Of {
                     controls,
                     props,
                     next,
@@ -273,7 +273,7 @@ fn sections(s: &[u8], n: usize, at: usize) -> Part
             },
         }
     }
-    Part::Of {
+    Tally::Of {
         controls: all,
         props: theirs,
         next: p,
@@ -281,27 +281,27 @@ fn sections(s: &[u8], n: usize, at: usize) -> Part
 }
 
 // Counts the tree behind the object's group, which ended by `trailer` at `at`. It must use up the stream.
-fn controls_of_tree(s: &[u8], trailer: u32, at: usize) -> Part
-    ensures { λ r. ⌜ r ≡ partTop (wholeTree (now (s .entry)) trailer at) ⌝ }
+fn controls_of_tree(s: &[u8], trailer: u32, at: usize) -> Tally
+    ensures { λ r. ⌜ r ≡ tallyTop (wholeTree (now (s .entry)) trailer at) ⌝ }
 {
     let Children::Of { count: n, next: q } = children_at(s, trailer, at) else {
-        return Part::Bad;
+        return Tally::Bad;
     };
     match sections(s, n, q) {
-        Part::Bad => Part::Bad,
-        Part::Of {
+        Tally::Bad => Tally::Bad,
+        Tally::Of {
             controls,
             props,
             next,
         } => {
             if next == s.len() {
-                Part::Of {
+                Tally::Of {
                     controls,
                     props,
                     next,
                 }
             } else {
-                Part::Bad
+                Tally::Bad
             }
         }
     }
@@ -375,8 +375,8 @@ pub fn count(s: &[u8]) -> Counts
             stop,
             trailer,
         } => match controls_of_tree(s, trailer, stop) {
-            Part::Bad => count_scanned(s, count, stop),
-            Part::Of {
+            Tally::Bad => count_scanned(s, count, stop),
+            Tally::Of {
                 controls,
                 props,
                 next: _,

@@ -4,7 +4,8 @@ use countlater::Section;
 use countlater::children_at;
 use countlater::section_at;
 use cursor::Cursor;
-use cursor::behind;
+use cursor::STACK_WORDS;
+use cursor::after_entry;
 ghost use Rattle.rules.specs.Tree.{isReported};
 ghost use Rattle.rules.specs.Later.{childrenAt};
 ghost use Rattle.cursor.specs.Cursors.{Passed, PastReady, Past};
@@ -48,7 +49,7 @@ pub fn reported(s: &[u8], c: Cursor) -> Cursor
 // Goes behind the node at `c`, which has row `row`, and whose group ended by `trailer` at `stop`.
 pub fn past(
     s: &[u8],
-    stack: &mut [u32; 512],
+    stack: &mut [u32; STACK_WORDS],
     c: Cursor,
     row: u32,
     trailer: u32,
@@ -59,6 +60,6 @@ pub fn past(
 {
     match children_at(s, trailer, stop) {
         Children::Bad => c,
-        Children::Of { count, next } => behind(stack, c, row, count as u32, next),
+        Children::Of { count, next } => after_entry(stack, c, row, count as u32, next),
     }
 }

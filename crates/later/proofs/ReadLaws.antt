@@ -20,9 +20,9 @@ use Rattle.rows.specs.Writing.{State, state}
 use Rattle.rows.specs.Acts.{Nodes, topNodes, Held, Fit, actBy}
 use Rattle.rows.specs.declared.Next.{Next}
 use Rattle.rows.proofs.WritingLaws.{properties-length}
-use Rattle.judge.specs.Judge as judge
-use Rattle.judge.specs.Judge.{Written, Exits}
-use Rattle.judge.proofs.JudgeLaws.{exits-refused, roomy, exits-read, made-counts, made-fit, made-written}
+use Rattle.rows.specs.Judge as judge
+use Rattle.rows.specs.Judge.{Written, Exits}
+use Rattle.rows.proofs.JudgeLaws.{exits-refused, roomy, exits-read, made-counts, made-fit, made-written}
 use Rattle.countlater.specs.Count.{children, wholeTree, isTree, Counted}
 use Rattle.countlater.specs.declared.Children.{Children}
 use Rattle.countlater.specs.declared.Counts.{Counts}

@@ -70,7 +70,7 @@ pub record Going (s : List ℕ) (whole : Nodes Prop) (old : State) (a : List ℕ
 pub going-start : {s a : List ℕ} {n at : ℕ} {r : Cursor} {cs ps : List ℕ} {pi : ℕ} → length a ≡ 512 → NodesReady s (topNodes (nodesAt 256 s n at)) (state cs 0 ps pi)
     → Passed (stepAt s) isReported (cursor at 0 n noParent) r → Going s (topNodes (nodesAt 256 s n at)) (state cs 0 ps pi) a r (state cs 0 ps pi)
 going-start {s} {a} {n} {at} {r} {cs} {ps} {pi} l h p = record {
-  walk = laws.going-start _ _ _ _ (state cs 0 ps pi) a n at r (ap topNodes (sym (nodes-same s 256 n at))) refl l h p;
+  walk = laws.going-start (state cs 0 ps pi) a n at r (ap topNodes (sym (nodes-same s 256 n at))) refl l h p;
   small = h .known;
   controls-same = refl;
   properties-same = refl;
@@ -78,14 +78,14 @@ going-start {s} {a} {n} {at} {r} {cs} {ps} {pi} l h p = record {
 
 module _ {s : List ℕ} {whole : Nodes Prop} {old : State} {a : List ℕ} {c : Cursor} {cs : List ℕ} {ci : ℕ} {ps : List ℕ} {pi : ℕ} (g : Going s whole old a c (state cs ci ps pi)) where
   pub going-done : c .left ≤ 0 → NodesDone s whole old cs ps (next (c .at) ci pi)
-  going-done l = laws.going-done _ _ _ _ _ _ _ _ (g .walk) l
+  going-done l = laws.going-done (g .walk) l
 
   module _ (l : 0 < c .left) where
     abbrev entry : Step Prop
-    entry = laws.entry _ _ _ _ _ _ _ _ (g .walk) l
+    entry = laws.entry (g .walk) l
 
     its : Parts s (c .at) entry
-    its = parts s (c .at) entry (laws.entry-read _ _ _ _ _ _ _ _ (g .walk) l)
+    its = parts s (c .at) entry (laws.entry-read (g .walk) l)
 
     pub going-inside : c .at ≤ length s
     going-inside = go (ltb (length s) (c .at)) refl
@@ -102,7 +102,7 @@ module _ {s : List ℕ} {whole : Nodes Prop} {old : State} {a : List ℕ} {c : C
 
       pub going-ready : ControlReady s (length s) (next (c .at + 6) ci pi) type name cs ps
       going-ready =
-          let r = laws.going-ready _ _ _ _ _ _ _ _ (g .walk) l 0 in
+          let r = laws.going-ready (g .walk) l 0 in
           record { inside = omega arith; small = g .small; fits = subst (λ x. Fit (x ∷ []) (state cs ci ps pi)) control-is (r .fits) }
 
       -- its row is written
@@ -114,7 +114,7 @@ module _ {s : List ℕ} {whole : Nodes Prop} {old : State} {a : List ℕ} {c : C
         kids-at = ap₂ (childrenAt s) (wrote .trailer) (wrote .stop) ∙ children-told s (c .at) (countOf (entry .children), entry .next) (its .kids)
 
         pub going-past : PastReady a c (childrenAt s (w .trailer) (w .stop))
-        going-past = record { before = laws.going-before _ _ _ _ _ _ _ _ (g .walk) l; there = rw kids-at tt }
+        going-past = record { before = laws.going-before (g .walk) l; there = rw kids-at tt }
 
         next-is : state cs′ (ci + 1) ps′ (pi + w .count) ≡ writeControls (treeControl s (entry .node) ∷ []) (state cs ci ps pi)
         next-is = wrote .is ∙ ap (λ x. writeControls (x ∷ []) (state cs ci ps pi)) (sym control-is)
@@ -124,11 +124,11 @@ module _ {s : List ℕ} {whole : Nodes Prop} {old : State} {a : List ℕ} {c : C
           moved = rw kids-at at p
 
           pub going-less : howMany (left (stepAt s) (ci + 1) a′ r′) < howMany (left (stepAt s) ci a c)
-          going-less = laws.going-less _ _ _ _ _ _ _ _ (g .walk) l _ next-is a′ r r′ moved k
+          going-less = laws.going-less (g .walk) l _ next-is a′ r r′ moved k
 
           pub going-next : Going s whole old a′ r′ (state cs′ (ci + 1) ps′ (pi + w .count))
           going-next = record {
-            walk = laws.going-next _ _ _ _ _ _ _ _ (g .walk) l _ next-is a′ r r′ moved k;
+            walk = laws.going-next (g .walk) l _ next-is a′ r r′ moved k;
             small = g .small;
             controls-same = controls-kept wrote ∙ g .controls-same;
             properties-same = properties-kept wrote ∙ g .properties-same;

@@ -6,17 +6,16 @@ use countlater::count;
 use countlater::ends_group;
 use countlater::parse_entry;
 use cursor::Cursor;
+use cursor::STACK_WORDS;
 use cursorlater::past;
 use cursorlater::reported;
-use judge::counted;
-use judge::judge;
+use rows::counted;
+use rows::judge;
 use leaf::u16_at;
 use leaf::u32_at;
 use matchlater::find_match;
 use propvalue::entry_value;
-use rows::CONTROL_WIDTH;
 use rows::Next;
-use rows::PROPERTY_WIDTH;
 use rows::control_row;
 use rows::put_control;
 use rows::put_property;
@@ -32,7 +31,7 @@ ghost use Rattle.rules.specs.Later.{propertyAt, nodesAt};
 ghost use Rattle.rules.specs.ReadLater.{propertyOf, textName, nameBy, readLater};
 ghost use Rattle.rows.specs.Writing.{state};
 ghost use Rattle.rows.specs.Acts.{topNodes};
-ghost use Rattle.judge.specs.Judge.{Written, Exits};
+ghost use Rattle.rows.specs.Judge.{Written, Exits};
 ghost use Rattle.countlater.specs.Count.{wholeTree};
 ghost use Rattle.later.specs.Write.{nodeName, PropertyInside, GroupReady, GroupDone, ControlReady, ControlDone, NodesReady, NodesDone, treeControl, ScanReady, ScanDone, BlobReady};
 
@@ -189,7 +188,7 @@ fn write_sections(
     requires { ⌜ NodesReady (now s) (topNodes (nodesAt 256 (now s) n at)) (state (now controls) 0 (now properties) property) ⌝ }
     ensures { λ r. ⌜ NodesDone (now (s .entry)) (topNodes (nodesAt 256 (now (s .entry)) n at)) (state (now (controls .entry)) 0 (now (properties .entry)) property) (now (controls .exit)) (now (properties .exit)) r ⌝ }
 {
-    let mut stack = [0; 512];
+    let mut stack = [0; STACK_WORDS];
     let mut c = reported(
         s,
         Cursor {
@@ -326,8 +325,8 @@ pub fn read(stream: &[u8], controls: &mut [u32], properties: &mut [u32]) -> Answ
         n.controls,
         n.own + n.props,
         n.own,
-        controls.len() / CONTROL_WIDTH,
-        properties.len() / PROPERTY_WIDTH,
+        controls.len(),
+        properties.len(),
     );
     if a.number != 0 {
         return a;

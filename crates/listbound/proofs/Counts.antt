@@ -21,7 +21,7 @@ use Rattle.rules.proofs.LaterLaws.{either}
 use Rattle.rows.specs.Counting.{size, props, propsIn}
 use Rattle.rows.proofs.CountingLaws.{nodes, in-all}
 use Rattle.rows.proofs.LevelLaws.{EntriesGrow, fewer}
-use Rattle.judge.proofs.JudgeLaws.{made-counts}
+use Rattle.rows.proofs.JudgeLaws.{made-counts}
 use Rattle.form2000.proofs.Whole.{counts, few}
 use Rattle.countlater.proofs.NodeLaws.{nodes-grow}
 

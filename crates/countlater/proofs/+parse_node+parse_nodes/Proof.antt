@@ -58,16 +58,16 @@ unfolding nodesAt
     (λ c. counted-bad _ _ _ _ _ _ (headed _ _ _ _ _ _ (c .before .before .before .before .before .before .head-at .ensures) (c .before .before .before .before .count .given .1)) _ (c .before .before .parse-nodes .ensures) (c .enum-told2 .given .1))
     (λ c. counted-of _ _ _ _ _ _ (headed _ _ _ _ _ _ (c .before .before .before .before .before .before .before .head-at .ensures) (c .before .before .before .before .before .count .given .1)) _ (c .before .before .before .parse-nodes .ensures) _ _ _ (c .before .controls .given .1)))
     λ t. parse-nodes-lts.spec (parse-nodes-calls t) (parse-nodes-at t) parse-nodes.Post Inv-loop μ-loop
-    (λ c. (omega arith, counting-start _ _ _ _))
-    (λ c. counting-deep _ _ _ _ _ _ _ _ (c .before .before .loop .inv .1) (c .if1 .taken) (c .before .loop-test .taken))
+    (λ c. (omega arith, counting-start))
+    (λ c. counting-deep (c .before .before .loop .inv .1) (c .if1 .taken) (c .before .loop-test .taken))
     (λ c. search needs) (λ c κs. omega arith) (λ c. search needs)
-    (λ c. counting-bad _ _ _ _ _ _ _ _ (c .before .before .before .before .before .loop .inv .1) (c .before .before .before .if1 .left) (c .before .before .before .before .loop-test .taken) _ (c .before .before .parse-node .ensures) (c .enum-told .given .1))
+    (λ c. counting-bad (c .before .before .before .before .before .loop .inv .1) (c .before .before .before .if1 .left) (c .before .before .before .before .loop-test .taken) _ (c .before .before .parse-node .ensures) (c .enum-told .given .1))
     (λ c. search needs)
     (λ c. omega (arith, node-fits _ _ _ _ _ _ _ (c .before .before .before .parse-node .ensures) (c .before .controls .given .1)))
     (λ c. omega (arith, node-fits _ _ _ _ _ _ _ (c .before .before .before .parse-node .ensures) (c .before .controls .given .1)))
     (λ c. search needs) (λ c. search needs)
     (λ c. (
       omega (arith, node-fits _ _ _ _ _ _ _ (c .before .before .before .parse-node .ensures) (c .before .controls .given .1)),
-      counting-more _ _ _ _ _ _ _ _ (c .before .before .before .before .before .before .loop .inv .1) (c .before .before .before .before .if1 .left) (c .before .before .before .before .before .loop-test .taken) _ (c .before .before .before .parse-node .ensures) _ _ _ (c .before .controls .given .1),
+      counting-more (c .before .before .before .before .before .before .loop .inv .1) (c .before .before .before .before .if1 .left) (c .before .before .before .before .before .loop-test .taken) _ (c .before .before .before .parse-node .ensures) _ _ _ (c .before .controls .given .1),
     ))
-    (λ c. counting-all _ _ _ _ _ _ _ _ (c .before .loop .inv .1) (c .loop-test .left))
+    (λ c. counting-all (c .before .loop .inv .1) (c .loop-test .left))

@@ -4,14 +4,14 @@ use Rattle.cursorlater.proofs.StepLaws.{count-small, past-bad, past-of}
 use Rattle.cursorlater.proofs.past.Statement.{statement}
 use Rattle.cursorlater.proofs.past.Tie as tie
 
-cast-behind : tie.Need-cast-behind
-cast-behind c = omega (arith, count-small _ _ _ _ (c .before .before .before .before .children-at .ensures) (λ i. c .before .before .before .before .before .shared-slice-known .given i .fits) _ _ (c .before .before .count .given .1))
+cast-after-entry : tie.Need-cast-after-entry
+cast-after-entry c = omega (arith, count-small _ _ _ _ (c .before .before .before .before .children-at .ensures) (λ i. c .before .before .before .before .before .shared-slice-known .given i .fits) _ _ (c .before .before .count .given .1))
 
 returns : tie.Need-returns
 returns c = absurd (past-bad _ _ _ _ (c .before .before .children-at .ensures) (c .enum-told .given .1) _ _ (c .before .before .before .before .pre))
 
 returns-2 : tie.Need-returns-2
-returns-2 c = past-of _ _ _ _ (c .before .before .before .before .before .children-at .ensures) _ _ (c .before .before .before .count .given .1) _ _ _ _ _ (c .behind .ensures)
+returns-2 c = past-of _ _ _ _ (c .before .before .before .before .before .children-at .ensures) _ _ (c .before .before .before .count .given .1) _ _ _ _ _ (c .after-entry .ensures)
 
 pub past-spec : {M : Type 1} → statement M
 past-spec =
@@ -20,7 +20,7 @@ past-spec =
     (λ c κs. search needs)
     (λ c. search needs)
     (λ c. search needs)
-    cast-behind
+    cast-after-entry
     (λ c κs. c .before .before .before .before .before .before .pre .before)
     returns
     returns-2)
