@@ -1,6 +1,0 @@
--- Laws that the functions' proofs cite; the public ones serve other crates too.
-pub mod Past
-pub mod Signed
-pub mod Widening
-pub mod Units
-pub mod Integers

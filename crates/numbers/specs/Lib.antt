@@ -1,0 +1,4 @@
+-- What the contracts say beyond the definitions of rules.
+pub mod Int
+pub mod Reads
+pub mod Wide
