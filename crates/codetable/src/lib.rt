@@ -1,44 +1,53 @@
-// The code table that a caller lends, as bytes: its numbers, whether it is well formed, its layout and header codes.
+// The code table that a caller lends, as bytes: whether it is well formed, its layout and header codes, and its rows one by one.
+use numbers::byte_number;
+use numbers::number_of;
+use numbers::u16_number;
+use rules::KIND_BYTES;
+use rules::LAST_ID;
+use rules::SCOPE_ENTRY;
 ghost use mathlib.Core.Path.{_≡_};
 ghost use Prim.Native.Nat.{_+_, _*_, _≤_, _<_, _^_};
 ghost use lib.ListN.{length};
-ghost use Rattle.rules.specs.Bytes.{byte, u16};
 ghost use Rattle.rules.specs.Lists.{has, ascends};
 ghost use Rattle.rules.specs.CodeTable as t;
-ghost use Rattle.codetable.specs.Reads.{Small, ReadsRow};
+ghost use Rattle.codetable.specs.Reads.{ReadsRow, ScopesSmall};
 
-// The four bytes of a row.
+// Where the number of header codes stands, the number of scopes, and the header codes.
+pub const HEADER_COUNT_AT: usize = 1;
+
+pub const SCOPE_COUNT_AT: usize = 2;
+
+pub const HEADER_AT: usize = 4;
+
+// How many bytes a header code has, a scope of the contents, a row.
+pub const CODE_SIZE: usize = 2;
+
+pub const SCOPE_SIZE: usize = 5;
+
+pub const ROW_SIZE: usize = 4;
+
+// A table has no more header codes and scopes than these.
+pub const MOST_HEADERS: usize = 4;
+
+pub const MOST_SCOPES: usize = 64;
+
+// A scope's kind and code are one number, kind * CODES + code: they ascend as it does.
+pub const CODES: usize = 65536;
+
+// The largest high byte of a target, which is below 0x8000.
+const TARGET_HIGH: u8 = 0x7F;
+
+// The last of the kinds of scopes; only it has codes.
+const LAST_SCOPE_KIND: usize = SCOPE_ENTRY as usize;
+
+// One more than what may follow the last id.
+const PAST_IDS: usize = LAST_ID as usize + 2;
+
+// The numbers of a row: id, target, and the kind of its value.
 pub struct RowRead {
     pub id: usize,
     pub target: usize,
     pub kind: usize,
-}
-
-pub fn wide(x: u8) -> usize
-    ensures { λ r. ⌜ (r ≡ x) × (r < 256) ⌝ }
-{
-    x as usize
-}
-
-// The byte at a place, or 0 past the end.
-pub fn byte(table: &[u8], at: usize) -> usize
-    ensures { λ r. ⌜ Small (byte (now (table .entry)) at) 256 r ⌝ }
-{
-    if at < table.len() {
-        return table[at] as usize;
-    }
-    0
-}
-
-// The two bytes at a place, low byte first. Where both are inside the table, one test serves them.
-pub fn word(table: &[u8], at: usize) -> usize
-    requires { ⌜ at < 2 ^ 60 ⌝ }
-    ensures { λ r. ⌜ Small (u16 (now (table .entry)) at) 65536 r ⌝ }
-{
-    if at + 1 < table.len() {
-        return wide(table[at]) + 256 * wide(table[at + 1]);
-    }
-    byte(table, at) + 256 * byte(table, at + 1)
 }
 
 // The row at a place. Where it ends inside the table, one test serves all of its bytes.
@@ -48,15 +57,15 @@ pub fn read_row(table: &[u8], at: usize) -> RowRead
 {
     if at + 3 < table.len() {
         return RowRead {
-            id: wide(table[at]),
-            target: wide(table[at + 1]) + 256 * wide(table[at + 1 + 1]),
-            kind: wide(table[at + 3]),
+            id: number_of(table[at]),
+            target: number_of(table[at + 1]) + 256 * number_of(table[at + 1 + 1]),
+            kind: number_of(table[at + 3]),
         };
     }
     RowRead {
-        id: byte(table, at),
-        target: word(table, at + 1),
-        kind: byte(table, at + 3),
+        id: byte_number(table, at),
+        target: u16_number(table, at + 1),
+        kind: byte_number(table, at + 3),
     }
 }
 
@@ -69,12 +78,12 @@ fn codes_ascend(table: &[u8], start: usize, n: usize) -> bool
     let mut left = n;
     let mut least = 0;
     while 0 < left {
-        let code = word(table, at);
+        let code = u16_number(table, at);
         if code < least {
             return false;
         }
         least = code + 1;
-        at += 2;
+        at += CODE_SIZE;
         left -= 1;
     }
     true
@@ -85,30 +94,30 @@ fn ties_ok(table: &[u8], start: usize, n: usize) -> bool
     requires { ⌜ start + 4 * n ≤ length (now table) ⌝ }
     ensures { λ r. ⌜ r ≡ t.tiesOk (t.tiesAt (now (table .entry)) start n) ⌝ }
 {
-    let end = start + 4 * n;
+    let end = start + ROW_SIZE * n;
     let mut at = start;
     let mut least = 0;
     while at < end {
-        let id = wide(table[at]);
+        let id = number_of(table[at]);
         if id < least {
             return false;
         }
         // the target's high byte
-        if 0x7F < table[at + 2] {
+        if TARGET_HIGH < table[at + 2] {
             return false;
         }
-        if 4 < table[at + 3] {
+        if KIND_BYTES < table[at + 3] {
             return false;
         }
         least = id + 1;
-        at += 4;
+        at += ROW_SIZE;
     }
-    least < 0xFE
+    least < PAST_IDS
 }
 
 // The n scopes whose contents start at start and whose bodies at bodies are well formed, and the last body ends where the table does.
 fn scopes_fit(table: &[u8], start: usize, bodies: usize, n: usize) -> bool
-    requires { ⌜ (start + 5 * n < 2 ^ 32) × (bodies < 2 ^ 32) ⌝ }
+    requires { ⌜ ScopesSmall start bodies n ⌝ }
     ensures { λ r. ⌜ r ≡ t.scopesFit (now (table .entry)) start bodies n ⌝ }
 {
     let mut at = start;
@@ -116,31 +125,31 @@ fn scopes_fit(table: &[u8], start: usize, bodies: usize, n: usize) -> bool
     let mut left = n;
     let mut least = 0;
     while 0 < left {
-        let kind = byte(table, at);
-        let code = word(table, at + 1);
-        let count = word(table, at + 3);
-        if 2 < kind {
+        let kind = byte_number(table, at);
+        let code = u16_number(table, at + 1);
+        let count = u16_number(table, at + 3);
+        if LAST_SCOPE_KIND < kind {
             return false;
         }
-        if kind != 2 {
+        if kind != LAST_SCOPE_KIND {
             if code != 0 {
                 return false;
             }
         }
-        let key = kind * 65536 + code;
+        let key = kind * CODES + code;
         if key < least {
             return false;
         }
         // bodies only grow, and the last ends where the table does
-        if table.len() < body + 4 * count {
+        if table.len() < body + ROW_SIZE * count {
             return false;
         }
         if !ties_ok(table, body, count) {
             return false;
         }
         least = key + 1;
-        at += 5;
-        body += 4 * count;
+        at += SCOPE_SIZE;
+        body += ROW_SIZE * count;
         left -= 1;
     }
     body == table.len()
@@ -150,26 +159,26 @@ fn scopes_fit(table: &[u8], start: usize, bodies: usize, n: usize) -> bool
 pub fn well_formed(table: &[u8]) -> bool
     ensures { λ r. ⌜ r ≡ t.wellFormed (now (table .entry)) ⌝ }
 {
-    let headers = byte(table, 1);
-    let scopes = word(table, 2);
-    if 4 < headers {
+    let headers = byte_number(table, HEADER_COUNT_AT);
+    let scopes = u16_number(table, SCOPE_COUNT_AT);
+    if MOST_HEADERS < headers {
         return false;
     }
-    if 64 < scopes {
+    if MOST_SCOPES < scopes {
         return false;
     }
-    if !codes_ascend(table, 4, headers) {
+    if !codes_ascend(table, HEADER_AT, headers) {
         return false;
     }
-    let contents = 4 + 2 * headers;
-    scopes_fit(table, contents, contents + 5 * scopes, scopes)
+    let contents = HEADER_AT + CODE_SIZE * headers;
+    scopes_fit(table, contents, contents + SCOPE_SIZE * scopes, scopes)
 }
 
 // The layout byte.
 pub fn layout(table: &[u8]) -> u8
     ensures { λ r. ⌜ r ≡ t.layout (now (table .entry)) ⌝ }
 {
-    byte(table, 0) as u8
+    numbers::byte_at(table, 0)
 }
 
 // One of the header codes is `code`.
@@ -177,14 +186,14 @@ pub fn is_header(table: &[u8], code: u16) -> bool
     ensures { λ r. ⌜ r ≡ has code (t.header (now (table .entry))) ⌝ }
 {
     let wanted = code as usize;
-    let mut at = 4;
-    let mut codes = byte(table, 1);
+    let mut at = HEADER_AT;
+    let mut codes = byte_number(table, HEADER_COUNT_AT);
     while 0 < codes {
-        let here = word(table, at);
+        let here = u16_number(table, at);
         if here == wanted {
             return true;
         }
-        at += 2;
+        at += CODE_SIZE;
         codes -= 1;
     }
     false

@@ -1,7 +1,8 @@
 use native.Mathlib.Omega.{arith}
 use borrow.Author.Needs.{needs}
-use Prim.Native.Nat.{_+_, _*_, _^_, _<_}
+use Prim.Native.Nat.{ℕ, _+_, _*_, _^_, _<_}
 use mathlib.Core.Path.{_≡_, sym, _∙_}
+use mathlib.Core.List.{List}
 use denote.Ref.{now}
 use Rattle.rules.specs.Lists.{has}
 use Rattle.rules.specs.CodeTable.{codesAt, header}
@@ -9,32 +10,36 @@ use Rattle.codetable.proofs.Steps.{CodeRead, has-here, has-later, has-d
 use Rattle.codetable.proofs.is_header.Statement.{statement}
 use Rattle.codetable.proofs.is_header.Tie as tie
 
+-- the codes that are left decide, and the place stays small
+record Left (t : List ℕ) (code wanted at codes : ℕ) : Type 0 where
+  decide : has code (header t) ≡ has wanted (codesAt t at codes)
+  at-small : at + 2 * codes < 2 ^ 32
+
 abbrev Inv-loop : tie.InvT-loop
-Inv-loop table code wanted at₀ codes₀ at codes =
-    (has code (header table) ≡ has wanted (codesAt table at codes)) × (at + 2 * codes < 2 ^ 32)
+Inv-loop table code wanted at₀ codes₀ at codes = Left table code wanted at codes
 
 abbrev μ-loop : tie.MeasureT-loop
 μ-loop table code wanted at₀ codes₀ at codes = codes
 
 -- the code that a turn has read
-read : (c : tie.After-word Inv-loop μ-loop) → CodeRead (now (c .before .before .before .before .before .args .table)) (c .before .before .loop .at) (c .before .before .loop .codes) (c .word .result)
-read c = record { more = omega arith; code-is = c .word .ensures .is }
+read : (c : tie.After-u16-number Inv-loop μ-loop) → CodeRead (now (c .before .before .before .before .before .args .table)) (c .before .before .loop .at) (c .before .before .loop .codes) (c .u16-number .result)
+read c = record { more = omega arith; code-is = c .u16-number .ensures .is }
 
 loop-holds : tie.Need-loop-holds Inv-loop μ-loop
-loop-holds c = (rw (c .byte .ensures .is), omega arith)
+loop-holds c = record { decide = rw (c .byte-number .ensures .is); at-small = omega arith }
 
 returns : tie.Need-returns Inv-loop μ-loop
 returns c =
     let l = c .before .before .before in
-    sym (l .loop .inv .0 ∙ has-here (read (c .before)) _ (c .if1 .taken))
+    sym (l .loop .inv .decide ∙ has-here (read (c .before)) _ (c .if1 .taken))
 
 loop-again : tie.Need-loop-again Inv-loop μ-loop
 loop-again c =
     let l = c .before .before .before in
-    (l .loop .inv .0 ∙ has-later (read (c .before)) _ (c .if1 .left), omega arith)
+    record { decide = l .loop .inv .decide ∙ has-later (read (c .before)) _ (c .if1 .left); at-small = omega arith }
 
 returns-2 : tie.Need-returns-2 Inv-loop μ-loop
-returns-2 c = sym (c .before .loop .inv .0 ∙ has-done _ _ (c .before .loop .codes) _ (omega arith))
+returns-2 c = sym (c .before .loop .inv .decide ∙ has-done _ _ (c .before .loop .codes) _ (omega arith))
 
 pub is-header-spec : {M : Type 1} → statement M
 is-header-spec =

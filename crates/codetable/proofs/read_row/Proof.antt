@@ -7,14 +7,13 @@ use Rattle.codetable.proofs.read_row.Tie as tie
 returns : tie.Need-returns
 unfolding u16
 returns c =
-    let first = c .before .before .before .before .before .before .wide .ensures in
-    let low = c .before .before .before .before .wide2 .ensures in
-    let high = c .before .before .wide3 .ensures in
-    let last = c .wide4 .ensures in
+    let first : tie.After-number-of = search in
+    let low : tie.After-number-of2 = search in
+    let high : tie.After-number-of3 = search in
     record {
-      id = record { is = first .0; small = first .1 };
-      target = record { is = omega (arith, low .0, high .0); small = omega (arith, low .1, high .1) };
-      kind = record { is = last .0; small = last .1 };
+      id = first .number-of .ensures;
+      target = record { is = omega (arith, low .number-of2 .ensures .is, high .number-of3 .ensures .is); small = omega (arith, low .number-of2 .ensures .small, high .number-of3 .ensures .small) };
+      kind = c .number-of4 .ensures;
     }
 
 pub read-row-spec : {M : Type 1} → statement M

@@ -23,15 +23,15 @@ abbrev μ-loop : tie.MeasureT-loop
 μ-loop table start n end at₀ least₀ at least = end - at
 
 -- the loop's head, from where the id is read
-abbrev head : tie.After-wide Inv-loop μ-loop → tie.At-loop Inv-loop μ-loop
+abbrev head : tie.After-number-of Inv-loop μ-loop → tie.At-loop Inv-loop μ-loop
 head c = c .before .before .before
 
 -- the row that a turn has read
-read : (c : tie.After-wide Inv-loop μ-loop)
-    → TieRead (now (head c .before .before .args .table)) (head c .loop .at) (head c .loop .inv .rows) (c .wide .result)
+read : (c : tie.After-number-of Inv-loop μ-loop)
+    → TieRead (now (head c .before .before .args .table)) (head c .loop .at) (head c .loop .inv .rows) (c .number-of .result)
 read c = record {
   more = omega arith;
-  id-is = c .wide .ensures .0;
+  id-is = c .number-of .ensures .is;
   low-small = c .before .shared-slice-known2 .given (head c .loop .at + 1) .fits;
 }
 

@@ -8,8 +8,8 @@ use Rattle.codetable.proofs.well_formed.Statement.{statement}
 use Rattle.codetable.proofs.well_formed.Tie as tie
 
 -- the counts that are read
-counts : (c : tie.After-word) → Counts (now (c .before .before .before .args .table)) (c .before .byte .result) (c .word .result)
-counts c = record { headers-is = c .before .byte .ensures .is; scopes-is = c .word .ensures .is }
+counts : (c : tie.After-u16-number) → Counts (now (c .before .before .before .args .table)) (c .before .byte-number .result) (c .u16-number .result)
+counts c = record { headers-is = c .before .byte-number .ensures .is; scopes-is = c .u16-number .ensures .is }
 
 returns : tie.Need-returns
 returns c = sym (formed-headers (counts (c .before)) (omega arith))
