@@ -12,9 +12,9 @@ use borrow.Author.Tests.{eqb-true, eqb-false, eq-eqb, ne-eqb}
 use Rattle.rules.specs.Lists.{find, ascends}
 use Rattle.rules.specs.Bytes.{Bytes, byte, u16}
 use Rattle.rules.specs.CodeTable.{Tie, Scope, key, keyOf, tiesAt, scopesAt, scopes, scopeCount, contentsAt, bodiesAt, isScope, rowsOf, scopeRows}
-use Rattle.coderows.specs.declared.Place.{Place}
-use Rattle.coderows.specs.declared.Place.the-variants.{At, Missing}
-use Rattle.coderows.specs.Look.{Formed, findBy, itemsAt, indexes, keyAt, countAt, countsTo, asPlace, KeysAscend, rowsFrom, noRows, bodyRows}
+use Rattle.coderows.specs.declared.FoundScope.{FoundScope}
+use Rattle.coderows.specs.declared.FoundScope.the-variants.{At, Missing}
+use Rattle.coderows.specs.Look.{Formed, findBy, itemsAt, indexes, keyAt, countAt, countsTo, asFound, KeysAscend, rowsFrom, noRows, bodyRows}
 use Rattle.rules.proofs.CodeTableLaws.{formed}
 
 same-key : (k c kind code : ℕ) → c < 65536 → code < 65536 → (eqb k kind && eqb c code) ≡ eqb (keyOf k c) (keyOf kind code)
@@ -91,24 +91,24 @@ module _ (t : List ℕ) (contents bodies : ℕ) where
   keys-of-places (i ∷ is) = ap (λ l. keyAt t contents i ∷ l) (keys-of-places is)
 
 -- ---- what the search for a scope comes to
-place-none : (o : Option ℕ) → asPlace o ≡ Missing → o ≡ none
-unfolding asPlace
-place-none none e = refl
-place-none (some i) e = absurd (let z : _≡_ {A = ℕ} 0 1 = cc in omega arith)
+found-none : (o : Option ℕ) → asFound o ≡ Missing → o ≡ none
+unfolding asFound
+found-none none e = refl
+found-none (some i) e = absurd (let z : _≡_ {A = ℕ} 0 1 = cc in omega arith)
 
-place-some : (o : Option ℕ) (i : ℕ) → asPlace o ≡ At i → o ≡ some i
-unfolding asPlace
-place-some none i e = absurd (let z : _≡_ {A = ℕ} 0 1 = cc in omega arith)
-place-some (some j) i e = cc
+found-some : (o : Option ℕ) (i : ℕ) → asFound o ≡ At i → o ≡ some i
+unfolding asFound
+found-some none i e = absurd (let z : _≡_ {A = ℕ} 0 1 = cc in omega arith)
+found-some (some j) i e = cc
 
 -- a scope was sought
-pub record Sought (t : List ℕ) (kind code n : ℕ) (p : Place) : Type 0 where
+pub record ScopeSought (t : List ℕ) (kind code n : ℕ) (p : FoundScope) : Type 0 where
   pub bytes : Bytes t
   pub code-fits : code < 65536
   pub scopes-is : n ≡ scopeCount t
-  pub place : KeysAscend t (contentsAt t) 0 n → p ≡ asPlace (findBy (keyAt t (contentsAt t)) (keyOf kind code) (indexes 0 n))
+  pub found : KeysAscend t (contentsAt t) 0 n → p ≡ asFound (findBy (keyAt t (contentsAt t)) (keyOf kind code) (indexes 0 n))
 
-module _ {t : List ℕ} {kind code n : ℕ} {p : Place} (S : Sought t kind code n p) (F : Formed t) where
+module _ {t : List ℕ} {kind code n : ℕ} {p : FoundScope} (S : ScopeSought t kind code n p) (F : Formed t) where
   abbrev contents : ℕ
   contents = contentsAt t
 
@@ -131,8 +131,8 @@ module _ {t : List ℕ} {kind code n : ℕ} {p : Place} (S : Sought t kind code 
 
   pub missing-rows : p ≡ Missing → bodyRows t noRows ≡ scopeRows t kind code
   unfolding bodyRows tiesAt
-  missing-rows e = ap (rowsAt t contents bodies) (sym (place-none index (sym (S .place keys-ascend) ∙ e))) ∙ rows-there
+  missing-rows e = ap (rowsAt t contents bodies) (sym (found-none index (sym (S .found keys-ascend) ∙ e))) ∙ rows-there
 
   pub listed-rows : (i : ℕ) → p ≡ At i → bodyRows t (rowsFrom (bodies + 4 * countsTo t contents i) (countAt t contents i)) ≡ scopeRows t kind code
   unfolding bodyRows
-  listed-rows i e = ap (rowsAt t contents bodies) (sym (place-some index i (sym (S .place keys-ascend) ∙ e))) ∙ rows-there
+  listed-rows i e = ap (rowsAt t contents bodies) (sym (found-some index i (sym (S .found keys-ascend) ∙ e))) ∙ rows-there

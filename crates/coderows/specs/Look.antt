@@ -1,5 +1,5 @@
 -- The answers of the code, read in the terms of document 01's code table, and its look-ups as they go on from the middle.
-use Prim.Native.Nat.{ℕ, zero, suc, _+_, _*_, _<_}
+use Prim.Native.Nat.{ℕ, zero, suc, _+_, _*_, _^_, _≤_, _<_}
 use mathlib.Core.Path.{_≡_}
 use mathlib.Core.List.{List, [], _∷_, map}
 use mathlib.Core.Bool.{true}
@@ -13,8 +13,8 @@ use Rattle.coderows.specs.declared.Body.{Body}
 use Rattle.coderows.specs.declared.Row.{Row}
 use Rattle.coderows.specs.declared.Row.the-variants.{Tied, Untied}
 use Rattle.coderows.specs.declared.Glance.{Glance}
-use Rattle.coderows.specs.declared.Place.{Place}
-use Rattle.coderows.specs.declared.Place.the-variants.{At, Missing}
+use Rattle.coderows.specs.declared.FoundScope.{FoundScope}
+use Rattle.coderows.specs.declared.FoundScope.the-variants.{At, Missing}
 
 abbrev pub Formed : List ℕ → Type 0
 Formed t = wellFormed t ≡ true
@@ -54,21 +54,26 @@ pub record Words (t xs : List ℕ) (contents bodies i : ℕ) : Type 0 where
 abbrev pub Listed : List ℕ → List ℕ → Type 0
 Listed t xs = (i : ℕ) → i < scopeCount t → i < 64 → Words t xs (contentsAt t) (bodiesAt t) i
 
-unfoldable pub asPlace : Option ℕ → Place
-asPlace none = Missing
-asPlace (some i) = At i
+unfoldable pub asFound : Option ℕ → FoundScope
+asFound none = Missing
+asFound (some i) = At i
 
 -- the keys of n scopes ascend
 abbrev pub KeysAscend : List ℕ → ℕ → ℕ → ℕ → Type 0
 KeysAscend t contents first n = ascends 0 (map (keyAt t contents) (indexes first n)) ≡ true
 
-pub record Seeks (t : List ℕ) (contents n wanted : ℕ) (r : Place) : Type 0 where
-  pub is : KeysAscend t contents 0 n → r ≡ asPlace (findBy (keyAt t contents) wanted (indexes 0 n))
+-- what a search among n listed scopes asks
+pub record Wanted (n wanted : ℕ) : Type 0 where
+  pub few : n ≤ 64
+  pub key-small : wanted < 2 ^ 32
+
+pub record Seeks (t : List ℕ) (contents n wanted : ℕ) (r : FoundScope) : Type 0 where
+  pub is : KeysAscend t contents 0 n → r ≡ asFound (findBy (keyAt t contents) wanted (indexes 0 n))
   pub inside : (i : ℕ) → r ≡ At i → i < n
 
 -- where the scopes are listed too
-pub record SeeksListed (t xs : List ℕ) (n wanted : ℕ) (r : Place) : Type 0 where
-  pub is : Listed t xs → n ≡ scopeCount t → KeysAscend t (contentsAt t) 0 n → r ≡ asPlace (findBy (keyAt t (contentsAt t)) wanted (indexes 0 n))
+pub record SeeksListed (t xs : List ℕ) (n wanted : ℕ) (r : FoundScope) : Type 0 where
+  pub is : Listed t xs → n ≡ scopeCount t → KeysAscend t (contentsAt t) 0 n → r ≡ asFound (findBy (keyAt t (contentsAt t)) wanted (indexes 0 n))
   pub inside : (i : ℕ) → r ≡ At i → i < n
 
 -- the rows of a body that was found

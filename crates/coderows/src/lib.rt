@@ -1,13 +1,26 @@
 // What a code table that a caller lends ties an id to: the rows of a scope, and the row of an id.
-use codetable::byte;
+use codetable::CODE_SIZE;
+use codetable::CODES;
+use codetable::HEADER_AT;
+use codetable::HEADER_COUNT_AT;
+use codetable::MOST_SCOPES;
+use codetable::ROW_SIZE;
+use codetable::SCOPE_COUNT_AT;
+use codetable::SCOPE_SIZE;
 use codetable::read_row;
-use codetable::word;
+use numbers::byte_number;
+use numbers::u16_number;
 ghost use mathlib.Core.Path.{_≡_};
 ghost use Prim.Native.Nat.{_+_, _*_, _≤_, _<_, _^_};
 ghost use lib.ListN.{length};
 ghost use Rattle.rules.specs.Lists.{find};
 ghost use Rattle.rules.specs.CodeTable as t;
-ghost use Rattle.coderows.specs.Look.{Listed, Seeks, SeeksListed, Finds, Glances, Sorted, noRows, asRow};
+ghost use Rattle.coderows.specs.Look.{Listed, Seeks, SeeksListed, Wanted, Finds, Glances, Sorted, noRows, asRow};
+
+// The words that a list of scopes has for each, and for all that a table may have.
+pub const LISTED_WORDS: usize = 3;
+
+pub const SCOPE_LIST_WORDS: usize = LISTED_WORDS * MOST_SCOPES;
 
 // Where the rows of a scope are, and how many. A scope that is missing has none.
 pub struct Body {
@@ -21,7 +34,7 @@ pub struct Scope {
     pub near: usize,
 }
 
-// What a scope says of an id.
+// What a scope says of an id: the target, and the kind of the value.
 pub enum Row {
     Tied { target: u16, kind: u8 },
     Untied,
@@ -41,13 +54,13 @@ pub enum Glance {
 }
 
 // Which scope of the contents is wanted, counted from 0.
-enum Place {
+enum FoundScope {
     At(usize),
     Missing,
 }
 
 // Which of n scopes has the wanted kind and code, by halves, where these ascend.
-fn seek_scope(table: &[u8], contents: usize, n: usize, wanted: usize) -> Place
+fn seek_scope(table: &[u8], contents: usize, n: usize, wanted: usize) -> FoundScope
     requires { ⌜ contents + 5 * n < 2 ^ 32 ⌝ }
     ensures { λ r. ⌜ Seeks (now (table .entry)) contents n wanted r ⌝ }
 {
@@ -56,10 +69,10 @@ fn seek_scope(table: &[u8], contents: usize, n: usize, wanted: usize) -> Place
     while 0 < scopes {
         let half = scopes / 2;
         let mid = first + half;
-        let at = contents + 5 * mid;
-        let key = byte(table, at) * 65536 + word(table, at + 1);
+        let at = contents + SCOPE_SIZE * mid;
+        let key = byte_number(table, at) * CODES + u16_number(table, at + 1);
         if key == wanted {
-            return Place::At(mid);
+            return FoundScope::At(mid);
         }
         if key < wanted {
             first = mid + 1;
@@ -68,7 +81,7 @@ fn seek_scope(table: &[u8], contents: usize, n: usize, wanted: usize) -> Place
             scopes = half;
         }
     }
-    Place::Missing
+    FoundScope::Missing
 }
 
 // Writes what the contents say of each scope, 64 at most, in three words: its kind and code as one number, where its rows start, and how many they are.
@@ -76,37 +89,48 @@ pub fn list_scopes(table: &[u8], scopes: &mut [u32])
     requires { ⌜ length (now scopes) ≡ 192 ⌝ }
     ensures { λ _. ⌜ Listed (now (table .entry)) (now (scopes .exit)) ⌝ }
 {
-    let listed = word(table, 2);
-    let mut at = 4 + 2 * byte(table, 1);
-    let mut body = at + 5 * listed;
+    let listed = u16_number(table, SCOPE_COUNT_AT);
+    let mut at = HEADER_AT + CODE_SIZE * byte_number(table, HEADER_COUNT_AT);
+    let mut body = at + SCOPE_SIZE * listed;
     let mut i = 0;
     while i < listed {
-        if 63 < i {
+        if MOST_SCOPES <= i {
             return;
         }
-        let key = byte(table, at) * 65536 + word(table, at + 1);
-        let count = word(table, at + 3);
-        let k = 3 * i;
+        let key = byte_number(table, at) * CODES + u16_number(table, at + 1);
+        let count = u16_number(table, at + 3);
+        let k = LISTED_WORDS * i;
         scopes[k] = key as u32;
         scopes[k + 1] = body as u32;
         scopes[k + 2] = count as u32;
-        body += 4 * count;
-        at += 5;
+        body += ROW_SIZE * count;
+        at += SCOPE_SIZE;
         i += 1;
     }
 }
 
 // Which of n listed scopes has the wanted kind and code: one is looked at first.
-fn find_index(table: &[u8], scopes: &[u32; 192], n: usize, wanted: usize, near: usize) -> Place
-    requires { ⌜ (n ≤ 64) × (wanted < 2 ^ 32) ⌝ }
+fn find_index(
+    table: &[u8],
+    scopes: &[u32; SCOPE_LIST_WORDS],
+    n: usize,
+    wanted: usize,
+    near: usize,
+) -> FoundScope
+    requires { ⌜ Wanted n wanted ⌝ }
     ensures { λ r. ⌜ SeeksListed (now (table .entry)) (now (scopes .entry)) n wanted r ⌝ }
 {
     if near < n {
-        if scopes[3 * near] == wanted as u32 {
-            return Place::At(near);
+        if scopes[LISTED_WORDS * near] == wanted as u32 {
+            return FoundScope::At(near);
         }
     }
-    seek_scope(table, 4 + 2 * byte(table, 1), n, wanted)
+    seek_scope(
+        table,
+        HEADER_AT + CODE_SIZE * byte_number(table, HEADER_COUNT_AT),
+        n,
+        wanted,
+    )
 }
 
 fn missing(near: usize) -> Scope
@@ -119,18 +143,24 @@ fn missing(near: usize) -> Scope
 }
 
 // Where the rows of a scope are, in a well-formed table with these scopes. Any scope may be told as near: it is looked at first.
-pub fn find_scope(table: &[u8], scopes: &[u32; 192], kind: u8, code: u16, near: usize) -> Scope
-    ensures { λ r. ⌜ (Listed (now (table .entry)) (now (scopes .entry)) → Finds (now (table .entry)) kind code (r .body)) ⌝ }
+pub fn scope_near(
+    table: &[u8],
+    scopes: &[u32; SCOPE_LIST_WORDS],
+    scope_kind: u8,
+    code: u16,
+    near: usize,
+) -> Scope
+    ensures { λ r. ⌜ (Listed (now (table .entry)) (now (scopes .entry)) → Finds (now (table .entry)) «scope_kind» code (r .body)) ⌝ }
 {
-    let listed = word(table, 2);
-    if 64 < listed {
+    let listed = u16_number(table, SCOPE_COUNT_AT);
+    if MOST_SCOPES < listed {
         return missing(near);
     }
-    let wanted = kind as usize * 65536 + code as usize;
-    let Place::At(index) = find_index(table, scopes, listed, wanted, near) else {
+    let wanted = scope_kind as usize * CODES + code as usize;
+    let FoundScope::At(index) = find_index(table, scopes, listed, wanted, near) else {
         return missing(near);
     };
-    let k = 3 * index;
+    let k = LISTED_WORDS * index;
     Scope {
         body: Body {
             start: scopes[k + 1],
@@ -149,7 +179,7 @@ pub fn seek_row(table: &[u8], start: usize, n: usize, wanted: usize) -> Sought
     let mut rows = n;
     while 0 < rows {
         let half = rows / 2;
-        let mid = at + 4 * half;
+        let mid = at + ROW_SIZE * half;
         let row = read_row(table, mid);
         let id = row.id;
         if id == wanted {
@@ -158,11 +188,11 @@ pub fn seek_row(table: &[u8], start: usize, n: usize, wanted: usize) -> Sought
                     target: row.target as u16,
                     kind: row.kind as u8,
                 },
-                near: (mid - start) / 4,
+                near: (mid - start) / ROW_SIZE,
             };
         }
         if id < wanted {
-            at = mid + 4;
+            at = mid + ROW_SIZE;
             rows = rows - half - 1;
         } else {
             rows = half;
@@ -170,19 +200,19 @@ pub fn seek_row(table: &[u8], start: usize, n: usize, wanted: usize) -> Sought
     }
     Sought {
         row: Row::Untied,
-        near: (at - start) / 4,
+        near: (at - start) / ROW_SIZE,
     }
 }
 
 // What the row `near` of n rows tells of an id: it ties it, or it is above and the one before it below.
-pub fn look(table: &[u8], start: usize, n: usize, wanted: usize, near: usize) -> Glance
+pub fn row_near(table: &[u8], start: usize, n: usize, wanted: usize, near: usize) -> Glance
     requires { ⌜ start + 4 * n < 2 ^ 60 ⌝ }
     ensures { λ r. ⌜ Glances (now (table .entry)) start n wanted r ⌝ }
 {
     if n <= near {
         return Glance::Unseen;
     }
-    let mid = start + 4 * near;
+    let mid = start + ROW_SIZE * near;
     let row = read_row(table, mid);
     if row.id == wanted {
         return Glance::Tied {
@@ -196,7 +226,7 @@ pub fn look(table: &[u8], start: usize, n: usize, wanted: usize, near: usize) ->
     if near == 0 {
         return Glance::Untied;
     }
-    if byte(table, mid - 4) < wanted {
+    if byte_number(table, mid - ROW_SIZE) < wanted {
         return Glance::Untied;
     }
     Glance::Unseen

@@ -5,11 +5,11 @@ use Rattle.codehints.proofs.find_row.Tie as tie
 
 returns : tie.Need-returns
 unfolding bodyRows
-returns c = c .before .before .before .look .ensures .tied _ _ (c .before .target .given .1)
+returns c = c .before .before .before .row-near .ensures .tied _ _ (c .before .target .given .1)
 
 returns-2 : tie.Need-returns-2
 unfolding bodyRows
-returns-2 c = c .before .before .look .ensures .untied (c .enum-told .given .1)
+returns-2 c = c .before .before .row-near .ensures .untied (c .enum-told .given .1)
 
 returns-3 : tie.Need-returns-3
 unfolding bodyRows

@@ -5,7 +5,7 @@ use mathlib.Core.Path.{_≡_, sym, ap}
 use denote.Ref.{now}
 use lib.ListN.{getD}
 use Rattle.rules.specs.CodeTable.{scopeCount, contentsAt}
-use Rattle.coderows.specs.Look.{keyAt, Listed, asPlace}
+use Rattle.coderows.specs.Look.{keyAt, Listed, asFound}
 use Rattle.coderows.proofs.Halves.{begin, Turn, hit}
 use Rattle.coderows.proofs.ScopeList.{listed-words}
 use Rattle.coderows.proofs.find_index.Statement.{statement}
@@ -22,16 +22,16 @@ turn c L e = record {
 }
 
 returns : tie.Need-returns
-unfolding asPlace
+unfolding asFound
 returns c = record {
-  is = λ L e a. ap asPlace (sym (hit (turn (c .before .before) L e) (c .if2 .taken) a));
+  is = λ L e a. ap asFound (sym (hit (turn (c .before .before) L e) (c .if2 .taken) a));
   inside = λ i e.
       let q : c .before .before .before .before .args .near ≡ i = cc in
       omega (arith, c .before .before .if1 .taken);
 }
 
 returns-2 : tie.Need-returns-2
-returns-2 c = record { is = λ L e. rw (← (c .before .byte .ensures .is)) (c .seek-scope .ensures .is); inside = c .seek-scope .ensures .inside }
+returns-2 c = record { is = λ L e. rw (← (c .before .byte-number .ensures .is)) (c .seek-scope .ensures .is); inside = c .seek-scope .ensures .inside }
 
 pub find-index-spec : {M : Type 1} → statement M
 find-index-spec =

@@ -6,8 +6,8 @@ use denote.Ref.{now}
 use Rattle.rules.specs.CodeTable.{idOf, tieAt}
 use Rattle.coderows.proofs.Halves.{begin, Turn, go-up, go-down}
 use Rattle.coderows.proofs.Rows.{glance-tied, glance-untied, glance-unseen}
-use Rattle.coderows.proofs.look.Statement.{statement}
-use Rattle.coderows.proofs.look.Tie as tie
+use Rattle.coderows.proofs.row_near.Statement.{statement}
+use Rattle.coderows.proofs.row_near.Tie as tie
 
 -- the row that is looked at
 turn : (c : tie.After-read-row)
@@ -16,14 +16,14 @@ turn : (c : tie.After-read-row)
 turn c = record { so-far = begin _ _ 4 _ _ _; fits = omega (arith, c .before .if1 .left); middle = refl; reads = c .read-row .ensures .id .is }
 
 -- the row before it, among those before it
-turn-before : (c : tie.After-byte)
+turn-before : (c : tie.After-byte-number)
     → Turn (tieAt (now (c .before .before .before .before .before .before .before .before .before .args .table))) idOf 4 (c .before .before .before .before .before .before .before .before .before .args .start) (c .before .before .before .before .before .before .before .before .before .args .n) (c .before .before .before .before .before .before .before .before .before .args .wanted)
-    (c .before .before .before .before .before .before .before .before .before .args .start) (c .before .before .before .before .before .before .before .before .before .args .near) (c .before .before .before .before .before .before .before .before .before .args .near - 1) (c .before .before .before .before .before .before .before .before .before .args .start + 4 * c .before .before .before .before .before .before .before .before .before .args .near - 4) (c .byte .result)
+    (c .before .before .before .before .before .before .before .before .before .args .start) (c .before .before .before .before .before .before .before .before .before .args .near) (c .before .before .before .before .before .before .before .before .before .args .near - 1) (c .before .before .before .before .before .before .before .before .before .args .start + 4 * c .before .before .before .before .before .before .before .before .before .args .near - 4) (c .byte-number .result)
 turn-before c = record {
   so-far = go-down (turn (c .before .before .before .before .before .before)) (omega (arith, c .before .before .before .before .if2 .left, c .before .before .if3 .left));
   fits = omega (arith, c .before .if4 .left);
   middle = omega (arith, c .before .if4 .left);
-  reads = c .byte .ensures .is;
+  reads = c .byte-number .ensures .is;
 }
 
 returns-2 : tie.Need-returns-2
@@ -37,8 +37,8 @@ returns-4 c = glance-untied (now (c .before .before .before .before .before .bef
 returns-5 : tie.Need-returns-5
 returns-5 c = glance-untied (now (c .before .before .before .before .before .before .before .before .before .before .args .table)) (go-up (turn-before (c .before)) (omega (arith, c .if5 .taken))) (omega arith)
 
-pub look-spec : {M : Type 1} → statement M
-look-spec =
+pub row-near-spec : {M : Type 1} → statement M
+row-near-spec =
     tie.close
     (tie.spec
     (λ c. glance-unseen _ _ _ _)

@@ -4,24 +4,24 @@ use Prim.Native.Nat.{_<_}
 use denote.Ref.{now}
 use Rattle.rules.proofs.CodeTableLaws.{formed}
 use Rattle.coderows.specs.Look.{Listed}
-use Rattle.coderows.proofs.Scopes.{Sought, missing-rows, listed-rows}
+use Rattle.coderows.proofs.Scopes.{ScopeSought, missing-rows, listed-rows}
 use Rattle.coderows.proofs.Lookup.{finds}
 use Rattle.coderows.proofs.ScopeList.{listed-words}
-use Rattle.coderows.proofs.find_scope.Statement.{statement}
-use Rattle.coderows.proofs.find_scope.Tie as tie
+use Rattle.coderows.proofs.scope_near.Statement.{statement}
+use Rattle.coderows.proofs.scope_near.Tie as tie
 
 -- what the search for the scope gives
 sought : (c : tie.After-find-index) → (let a = c .before .before .before .before .args in Listed (now (a .table)) (now (a .scopes))
-    → Sought (now (a .table)) (a .kind) (a .code) (c .before .before .word .result) (c .find-index .result))
+    → ScopeSought (now (a .table)) (a .scope-kind) (a .code) (c .before .before .u16-number .result) (c .find-index .result))
 sought c L = record {
   bytes = λ i. c .before .before .before .shared-slice-known .given i .fits;
   code-fits = omega arith;
-  scopes-is = c .before .before .word .ensures .is;
-  place = c .find-index .ensures .is L (c .before .before .word .ensures .is);
+  scopes-is = c .before .before .u16-number .ensures .is;
+  found = c .find-index .ensures .is L (c .before .before .u16-number .ensures .is);
 }
 
 -- the scope that was found is one of them
-within : (c : tie.After-index) → c .index .given .0 .0 < c .before .before .before .before .word .result
+within : (c : tie.After-index) → c .index .given .0 .0 < c .before .before .before .before .u16-number .result
 within c = c .before .before .find-index .ensures .inside (c .index .given .0 .0) (c .index .given .1)
 
 returns : tie.Need-returns
@@ -38,8 +38,8 @@ returns-3 c = λ L.
     let w = listed-words L (s .scopes-is) k (within i) (omega arith) in
     finds _ _ _ _ (λ F. rw (w .start, w .count) (listed-rows s F k (i .index .given .1)))
 
-pub find-scope-spec : {M : Type 1} → statement M
-find-scope-spec =
+pub scope-near-spec : {M : Type 1} → statement M
+scope-near-spec =
     tie.close
     (tie.spec
     (λ c κs. search needs) (λ c κs. search needs)

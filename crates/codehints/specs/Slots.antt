@@ -1,0 +1,12 @@
+-- What the look-ups by hints ask.
+use Prim.Native.Nat.{ℕ, _+_, _*_, _^_, _<_}
+
+-- the rows start early enough, and the id is a byte
+pub record RowAsked (start id : ℕ) : Type 0 where
+  pub start-small : start < 2 ^ 60
+  pub id-small : id < 256
+
+-- a hint's place, and n rows that end early enough
+pub record RowsAsked (slot start n : ℕ) : Type 0 where
+  pub a-slot : slot < 4352
+  pub rows-small : start + 4 * n < 2 ^ 60
