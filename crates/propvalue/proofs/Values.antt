@@ -13,9 +13,9 @@ use Rattle.rules.specs.Bytes.{byte, u16, u32}
 use Rattle.rules.specs.Utf16.{isUtf16}
 use Rattle.rules.specs.Value.{value, boolValue, notDefault, signed, word32, longValue, shortValue, doubleValue, widened, guidValue, binaryValue, fits16, integerValue, longOr, shortOr, yesNoValue, entryValue, storedValue, valueAs}
 use Rattle.propvalue.specs.Parts.{singleOrBinary, doubleOrBinary, guidOrBinary}
-use Rattle.leaf.specs.Int.{intOf, shortOf}
-use Rattle.leaf.specs.declared.Int.the-variants.{Of, Nothing}
-use Rattle.leaf.specs.declared.Short.the-variants.{Fits, Not}
+use Rattle.numbers.specs.Int.{intOf, shortOf}
+use Rattle.numbers.specs.declared.Int.the-variants.{Of, Nothing}
+use Rattle.numbers.specs.declared.Short.the-variants.{Fits, Not}
 
 -- ---- a whole number that may be missing
 apart : {X : Type 0} → _≡_ {A = ℕ} 0 1 → X

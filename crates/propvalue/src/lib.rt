@@ -1,27 +1,49 @@
-// A property's value out of its bytes. Every public function but told_value has an answer for every input.
-use leaf::Int;
-use leaf::Short;
-use leaf::byte_at;
-use leaf::four_at;
-use leaf::integer_value;
-use leaf::is_utf16;
-use leaf::short_of;
-use leaf::signed16;
-use leaf::signed32;
-use leaf::two_at;
-use leaf::u16_at;
-use leaf::u32_at;
-use leaf::widen;
-use leaf::word_of;
+// A property's value out of its bytes, and how many bytes its id tells. Every public function but sized_stored_value has an answer for every input.
+use numbers::Int;
+use numbers::Short;
+use numbers::byte_at;
+use numbers::integer_value;
+use numbers::short_of;
+use numbers::signed16;
+use numbers::signed32;
+use numbers::u16_at;
+use numbers::u16_inside;
+use numbers::u32_at;
+use numbers::u32_inside;
+use numbers::widen;
+use numbers::word_of;
+use rules::KIND_DOUBLE;
+use rules::KIND_GUID;
+use rules::KIND_TEXT;
+use rules::LAST_BYTE_ID;
+use rules::LAST_FLAG_ID;
+use rules::LAST_SHORT_ID;
+use rules::LAST_SIZED_ID;
+use rules::MARK_BINARY;
+use rules::MARK_BOOL;
+use rules::MARK_DOUBLE;
+use rules::MARK_GUID;
+use rules::MARK_LONG;
+use rules::MARK_LOOSE;
+use rules::MARK_NOT_DEFAULT;
+use rules::MARK_SHORT;
+use rules::MARK_TEXT;
 use rules::Value;
+use utf16::is_utf16;
 ghost use mathlib.Core.Path.{_≡_};
 ghost use mathlib.Core.Bool.{cond};
-ghost use Prim.Native.Nat.{_≤_};
 ghost use lib.ListN.{length};
 ghost use Rattle.rules.specs.Utf16.{isUtf16};
 ghost use Rattle.rules.specs.Value.{value, integerValue, longOr, shortOr, boolValue, binaryValue, yesNoValue, entryValue, storedValue, valueAs};
 ghost use Rattle.propvalue.specs.Parts.{singleOrBinary, doubleOrBinary, guidOrBinary};
-ghost use Rattle.propvalue.specs.Sized.{Sized};
+ghost use Rattle.propvalue.specs.Sized.{sizeOf, SizedValue};
+
+// How many bytes a single has, a double and a GUID.
+const SINGLE: usize = 4;
+
+const DOUBLE: usize = 8;
+
+const GUID: usize = 16;
 
 fn valued(mark: u32, low: u32, high: u32) -> Value
     ensures { λ r. ⌜ r ≡ value mark low high ⌝ }
@@ -33,9 +55,9 @@ fn bool_value(b: u8) -> Value
     ensures { λ r. ⌜ r ≡ boolValue b ⌝ }
 {
     if b == 0 {
-        valued(0, 0, 0)
+        valued(MARK_BOOL, 0, 0)
     } else {
-        valued(0, 1, 0)
+        valued(MARK_BOOL, 1, 0)
     }
 }
 
@@ -43,51 +65,51 @@ fn long_value(bytes: &[u8]) -> Value
     ensures { λ r. ⌜ r ≡ longOr binaryValue (integerValue (now (bytes .entry))) ⌝ }
 {
     let Int::Of(v) = integer_value(bytes) else {
-        return valued(7, 0, 0);
+        return valued(MARK_BINARY, 0, 0);
     };
-    valued(3, word_of(v), 0)
+    valued(MARK_LONG, word_of(v), 0)
 }
 
 fn short_value(bytes: &[u8]) -> Value
     ensures { λ r. ⌜ r ≡ shortOr binaryValue (integerValue (now (bytes .entry))) ⌝ }
 {
     let Int::Of(v) = integer_value(bytes) else {
-        return valued(7, 0, 0);
+        return valued(MARK_BINARY, 0, 0);
     };
     let Short::Fits(n) = short_of(v) else {
-        return valued(7, 0, 0);
+        return valued(MARK_BINARY, 0, 0);
     };
-    valued(2, word_of(n as i32), 0)
+    valued(MARK_SHORT, word_of(n as i32), 0)
 }
 
 fn single_value(bytes: &[u8]) -> Value
     ensures { λ r. ⌜ r ≡ singleOrBinary (now (bytes .entry)) ⌝ }
 {
-    if bytes.len() == 4 {
+    if bytes.len() == SINGLE {
         let w = widen(u32_at(bytes, 0));
-        valued(4, w.low, w.high)
+        valued(MARK_DOUBLE, w.low, w.high)
     } else {
-        valued(7, 0, 0)
+        valued(MARK_BINARY, 0, 0)
     }
 }
 
 fn double_value(bytes: &[u8]) -> Value
     ensures { λ r. ⌜ r ≡ doubleOrBinary (now (bytes .entry)) ⌝ }
 {
-    if bytes.len() == 8 {
-        valued(4, u32_at(bytes, 0), u32_at(bytes, 4))
+    if bytes.len() == DOUBLE {
+        valued(MARK_DOUBLE, u32_at(bytes, 0), u32_at(bytes, 4))
     } else {
-        valued(7, 0, 0)
+        valued(MARK_BINARY, 0, 0)
     }
 }
 
 fn guid_value(bytes: &[u8]) -> Value
     ensures { λ r. ⌜ r ≡ guidOrBinary (now (bytes .entry)) ⌝ }
 {
-    if bytes.len() == 16 {
-        valued(5, 0, 0)
+    if bytes.len() == GUID {
+        valued(MARK_GUID, 0, 0)
     } else {
-        valued(7, 0, 0)
+        valued(MARK_BINARY, 0, 0)
     }
 }
 
@@ -96,7 +118,7 @@ fn text_or(bytes: &[u8], other: u32) -> Value
     ensures { λ r. ⌜ r ≡ cond (isUtf16 (now (bytes .entry))) (value 6 0 0) (value other 0 0) ⌝ }
 {
     if is_utf16(bytes) {
-        valued(6, 0, 0)
+        valued(MARK_TEXT, 0, 0)
     } else {
         valued(other, 0, 0)
     }
@@ -107,7 +129,7 @@ pub fn yes_no_value(bytes: &[u8]) -> Value
     ensures { λ r. ⌜ r ≡ yesNoValue (now (bytes .entry)) ⌝ }
 {
     if bytes.len() == 0 {
-        return valued(1, 0, 0);
+        return valued(MARK_NOT_DEFAULT, 0, 0);
     }
     if bytes.len() == 1 {
         return bool_value(byte_at(bytes, 0));
@@ -115,6 +137,7 @@ pub fn yes_no_value(bytes: &[u8]) -> Value
     long_value(bytes)
 }
 
+// By the type that document 01 gives the number of.
 pub fn entry_value(type_code: u32, bytes: &[u8]) -> Value
     ensures { λ r. ⌜ r ≡ entryValue «type_code» (now (bytes .entry)) ⌝ }
 {
@@ -126,58 +149,82 @@ pub fn entry_value(type_code: u32, bytes: &[u8]) -> Value
         0x06 => single_value(bytes),
         0x08 => double_value(bytes),
         0x09 => guid_value(bytes),
-        0x0a | 0x0c => text_or(bytes, 8),
-        _ => valued(7, 0, 0),
+        0x0A | 0x0C => text_or(bytes, MARK_LOOSE),
+        _ => valued(MARK_BINARY, 0, 0),
     }
 }
 
 // ---- the Access 2000 layout
+// How many bytes a value has: the id tells, or a length before them.
+pub enum Size {
+    Told(usize),
+    Stored,
+}
+
+pub fn value_size(id: u8) -> Size
+    ensures { λ r. ⌜ r ≡ sizeOf id ⌝ }
+{
+    if LAST_SHORT_ID < id {
+        if LAST_SIZED_ID < id {
+            return Size::Stored;
+        }
+        return Size::Told(4);
+    }
+    if LAST_BYTE_ID < id {
+        return Size::Told(2);
+    }
+    if LAST_FLAG_ID < id {
+        return Size::Told(1);
+    }
+    Size::Told(0)
+}
+
 pub fn stored_value(id: u8, bytes: &[u8]) -> Value
     ensures { λ r. ⌜ r ≡ storedValue id (now (bytes .entry)) ⌝ }
 {
-    if id <= 0x2f {
-        return valued(1, 0, 0);
+    if id <= LAST_FLAG_ID {
+        return valued(MARK_NOT_DEFAULT, 0, 0);
     }
-    if id <= 0x5f {
-        return valued(2, byte_at(bytes, 0) as u32, 0);
+    if id <= LAST_BYTE_ID {
+        return valued(MARK_SHORT, byte_at(bytes, 0) as u32, 0);
     }
-    if id <= 0x7f {
-        return valued(2, word_of(signed16(u16_at(bytes, 0))), 0);
+    if id <= LAST_SHORT_ID {
+        return valued(MARK_SHORT, word_of(signed16(u16_at(bytes, 0))), 0);
     }
-    if id <= 0xbc {
-        return valued(3, word_of(signed32(u32_at(bytes, 0))), 0);
+    if id <= LAST_SIZED_ID {
+        return valued(MARK_LONG, word_of(signed32(u32_at(bytes, 0))), 0);
     }
-    valued(7, 0, 0)
+    valued(MARK_BINARY, 0, 0)
 }
 
-// Bytes behind a length are read by the kind of the row that ties their id: 1 Text, 2 Guid, 3 Double.
+// Bytes after a length are read by the kind of the row that ties their id.
 pub fn value_as(kind: u8, id: u8, bytes: &[u8]) -> Value
     ensures { λ r. ⌜ r ≡ valueAs kind id (now (bytes .entry)) ⌝ }
 {
-    if id <= 0xbc {
+    if id <= LAST_SIZED_ID {
         return stored_value(id, bytes);
     }
     match kind {
-        1 => text_or(bytes, 7),
-        2 => guid_value(bytes),
-        3 => double_value(bytes),
-        _ => valued(7, 0, 0),
+        KIND_TEXT => text_or(bytes, MARK_BINARY),
+        KIND_GUID => guid_value(bytes),
+        KIND_DOUBLE => double_value(bytes),
+        _ => valued(MARK_BINARY, 0, 0),
     }
 }
 
 // As stored_value, of at least as many bytes as the id tells: their number isn't tested.
-pub fn told_value(id: u8, bytes: &[u8]) -> Value
-    requires { ⌜ (id ≤ 0xBC) × Sized id (length (now bytes)) ⌝ }
+pub fn sized_stored_value(id: u8, bytes: &[u8]) -> Value
+    requires { ⌜ SizedValue id (length (now bytes)) ⌝ }
     ensures { λ r. ⌜ r ≡ storedValue id (now (bytes .entry)) ⌝ }
 {
-    if 0x5f < id {
-        if 0x7f < id {
-            return valued(3, four_at(bytes, 0), 0);
+    if LAST_BYTE_ID < id {
+        if LAST_SHORT_ID < id {
+            return valued(MARK_LONG, u32_inside(bytes, 0), 0);
         }
-        return valued(2, word_of(signed16(two_at(bytes, 0))), 0);
+        return valued(MARK_SHORT, word_of(signed16(u16_inside(bytes, 0))), 0);
     }
-    if 0x2f < id {
-        return valued(2, bytes[0] as u32, 0);
+    if LAST_FLAG_ID < id {
+        return valued(MARK_SHORT, bytes[0] as u32, 0);
     }
-    valued(1, 0, 0)
+    valued(MARK_NOT_DEFAULT, 0, 0)
 }

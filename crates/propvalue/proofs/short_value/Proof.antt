@@ -7,7 +7,7 @@ use mir.Syntax.{w16, w32}
 use mir.Val.{SFits, toZ, ofZ}
 use mir.Facts.{toZ-ofZ}
 use Rattle.rules.specs.Value.{value, integerValue, word32}
-use Rattle.leaf.specs.Int.{shortOf}
+use Rattle.numbers.specs.Int.{shortOf}
 use Rattle.propvalue.proofs.Values.{missing-short, too-long, short-fits}
 use Rattle.propvalue.proofs.short_value.Statement.{statement}
 use Rattle.propvalue.proofs.short_value.Tie as tie

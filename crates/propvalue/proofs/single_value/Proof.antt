@@ -4,8 +4,8 @@ use native.Mathlib.Omega.{arith}
 use borrow.Author.Needs.{needs}
 use Rattle.rules.specs.Value.{value, widened}
 use Rattle.propvalue.proofs.Values.{a-single, no-single}
-use Rattle.leaf.specs.Wide.{wordsOf}
-use Rattle.leaf.specs.declared.Wide.{Wide}
+use Rattle.numbers.specs.Wide.{wordsOf}
+use Rattle.numbers.specs.declared.Wide.{Wide}
 use Rattle.propvalue.proofs.single_value.Statement.{statement}
 use Rattle.propvalue.proofs.single_value.Tie as tie
 

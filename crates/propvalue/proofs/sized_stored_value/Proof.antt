@@ -5,30 +5,31 @@ use borrow.Author.Needs.{needs}
 use mir.Syntax.{w32}
 use mir.Facts.{toZ-ofZ}
 use Rattle.rules.specs.Value.{value, signed, word32}
+use Rattle.propvalue.proofs.Sizes.{tells-one, tells-two, tells-four}
 use Rattle.propvalue.proofs.Values.{stored-flag, stored-byte, stored-short, stored-word}
-use Rattle.propvalue.proofs.told_value.Statement.{statement}
-use Rattle.propvalue.proofs.told_value.Tie as tie
+use Rattle.propvalue.proofs.sized_stored_value.Statement.{statement}
+use Rattle.propvalue.proofs.sized_stored_value.Tie as tie
 
-four-at-requires : tie.Need-four-at-requires
-four-at-requires c κs = let p = c .before .before .before .pre in omega (arith, p .1 .four (omega arith) (p .0))
+u32-inside-requires : tie.Need-u32-inside-requires
+u32-inside-requires c κs = let p = c .before .before .before .pre in omega (arith, p .sized .enough 4 (tells-four _ (omega arith) (p .tells)))
 
 returns : tie.Need-returns
 returns c =
     let b = c .before .before .before .before .before in
-    c .valued .ensures ∙ ap (λ (n : ℕ). value 3 n 0) (c .before .four-at .ensures) ∙ stored-word (b .args .id) (b .args .bytes .now) (omega arith) (b .pre .0) (omega (arith, c .before .four-at .ensures))
+    c .valued .ensures ∙ ap (λ (n : ℕ). value 3 n 0) (c .before .u32-inside .ensures) ∙ stored-word (b .args .id) (b .args .bytes .now) (omega arith) (b .pre .tells) (omega (arith, c .before .u32-inside .ensures))
 
-two-at-requires : tie.Need-two-at-requires
-two-at-requires c κs = let p = c .before .before .before .pre in omega (arith, p .1 .two (omega arith) (p .0))
+u16-inside-requires : tie.Need-u16-inside-requires
+u16-inside-requires c κs = let p = c .before .before .before .pre in omega (arith, p .sized .enough 2 (tells-two _ (omega arith) (omega arith)))
 
 returns-2 : tie.Need-returns-2
 returns-2 c =
     let a = c .before .before .before .before .before .before .before .args in
     c .valued2 .ensures
-    ∙ ap (λ (n : ℕ). value 2 n 0) (c .before .word-of .ensures ∙ ap word32 (toZ-ofZ {w = w32} (record { sfits = c .before .before .signed16 .ok }) ∙ c .before .before .signed16 .ensures ∙ ap (signed 0x8000) (c .before .before .before .two-at .ensures)))
+    ∙ ap (λ (n : ℕ). value 2 n 0) (c .before .word-of .ensures ∙ ap word32 (toZ-ofZ {w = w32} (record { sfits = c .before .before .signed16 .ok }) ∙ c .before .before .signed16 .ensures ∙ ap (signed 0x8000) (c .before .before .before .u16-inside .ensures)))
     ∙ stored-short (a .id) (a .bytes .now) (omega arith) (omega arith)
 
 shared-slice-read-valued : tie.Need-shared-slice-read-valued
-shared-slice-read-valued c = let p = c .before .before .before .before .pre in omega (arith, p .1 .one (omega arith) (p .0))
+shared-slice-read-valued c = let p = c .before .before .before .before .pre in omega (arith, p .sized .enough 1 (tells-one _ (omega arith) (omega arith)))
 
 cast-valued : tie.Need-cast-valued
 cast-valued c = record { fits = omega (arith, c .shared-slice-known2 .given 0 .fits) }
@@ -42,14 +43,14 @@ returns-3 c =
 returns-4 : tie.Need-returns-4
 returns-4 c = let a = c .before .before .before .before .args in c .valued4 .ensures ∙ stored-flag (a .id) (a .bytes .now) (omega arith)
 
-pub told-value-spec : {M : Type 1} → statement M
-told-value-spec =
+pub sized-stored-value-spec : {M : Type 1} → statement M
+sized-stored-value-spec =
     tie.close
     (tie.spec
-    four-at-requires
+    u32-inside-requires
     (λ c κs. search needs)
     returns
-    two-at-requires
+    u16-inside-requires
     (λ c κs. search needs) (λ c κs. search needs) (λ c κs. search needs)
     returns-2
     shared-slice-read-valued
