@@ -4,22 +4,24 @@ use native.Mathlib.Omega.{arith}
 use mathlib.Core.Path.{_≡_, refl, sym, ap, _∙_}
 use mathlib.Core.Bool.{Bool, true, false, cond}
 use mathlib.Core.List.{List}
-use mathlib.Core.Option.{Option, some}
+use mathlib.Core.Option.{Option, none, some}
 use lib.Dec.{leb, ltb, eqb}
 use lib.ListN.{length}
-use Rattle.rules.specs.Bytes.{Bytes, byteAt, halfAt}
-use Rattle.rules.specs.Access2000.{lengthAt, extentAt}
+use Rattle.rules.specs.Bytes.{Bytes, byte, byteAt, halfAt}
+use Rattle.rules.specs.Access2000.{lengthAt, extentAt, propertyAt}
 use Rattle.rules.proofs.ListLaws.{Every, every-if, every-then, every-when}
 use Rattle.walk2000.specs.Told as told
-use Rattle.walk2000.specs.declared.Size.{Size}
-use Rattle.walk2000.specs.declared.Spot.{Spot}
+use Rattle.propvalue.specs.Sized.{sizeOf, Sized}
+use Rattle.propvalue.specs.declared.Size.{Size}
+use Rattle.propvalue.proofs.Sizes.{tells-few}
+use Rattle.walk2000.specs.declared.Extent.{Extent}
 
 abbrev bySize : List ℕ → ℕ → Size → Option (ℕ × ℕ)
 bySize s p (Size.Told n) = some (p, n)
 bySize s p Size.Stored = lengthAt s p
 
-by-size : (s : List ℕ) (id p : ℕ) → extentAt s id p ≡ bySize s p (told.sizeOf id)
-unfolding extentAt told.sizeOf
+by-size : (s : List ℕ) (id p : ℕ) → extentAt s id p ≡ bySize s p (sizeOf id)
+unfolding extentAt sizeOf
 by-size s id p = go (leb id 0x2F) (leb id 0x5F) (leb id 0x7F) (leb id 0xBC)
   where
     go : (a b c d : Bool)
@@ -31,11 +33,11 @@ by-size s id p = go (leb id 0x2F) (leb id 0x5F) (leb id 0x7F) (leb id 0xBC)
     go false false false true = refl
     go false false false false = refl
 
-module _ (s : List ℕ) (id p : ℕ) (z : Size) (known : z ≡ told.sizeOf id) where
-  pub extent-told : (n : ℕ) → z ≡ Size.Told n → Spot.At p n ≡ told.extent (extentAt s id p)
+module _ (s : List ℕ) (id p : ℕ) (z : Size) (known : z ≡ sizeOf id) where
+  pub extent-told : (n : ℕ) → z ≡ Size.Told n → Extent.At p n ≡ told.extent (extentAt s id p)
   extent-told n k = sym (ap told.extent (by-size s id p ∙ ap (bySize s p) (sym known ∙ k)))
 
-  pub extent-stored : (r : Spot) → z ≡ Size.Stored → r ≡ told.extent (lengthAt s p) → r ≡ told.extent (extentAt s id p)
+  pub extent-stored : (r : Extent) → z ≡ Size.Stored → r ≡ told.extent (lengthAt s p) → r ≡ told.extent (extentAt s id p)
   extent-stored r k e = e ∙ sym (ap told.extent (by-size s id p ∙ ap (bySize s p) (sym known ∙ k)))
 
 -- ---- no value begins far off, or is long
@@ -61,9 +63,29 @@ module _ (s : List ℕ) (small : Bytes s) where
       (λ _. every-then (λ m. m < 65536) (Near p) (halfAt s (p + 1)) _ (half-small (p + 1)) λ m k. (omega arith, k)) λ _. (omega arith, omega arith)
 
   pub extent-near : (id p : ℕ) → Every (Near p) (extentAt s id p)
-  unfolding extentAt
-  extent-near id p =
-      every-if (Near p) (leb id 0x2F) _ _ (λ _. (omega arith, omega arith)) λ _.
-      every-if (Near p) (leb id 0x5F) _ _ (λ _. (omega arith, omega arith)) λ _.
-      every-if (Near p) (leb id 0x7F) _ _ (λ _. (omega arith, omega arith)) λ _.
-      every-if (Near p) (leb id 0xBC) _ _ (λ _. (omega arith, omega arith)) λ _. length-near p
+  extent-near id p = rw (by-size s id p) (go (sizeOf id) refl)
+    where
+      go : (z : Size) → sizeOf id ≡ z → Every (Near p) (bySize s p z)
+      go (Size.Told n) e = let few : n ≤ 4 = tells-few id n e in (omega arith, omega arith)
+      go Size.Stored e = length-near p
+
+-- ---- a value has as many bytes as its id tells
+abbrev Fit : ℕ → ℕ × ℕ → Type 0
+Fit id x = Sized id (x .1)
+
+stored-sized : (id : ℕ) → sizeOf id ≡ Size.Stored → (o : Option (ℕ × ℕ)) → Every (Fit id) o
+stored-sized id e none = tt
+stored-sized id e (some x) = record { enough = λ m k. absurd (let z : _≡_ {A = ℕ} 0 1 = cc in omega arith) }
+
+extent-sized : (s : List ℕ) (id p : ℕ) → Every (Fit id) (extentAt s id p)
+extent-sized s id p = rw (by-size s id p) (go (sizeOf id) refl)
+  where
+    go : (z : Size) → sizeOf id ≡ z → Every (Fit id) (bySize s p z)
+    go (Size.Told n) e = record { enough = λ m k. let q : m ≡ n = cc in omega arith }
+    go Size.Stored e = stored-sized id e (lengthAt s p)
+
+pub property-sized : (s : List ℕ) (p : ℕ) → Every (λ q. Sized (byte s p) (q .size)) (propertyAt s p)
+unfolding propertyAt
+property-sized s p =
+    every-then (Fit (byte s p)) (λ q. Sized (byte s p) (q .size)) (extentAt s (byte s p) (p + 1)) _ (extent-sized s (byte s p) (p + 1)) λ x h.
+    every-if (λ q. Sized (byte s p) (q .size)) (leb (x .0 + x .1) (length s)) _ _ (λ _. h) λ _. tt

@@ -4,8 +4,7 @@ use native.Mathlib.Omega.{arith}
 use mathlib.Core.List.{List}
 use mathlib.Core.Option.{Option, none, some}
 use lib.ListN.{length}
-use lib.Dec.{ltb, eqb}
-use borrow.Author.Tests.{ltb-true}
+use lib.Dec.{eqb}
 use Rattle.rules.specs.Lists.{_>>=_}
 use Rattle.rules.specs.Bytes.{byteAt, halfAt}
 use Rattle.rules.specs.Tree.{Entries, plain, parent}
@@ -13,16 +12,6 @@ use Rattle.rules.specs.Access2000.{Prop, goesOn, propertyAt, runOf, runAt, head
 use Rattle.rules.proofs.ListLaws.{Every, every-if, every-then, every-when}
 use Rattle.rules.proofs.Access2000Laws.{Within, property-within}
 use Rattle.rows.proofs.LevelLaws.{EntryGrows, EntriesGrow, Below, levels-grow}
-
-pub byte-within : (s : List ℕ) (p : ℕ) → Every (λ _. p < length s) (byteAt s p)
-unfolding byteAt
-byte-within s p = every-if (λ _. p < length s) (ltb p (length s)) _ _ (λ t. ltb-true _ _ t) λ _. tt
-
-pub half-within : (s : List ℕ) (p : ℕ) → Every (λ _. p + 1 < length s) (halfAt s p)
-unfolding halfAt
-half-within s p =
-    every-when (λ _. p + 1 < length s) (byteAt s p) _ λ lo _.
-    every-then (λ _. p + 1 < length s) (λ _. p + 1 < length s) (byteAt s (p + 1)) _ (byte-within s (p + 1)) λ hi h. h
 
 abbrev RunGrows : ℕ → List Prop × ℕ → Type 0
 RunGrows p x = p + length (x .0) ≤ x .1

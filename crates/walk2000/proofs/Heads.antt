@@ -1,4 +1,4 @@
--- What stands behind a run, by its first byte.
+-- What stands after a run, by its first byte.
 use Prim.Native.Nat.{ℕ, _+_, _≤_, _<_}
 use mathlib.Core.Path.{_≡_}
 use mathlib.Core.List.{List}
@@ -7,9 +7,10 @@ use borrow.Author.Tests.{le-ltb, lt-ltb, eq-eqb, ne-eqb}
 use Rattle.rules.specs.Bytes.{byte, byteAt, halfAt}
 use Rattle.rules.specs.Access2000.{headAt}
 use Rattle.walk2000.specs.Told as told
-use Rattle.walk2000.specs.declared.Word.{Word}
+use Rattle.numbers.specs.Reads.{ifInside}
+use Rattle.numbers.specs.declared.IfInside.{IfInside}
 use Rattle.walk2000.specs.declared.Opens.{Opens}
-use Rattle.walk2000.proofs.Inverse.{word-of, word-short}
+use Rattle.numbers.proofs.Inside.{number-inside, number-outside}
 
 module _ (s : List ℕ) (p : ℕ) where
   pub head-past : length s ≤ p → Opens.Bad ≡ told.head (headAt s p)
@@ -31,11 +32,11 @@ module _ (s : List ℕ) (p : ℕ) where
         unfolding headAt byteAt
         head-other c = rw (lt-ltb p (length s) h, ne-eqb (byte s p) 0xFD a, ne-eqb (byte s p) 0xFE b, ne-eqb (byte s p) 0xFF c)
 
-        module _ (e : byte s p ≡ 0xFF) (w : Word) (we : w ≡ told.half (halfAt s (p + 1))) where
-          pub head-many : (n : ℕ) → w ≡ Word.Of n → Opens.Listed n (p + 1 + 2) ≡ told.head (headAt s p)
+        module _ (e : byte s p ≡ 0xFF) (w : IfInside) (we : w ≡ ifInside (halfAt s (p + 1))) where
+          pub head-many : (n : ℕ) → w ≡ IfInside.Of n → Opens.Listed n (p + 1 + 2) ≡ told.head (headAt s p)
           unfolding headAt byteAt
-          head-many n k = rw (lt-ltb p (length s) h, ne-eqb (byte s p) 0xFD a, ne-eqb (byte s p) 0xFE b, eq-eqb (byte s p) 0xFF e, word-of (halfAt s (p + 1)) w n we k)
+          head-many n k = rw (lt-ltb p (length s) h, ne-eqb (byte s p) 0xFD a, ne-eqb (byte s p) 0xFE b, eq-eqb (byte s p) 0xFF e, number-inside (halfAt s (p + 1)) w n we k)
 
-          pub head-short : w ≡ Word.Short → Opens.Bad ≡ told.head (headAt s p)
+          pub head-short : w ≡ IfInside.Outside → Opens.Bad ≡ told.head (headAt s p)
           unfolding headAt byteAt
-          head-short k = rw (lt-ltb p (length s) h, ne-eqb (byte s p) 0xFD a, ne-eqb (byte s p) 0xFE b, eq-eqb (byte s p) 0xFF e, word-short (halfAt s (p + 1)) w we k)
+          head-short k = rw (lt-ltb p (length s) h, ne-eqb (byte s p) 0xFD a, ne-eqb (byte s p) 0xFE b, eq-eqb (byte s p) 0xFF e, number-outside (halfAt s (p + 1)) w we k)

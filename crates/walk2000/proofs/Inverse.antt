@@ -1,4 +1,4 @@
--- From what the counting functions answer back to what the definition says.
+-- From what the reading functions answer back to what the definition says.
 use Prim.Native.Nat.{ℕ}
 use native.Mathlib.Omega.{arith}
 use mathlib.Core.Path.{_≡_, refl}
@@ -7,27 +7,18 @@ use mathlib.Core.Option.{Option, none, some}
 use lib.ListN.{length}
 use Rattle.rules.specs.Access2000.{Prop}
 use Rattle.walk2000.specs.Told as told
-use Rattle.walk2000.specs.declared.Word.{Word}
-use Rattle.walk2000.specs.declared.Spot.{Spot}
+use Rattle.walk2000.specs.declared.Extent.{Extent}
 use Rattle.walk2000.specs.declared.Run.{Run}
 use Rattle.walk2000.specs.declared.Opens.{Opens}
 
-pub word-of : (o : Option ℕ) (r : Word) (n : ℕ) → r ≡ told.half o → r ≡ Word.Of n → o ≡ some n
-word-of none r n e k = cc
-word-of (some m) r n e k = cc
-
-pub word-short : (o : Option ℕ) (r : Word) → r ≡ told.half o → r ≡ Word.Short → o ≡ none
-word-short none r e k = cc
-word-short (some m) r e k = cc
-
-pub extent-at : (o : Option (ℕ × ℕ)) (r : Spot) (p n : ℕ) → r ≡ told.extent o → r ≡ Spot.At p n → o ≡ some (p, n)
+pub extent-at : (o : Option (ℕ × ℕ)) (r : Extent) (p n : ℕ) → r ≡ told.extent o → r ≡ Extent.At p n → o ≡ some (p, n)
 extent-at none r p n e k = cc
 extent-at (some x) r p n e k =
     let p₀ : x .0 ≡ p = cc in
     let p₁ : x .1 ≡ n = cc in
     λ i. some (p₀ i, p₁ i)
 
-pub extent-bad : (o : Option (ℕ × ℕ)) (r : Spot) → r ≡ told.extent o → r ≡ Spot.Bad → o ≡ none
+pub extent-bad : (o : Option (ℕ × ℕ)) (r : Extent) → r ≡ told.extent o → r ≡ Extent.Bad → o ≡ none
 extent-bad none r e k = cc
 extent-bad (some x) r e k = cc
 

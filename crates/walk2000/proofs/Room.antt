@@ -4,19 +4,13 @@ use native.Mathlib.Omega.{arith}
 use mathlib.Core.Path.{_≡_}
 use mathlib.Core.List.{List}
 use mathlib.Core.Option.{some}
-use lib.ListN.{length}
-use Rattle.rules.specs.Bytes.{halfAt}
 use Rattle.rules.specs.Access2000.{runAt, headAt}
 use Rattle.rules.proofs.ListLaws.{every-at}
 use Rattle.walk2000.specs.Told as told
-use Rattle.walk2000.specs.declared.Word.{Word}
 use Rattle.walk2000.specs.declared.Run.{Run}
 use Rattle.walk2000.specs.declared.Opens.{Opens}
-use Rattle.walk2000.proofs.Inverse.{word-of, run-of, opens-listed}
-use Rattle.walk2000.proofs.Grows.{half-within, run-grows, head-grows}
-
-pub half-room : (s : List ℕ) (p : ℕ) (r : Word) (n : ℕ) → r ≡ told.half (halfAt s p) → r ≡ Word.Of n → p + 1 < length s
-half-room s p r n e k = every-at (λ _. p + 1 < length s) (halfAt s p) n (half-within s p) (word-of (halfAt s p) r n e k)
+use Rattle.walk2000.proofs.Inverse.{run-of, opens-listed}
+use Rattle.walk2000.proofs.Grows.{run-grows, head-grows}
 
 pub run-room : (s : List ℕ) (p : ℕ) (r : Run) (n e : ℕ) → r ≡ told.run (runAt s p) → r ≡ Run.Of n e → p + n ≤ e
 run-room s p r n e re rk =

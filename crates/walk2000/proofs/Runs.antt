@@ -15,7 +15,7 @@ use Rattle.rules.specs.Access2000.{Prop, goesOn, propertyAt, runAt}
 use Rattle.rules.proofs.ListLaws.{Every}
 use Rattle.rules.proofs.Access2000Laws.{Within, property-within, after, run-step}
 use Rattle.walk2000.specs.Told as told
-use Rattle.walk2000.specs.declared.Spot.{Spot}
+use Rattle.walk2000.specs.declared.Extent.{Extent}
 use Rattle.walk2000.specs.declared.Run.{Run}
 
 -- n properties more than the answer says
@@ -35,20 +35,20 @@ one-first : (q : Prop) (o : Option (List Prop × ℕ)) → told.run (o >>= λ x.
 one-first q none = refl
 one-first q (some x) = ap (λ m. Run.Of m (x .1)) (sym (one-add (length (x .0))))
 
-pub run-next : (s : List ℕ) (p st sz : ℕ) → goesOn s p ≡ true → told.spot (propertyAt s p) ≡ Spot.At st sz → told.run (runAt s p) ≡ addRun 1 (told.run (runAt s (st + sz)))
+pub run-next : (s : List ℕ) (p st sz : ℕ) → goesOn s p ≡ true → told.value (propertyAt s p) ≡ Extent.At st sz → told.run (runAt s p) ≡ addRun 1 (told.run (runAt s (st + sz)))
 run-next s p st sz t e = ap told.run (rw t at (run-step s p)) ∙ go (propertyAt s p) e
   where
-    go : (o : Option Prop) → told.spot o ≡ Spot.At st sz → told.run (o >>= after (runAt s)) ≡ addRun 1 (told.run (runAt s (st + sz)))
+    go : (o : Option Prop) → told.value o ≡ Extent.At st sz → told.run (o >>= after (runAt s)) ≡ addRun 1 (told.run (runAt s (st + sz)))
     go none e = cc
     go (some q) e =
         let e₀ : q .start ≡ st = cc in
         let e₁ : q .size ≡ sz = cc in
         one-first q (runAt s (q .start + q .size)) ∙ rw (e₀, e₁)
 
-pub run-bad : (s : List ℕ) (p : ℕ) → goesOn s p ≡ true → told.spot (propertyAt s p) ≡ Spot.Bad → told.run (runAt s p) ≡ Run.Bad
+pub run-bad : (s : List ℕ) (p : ℕ) → goesOn s p ≡ true → told.value (propertyAt s p) ≡ Extent.Bad → told.run (runAt s p) ≡ Run.Bad
 run-bad s p t e = ap told.run (rw t at (run-step s p)) ∙ go (propertyAt s p) e
   where
-    go : (o : Option Prop) → told.spot o ≡ Spot.Bad → told.run (o >>= after (runAt s)) ≡ Run.Bad
+    go : (o : Option Prop) → told.value o ≡ Extent.Bad → told.run (o >>= after (runAt s)) ≡ Run.Bad
     go none e = refl
     go (some q) e = cc
 
@@ -76,18 +76,18 @@ module _ (s : List ℕ) (at n p : ℕ) (known : Passed s at n p) where
   unfolding Passed
   passed-stop t = ap (λ m. Run.Of m p) (sym (add-zero n)) ∙ ap (addRun n) (sym (run-stop s p t)) ∙ sym known
 
-  pub passed-more : (r : Spot) (st sz : ℕ) → goesOn s p ≡ true → r ≡ told.spot (propertyAt s p) → r ≡ Spot.At st sz → Passed s at (n + 1) (st + sz)
+  pub passed-more : (r : Extent) (st sz : ℕ) → goesOn s p ≡ true → r ≡ told.value (propertyAt s p) → r ≡ Extent.At st sz → Passed s at (n + 1) (st + sz)
   unfolding Passed
   passed-more r st sz t e k = known ∙ ap (addRun n) (run-next s p st sz t (sym e ∙ k)) ∙ add-one-more n (told.run (runAt s (st + sz)))
 
-  pub passed-bad : (r : Spot) → goesOn s p ≡ true → r ≡ told.spot (propertyAt s p) → r ≡ Spot.Bad → Run.Bad ≡ told.run (runAt s at)
+  pub passed-bad : (r : Extent) → goesOn s p ≡ true → r ≡ told.value (propertyAt s p) → r ≡ Extent.Bad → Run.Bad ≡ told.run (runAt s at)
   unfolding Passed
   passed-bad r t e k = ap (addRun n) (sym (run-bad s p t (sym e ∙ k))) ∙ sym known
 
-pub ends : (s : List ℕ) (p : ℕ) (r : Spot) (st sz : ℕ) → r ≡ told.spot (propertyAt s p) → r ≡ Spot.At st sz → (p < st + sz) × (st + sz ≤ length s)
+pub ends : (s : List ℕ) (p : ℕ) (r : Extent) (st sz : ℕ) → r ≡ told.value (propertyAt s p) → r ≡ Extent.At st sz → (p < st + sz) × (st + sz ≤ length s)
 ends s p r st sz e k = go (propertyAt s p) (property-within s p) (sym e ∙ k)
   where
-    go : (o : Option Prop) → Every (Within s p) o → told.spot o ≡ Spot.At st sz → (p < st + sz) × (st + sz ≤ length s)
+    go : (o : Option Prop) → Every (Within s p) o → told.value o ≡ Extent.At st sz → (p < st + sz) × (st + sz ≤ length s)
     go none h e = let z : _≡_ {A = ℕ} 0 1 = cc in omega arith
     go (some q) h e =
         let e₀ : q .start ≡ st = cc in

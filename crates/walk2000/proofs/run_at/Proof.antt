@@ -4,8 +4,8 @@ use lib.ListN.{length}
 use borrow.Author.Needs.{needs}
 use Rattle.walk2000.proofs.Runs.{Passed, passed-none, passed-more, passed-stop, passed-bad, starts, stops, ends}
 use Rattle.rules.proofs.Access2000Laws.{past-end}
-use Rattle.walk2000.proofs.props.Statement.{statement}
-use Rattle.walk2000.proofs.props.Tie as tie
+use Rattle.walk2000.proofs.run_at.Statement.{statement}
+use Rattle.walk2000.proofs.run_at.Tie as tie
 
 abbrev Inv-loop : tie.InvT-loop
 Inv-loop s at p₀ n₀ p n = (at + n ≤ p) × Passed s at n p
@@ -36,8 +36,8 @@ returns-2 c = passed-bad _ _ _ _ (c .before .before .before .before .before .bef
 returns-3 : tie.Need-returns-3 Inv-loop μ-loop
 returns-3 c = passed-stop _ _ _ _ (c .before .loop .inv .1) (past-end _ _ (omega (arith, c .loop-test .left)))
 
-pub props-spec : {M : Type 1} → statement M
-props-spec =
+pub run-at-spec : {M : Type 1} → statement M
+run-at-spec =
     tie.close
     (tie.spec
     Inv-loop
