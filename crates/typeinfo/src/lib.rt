@@ -1,7 +1,17 @@
 // The TypeInfo reader: entries are counted first, then written as rows of four words. Names stay bytes of the stream.
+use numbers::u16_inside;
+use numbers::u32_at;
+use numbers::u32_inside;
 use rows::INFO_WIDTH;
 use rows::InfoRow;
 use rules::Answer;
+use rules::LONGEST;
+use rules::MORE_CONTROLS;
+use rules::OTHER_MAGIC;
+use rules::READ;
+use rules::TOO_LONG;
+use rules::TOO_MANY_ENTRIES;
+use rules::TOO_SHORT;
 ghost use mathlib.Core.Path.{_≡_};
 ghost use mathlib.Core.List.{map};
 ghost use Prim.Native.Nat.{_+_, _≤_, _<_, _^_};
@@ -11,7 +21,27 @@ ghost use Rattle.rules.specs.TypeInfo.{beforeNul, nulTerminated, infoAt, nextIn
 ghost use Rattle.rows.specs.Put.{put};
 ghost use Rattle.typeinfo.specs.Entries.{asNamed, asEntry, pastTail, headerOf, fitOf, reportedAt, oneIf, putIf, RowRoom, Room};
 
-// Where a name stands, and the place behind its NUL.
+// The header: its size, its first four bytes as a number, and where the number of entries stands.
+const HEADER_SIZE: usize = 32;
+
+const MAGIC: u32 = 0xACCD_EAF7;
+
+const COUNT_AT: usize = 12;
+
+// What an entry has before its names: type code, two bytes more, index.
+const ENTRY_HEAD: usize = 8;
+
+const INDEX_AT: usize = 4;
+
+// The low byte of an ActiveX control's type, and how many bytes follow its names.
+const ACTIVE_X: u16 = 0x77;
+
+const ACTIVE_X_TAIL: usize = 36;
+
+// The type of an entry that isn't reported.
+const UNREPORTED: u16 = 0x1EFF;
+
+// Where a name stands, and the place after its NUL.
 pub struct Named {
     pub start: usize,
     pub size: usize,
@@ -73,16 +103,16 @@ fn nul_terminated(s: &[u8], start: usize) -> Named
     }
 }
 
-// The place behind an entry's names; an ActiveX control, told by the low byte of its type, has 36 bytes more.
+// The place after an entry's names, and after what an ActiveX control has more.
 fn past_tail(len: usize, type_code: u16, next: usize) -> usize
     requires { ⌜ next ≤ len ⌝ }
     ensures { λ r. ⌜ r ≡ pastTail len «type_code» next ⌝ }
 {
-    if type_code & 0xFF == 0x77 {
-        if len - next < 36 {
+    if type_code & 0xFF == ACTIVE_X {
+        if len - next < ACTIVE_X_TAIL {
             return len;
         }
-        return next + 36;
+        return next + ACTIVE_X_TAIL;
     }
     next
 }
@@ -92,9 +122,9 @@ fn type_info_entry(s: &[u8], at: usize) -> Entry
     requires { ⌜ at + 8 ≤ length (now s) ⌝ }
     ensures { λ r. ⌜ r ≡ asEntry (infoAt (now (s .entry)) at) (nextInfo (now (s .entry)) at) ⌝ }
 {
-    let type_code = leaf::two_at(s, at);
-    let index = leaf::four_at(s, at + 4);
-    let first = nul_terminated(s, at + 8);
+    let type_code = u16_inside(s, at);
+    let index = u32_inside(s, at + INDEX_AT);
+    let first = nul_terminated(s, at + ENTRY_HEAD);
     let second = nul_terminated(s, first.next);
     let next = past_tail(s.len(), type_code, second.next);
     if second.size == 0 {
@@ -119,31 +149,31 @@ fn type_info_entry(s: &[u8], at: usize) -> Entry
 fn type_info_count(s: &[u8]) -> Header
     ensures { λ r. ⌜ r ≡ headerOf (now (s .entry)) ⌝ }
 {
-    if s.len() > 16777216 {
-        return Header::Refused(5);
+    if s.len() > LONGEST {
+        return Header::Refused(TOO_LONG);
     }
-    if s.len() < 32 {
-        return Header::Refused(1);
+    if s.len() < HEADER_SIZE {
+        return Header::Refused(TOO_SHORT);
     }
-    let magic = leaf::u32_at(s, 0);
-    let count = leaf::u32_at(s, 12);
+    let magic = u32_at(s, 0);
+    let count = u32_at(s, COUNT_AT);
     let asked = count as usize;
-    let most = (s.len() - 32) / 8;
-    if magic != 0xACCD_EAF7 {
-        return Header::Refused(2);
+    let most = (s.len() - HEADER_SIZE) / ENTRY_HEAD;
+    if magic != MAGIC {
+        return Header::Refused(OTHER_MAGIC);
     }
     if most < asked {
-        return Header::Refused(3);
+        return Header::Refused(TOO_MANY_ENTRIES);
     }
     Header::Entries(count)
 }
 
-// One more where an entry of this type is reported: 0x1EFF isn't.
+// One more where an entry of this type is reported.
 fn counted(found: u32, type_code: u16) -> u32
     requires { ⌜ found + 1 < 2 ^ 32 ⌝ }
     ensures { λ r. ⌜ r ≡ found + oneIf «type_code» ⌝ }
 {
-    if type_code == 0x1EFF {
+    if type_code == UNREPORTED {
         return found;
     }
     found + 1
@@ -154,11 +184,11 @@ fn count_entries(s: &[u8], count: u32) -> u32
     requires { ⌜ 32 ≤ length (now s) ⌝ }
     ensures { λ r. ⌜ r ≡ length (reportedAt (now (s .entry)) 32 count) ⌝ }
 {
-    let mut p = 32;
+    let mut p = HEADER_SIZE;
     let mut left = count;
     let mut found = 0;
     while 0 < left {
-        if s.len() - p < 8 {
+        if s.len() - p < ENTRY_HEAD {
             return found;
         }
         let e = type_info_entry(s, p);
@@ -190,7 +220,7 @@ fn put_reported(rows: &mut [u32], at: usize, e: Entry) -> usize
     ensures { λ r. ⌜ r ≡ at + oneIf (e .«type_code») ⌝ }
     ensures { λ _. ⌜ now (rows .exit) ≡ put typeInfoWidth (now (rows .entry)) at (putIf e) ⌝ }
 {
-    if e.type_code == 0x1EFF {
+    if e.type_code == UNREPORTED {
         return at;
     }
     rows::put_info(
@@ -212,11 +242,11 @@ fn write_entries(s: &[u8], count: u32, rows: &mut [u32]) -> usize
     ensures { λ r. ⌜ r ≡ length (reportedAt (now (s .entry)) 32 count) ⌝ }
     ensures { λ _. ⌜ now (rows .exit) ≡ put typeInfoWidth (now (rows .entry)) 0 (map typeInfoRow (reportedAt (now (s .entry)) 32 count)) ⌝ }
 {
-    let mut p = 32;
+    let mut p = HEADER_SIZE;
     let mut left = count;
     let mut at = 0;
     while 0 < left {
-        if s.len() - p < 8 {
+        if s.len() - p < ENTRY_HEAD {
             return at;
         }
         let e = type_info_entry(s, p);
@@ -244,7 +274,7 @@ pub fn read_type_info(stream: &[u8], rows: &mut [u32]) -> Answer
             let room = rows.len() / INFO_WIDTH;
             match room_for(stream, count, room) {
                 Fit::Short(found) => Answer {
-                    number: 6,
+                    number: MORE_CONTROLS,
                     first: found,
                     second: 0,
                     third: 0,
@@ -252,7 +282,7 @@ pub fn read_type_info(stream: &[u8], rows: &mut [u32]) -> Answer
                 Fit::Whole => {
                     let found = write_entries(stream, count, rows);
                     Answer {
-                        number: 0,
+                        number: READ,
                         first: found as u32,
                         second: 0,
                         third: 0,

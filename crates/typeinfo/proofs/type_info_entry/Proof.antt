@@ -16,13 +16,13 @@ returns : tie.Need-returns
 returns c =
     let names = c .before .before .before in
     let words = names .before .before in
-    uses-first _ _ _ _ _ _ _ (words .before .two-at .ensures) (words .four-at .ensures) (names .before .nul-terminated .ensures) (names .nul-terminated2 .ensures) (c .before .before .past-tail .ensures) (omega arith)
+    uses-first _ _ _ _ _ _ _ (words .before .u16-inside .ensures) (words .u32-inside .ensures) (names .before .nul-terminated .ensures) (names .nul-terminated2 .ensures) (c .before .before .past-tail .ensures) (omega arith)
 
 returns-2 : tie.Need-returns-2
 returns-2 c =
     let names = c .before .before .before in
     let words = names .before .before in
-    uses-second _ _ _ _ _ _ _ (words .before .two-at .ensures) (words .four-at .ensures) (names .before .nul-terminated .ensures) (names .nul-terminated2 .ensures) (c .before .before .past-tail .ensures) (c .if1 .left)
+    uses-second _ _ _ _ _ _ _ (words .before .u16-inside .ensures) (words .u32-inside .ensures) (names .before .nul-terminated .ensures) (names .nul-terminated2 .ensures) (c .before .before .past-tail .ensures) (c .if1 .left)
 
 pub type-info-entry-spec : {M : Type 1} → statement M
 type-info-entry-spec =
