@@ -18,16 +18,20 @@ returns c =
 
 returns-2 : tie.Need-returns-2
 returns-2 c =
+    let start : tie.Start = search in
     ap Of (toZ-ofZ {w = w32} (record { sfits = c .signed16 .ok }) ∙ c .signed16 .ensures ∙ ap (signed 0x8000) (c .before .u16-at .ensures))
-    ∙ ap intOf (two-bytes (c .before .before .before .before .before .args .bytes .now) (omega arith))
+    ∙ ap intOf (two-bytes (start .args .bytes .now) (omega arith))
 
 returns-3 : tie.Need-returns-3
 returns-3 c =
+    let start : tie.Start = search in
     ap Of (toZ-ofZ {w = w32} (record { sfits = c .signed32 .ok }) ∙ c .signed32 .ensures ∙ ap (signed 0x80000000) (c .before .u32-at .ensures))
-    ∙ ap intOf (four-bytes (c .before .before .before .before .before .before .args .bytes .now) (omega arith))
+    ∙ ap intOf (four-bytes (start .args .bytes .now) (omega arith))
 
 returns-4 : tie.Need-returns-4
-returns-4 c = ap intOf (no-integer (c .before .before .before .before .args .bytes .now) (λ e. omega arith) (λ e. omega arith) (λ e. omega arith))
+returns-4 c =
+    let start : tie.Start = search in
+    ap intOf (no-integer (start .args .bytes .now) (λ e. omega arith) (λ e. omega arith) (λ e. omega arith))
 
 pub integer-value-spec : {M : Type 1} → statement M
 integer-value-spec =

@@ -14,7 +14,10 @@ returns-2 c = simp (lt-ltb _ _ (c .before .if1 .left), le-ltb _ _ (c .if2 .taken
 
 returns-3 : tie.Need-returns-3
 unfolding halfAt byteAt
-returns-3 c = simp (lt-ltb _ _ (c .before .before .before .before .before .if1 .left), lt-ltb _ _ (c .before .before .before .before .if2 .left), c .before .before .number-of .ensures .is, c .number-of2 .ensures .is)
+returns-3 c =
+    let else2 : tie.Else2 = search in
+    let else1 : tie.Else1 = search in
+    simp (lt-ltb _ _ (else1 .if1 .left), lt-ltb _ _ (else2 .if2 .left), c .before .before .number-of .ensures .is, c .number-of2 .ensures .is)
 
 pub u16-if-inside-spec : {M : Type 1} → statement M
 u16-if-inside-spec =

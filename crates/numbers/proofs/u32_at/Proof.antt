@@ -8,11 +8,15 @@ use Rattle.numbers.proofs.u32_at.Tie as tie
 
 returns : tie.Need-returns
 unfolding u32
-returns c = let a = c .before .before .before .before .args in omega (arith, no-u16 (a .s .now) (a .at + 2) (omega arith))
+returns c =
+    let start : tie.Start = search in
+    let a = start .args in omega (arith, no-u16 (a .s .now) (a .at + 2) (omega arith))
 
 returns-2 : tie.Need-returns-2
 unfolding u32
-returns-2 c = let a = c .before .before .before .before .before .args in omega (arith, no-u16 (a .s .now) (a .at + 2) (omega arith))
+returns-2 c =
+    let start : tie.Start = search in
+    let a = start .args in omega (arith, no-u16 (a .s .now) (a .at + 2) (omega arith))
 
 returns-3 : tie.Need-returns-3
 unfolding u32

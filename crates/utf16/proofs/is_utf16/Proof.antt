@@ -32,8 +32,10 @@ is-low-requires c κs = tt
 returns : tie.Need-returns Inv-loop μ-loop
 unfolding isUtf16
 returns c =
-    let l = c .before .before .before .before in
-    let b = c .before .before .before .before .before .before .before .args .bytes .now in
+    let at-loop : tie.At-loop Inv-loop μ-loop = search in
+    let start : tie.Start Inv-loop μ-loop = search in
+    let l = at-loop in
+    let b = start .args .bytes .now in
     let e = c .before .is-low .ensures ∙ ap isLow (c .before .before .u16-at .ensures) in
     sym (l .loop .inv .decides ∙ stops b (l .loop .i) (l .loop .pending) (omega arith) (sym (ap (λ (t : Bool). same (l .loop .pending) t) e) ∙ differ (c .before .is-low .result) (l .loop .pending) (c .if1 .taken)))
 
@@ -42,8 +44,10 @@ is-high-requires c κs = tt
 
 loop-again : tie.Need-loop-again Inv-loop μ-loop
 loop-again c =
-    let l = c .before .before .before .before .before in
-    let b = c .before .before .before .before .before .before .before .before .args .bytes .now in
+    let at-loop : tie.At-loop Inv-loop μ-loop = search in
+    let start : tie.Start Inv-loop μ-loop = search in
+    let l = at-loop in
+    let b = start .args .bytes .now in
     let u = c .before .before .before .u16-at .ensures in
     let e = c .before .before .is-low .ensures ∙ ap isLow u in
     record {
@@ -56,14 +60,16 @@ loop-again c =
 returns-2 : tie.Need-returns-2 Inv-loop μ-loop
 unfolding isUtf16
 returns-2 c =
+    let start : tie.Start Inv-loop μ-loop = search in
     let l = c .before .before in
-    sym (l .loop .inv .decides ∙ left-over (c .before .before .before .before .before .args .bytes .now) (l .loop .i) (l .loop .pending) (omega arith) (omega arith) (omega arith))
+    sym (l .loop .inv .decides ∙ left-over (start .args .bytes .now) (l .loop .i) (l .loop .pending) (omega arith) (omega arith) (omega arith))
 
 returns-3 : tie.Need-returns-3 Inv-loop μ-loop
 unfolding isUtf16
 returns-3 c =
+    let start : tie.Start Inv-loop μ-loop = search in
     let l = c .before .before in
-    sym (l .loop .inv .decides ∙ all-read (c .before .before .before .before .before .args .bytes .now) (l .loop .i) (l .loop .pending) (omega arith) (omega arith) (omega arith))
+    sym (l .loop .inv .decides ∙ all-read (start .args .bytes .now) (l .loop .i) (l .loop .pending) (omega arith) (omega arith) (omega arith))
 
 pub is-utf16-spec : {M : Type 1} → statement M
 is-utf16-spec =

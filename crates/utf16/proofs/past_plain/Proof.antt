@@ -16,8 +16,9 @@ abbrev μ-loop : tie.MeasureT-loop
 
 loop-again : tie.Need-loop-again Inv-loop μ-loop
 loop-again c =
+    let place-start : tie.Start Inv-loop μ-loop = search in
     let l = c .before .before .before in
-    let b = c .before .before .before .before .before .before .args .bytes .now in
+    let b = place-start .args .bytes .now in
     record { inside = omega arith; same = l .loop .inv .same ∙ plain b (l .loop .i) (omega arith) (omega (arith, c .before .u16-at .ensures, c .if1 .left)) }
 
 pub past-plain-spec : {M : Type 1} → statement M
