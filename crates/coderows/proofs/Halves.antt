@@ -1,5 +1,4 @@
 -- Looking in the half that can hold what is wanted, among n things a step of w apart whose numbers ascend.
--- Assumes nothing.
 use Prim.Native.Nat.{ℕ, zero, suc, _+_, _-_, _*_, _≤_, _<_}
 use mathlib.Core.Path.{_≡_, refl, sym, ap, _∙_}
 use mathlib.Core.List.{_∷_, _++_, map, List·Memᴰ·head, Memᴰ·append-right}

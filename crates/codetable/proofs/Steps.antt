@@ -1,5 +1,4 @@
 -- One turn of each loop, said of the definitions: what is left to decide after a test, and what is left at the end.
--- Assumes nothing.
 use Prim.Native.Nat.{ℕ, zero, suc, _+_, _-_, _*_, _≤_, _<_}
 use mathlib.Core.Path.{_≡_, refl, ap, _∙_}
 use mathlib.Core.Logic.{_⊎_, inl, inr}

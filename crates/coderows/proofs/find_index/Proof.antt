@@ -23,12 +23,14 @@ turn c L e = record {
 
 returns : tie.Need-returns
 unfolding asFound
-returns c = record {
-  is = λ L e a. ap asFound (sym (hit (turn (c .before .before) L e) (c .if2 .taken) a));
-  inside = λ i e.
-      let q : c .before .before .before .before .args .near ≡ i = cc in
-      omega (arith, c .before .before .if1 .taken);
-}
+returns c =
+    let start : tie.Start = search in
+    record {
+      is = λ L e a. ap asFound (sym (hit (turn (c .before .before) L e) (c .if2 .taken) a));
+      inside = λ i e.
+          let q : start .args .near ≡ i = cc in
+          omega (arith, c .before .before .if1 .taken);
+    }
 
 returns-2 : tie.Need-returns-2
 returns-2 c = record { is = λ L e. rw (← (c .before .byte-number .ensures .is)) (c .seek-scope .ensures .is); inside = c .seek-scope .ensures .inside }

@@ -23,7 +23,9 @@ abbrev μ-loop : tie.MeasureT-loop
 μ-loop table scopes₀ listed at₀ body₀ i₀ scopes at body i = listed - i
 
 -- the counts that are read
-counts : (c : tie.After-byte-number Inv-loop μ-loop) → Counts (now (c .before .before .before .before .args .table)) (c .byte-number .result) (c .before .u16-number .result)
+counts : (c : tie.After-byte-number Inv-loop μ-loop) →
+    let start : tie.Start Inv-loop μ-loop = search in
+    Counts (now (start .args .table)) (c .byte-number .result) (c .before .u16-number .result)
 counts c = record { headers-is = c .byte-number .ensures .is; scopes-is = c .before .u16-number .ensures .is }
 
 -- the places are small
@@ -38,11 +40,14 @@ small c =
 
 loop-again : tie.Need-loop-again Inv-loop μ-loop
 loop-again c =
+    let at-loop : tie.At-loop Inv-loop μ-loop = search in
     let key = c .before .before .byte-number2 .result * 65536 + c .before .u16-number2 .result in
-    record { filled = filled-next (c .before .before .before .before .before .loop .inv .filled) key (c .u16-number3 .result) (omega (arith, c .before .before .byte-number2 .ensures .is, c .before .u16-number2 .ensures .is)) (c .u16-number3 .ensures .is) (omega arith) (c .u16-number3 .ensures .small); few = omega arith }
+    record { filled = filled-next (at-loop .loop .inv .filled) key (c .u16-number3 .result) (omega (arith, c .before .before .byte-number2 .ensures .is, c .before .u16-number2 .ensures .is)) (c .u16-number3 .ensures .is) (omega arith) (c .u16-number3 .ensures .small); few = omega arith }
 
 same-length : tie.Need-same-length Inv-loop μ-loop
-same-length c = c .before .before .loop .inv .filled .long ∙ sym (c .before .before .before .before .before .before .before .pre)
+same-length c =
+    let start : tie.Start Inv-loop μ-loop = search in
+    c .before .before .loop .inv .filled .long ∙ sym (start .pre)
 
 returns : tie.Need-returns Inv-loop μ-loop
 returns c = all-listed (counts (c .before .before .before)) (c .before .before .loop .inv .filled) (inr (omega arith))
@@ -50,17 +55,21 @@ returns c = all-listed (counts (c .before .before .before)) (c .before .before .
 -- three words fit after those of the scopes before
 write-second : tie.Need-slice-write-scopes-2 Inv-loop μ-loop
 write-second c =
-    let l = c .before .before .before .before .before .loop in
+    let at-loop : tie.At-loop Inv-loop μ-loop = search in
+    let l = at-loop .loop in
     omega (arith, l .inv .filled .long, length-set (l .scopes) (3 * l .i) (c .before .before .byte-number2 .result * 65536 + c .before .u16-number2 .result))
 
 write-third : tie.Need-slice-write-scopes-3 Inv-loop μ-loop
 write-third c =
-    let l = c .before .before .before .before .before .loop in
+    let at-loop : tie.At-loop Inv-loop μ-loop = search in
+    let l = at-loop .loop in
     let key = c .before .before .byte-number2 .result * 65536 + c .before .u16-number2 .result in
     omega (arith, l .inv .filled .long, length-set (l .scopes) (3 * l .i) key, length-set (set (l .scopes) (3 * l .i) key) (3 * l .i + 1) (l .body))
 
 same-length-2 : tie.Need-same-length-2 Inv-loop μ-loop
-same-length-2 c = c .before .loop .inv .filled .long ∙ sym (c .before .before .before .before .before .before .pre)
+same-length-2 c =
+    let start : tie.Start Inv-loop μ-loop = search in
+    c .before .loop .inv .filled .long ∙ sym (start .pre)
 
 returns-2 : tie.Need-returns-2 Inv-loop μ-loop
 returns-2 c = all-listed (counts (c .before .before)) (c .before .loop .inv .filled) (inl (omega arith))
@@ -73,13 +82,13 @@ list-scopes-spec =
     μ-loop
     (λ c κs. search needs) (λ c κs. search needs)
     (λ c. omega arith) (λ c. omega arith) (λ c. omega arith) (λ c. omega arith)
-    (λ c. record { filled = filled-none _ _ _ _ (c .before .before .before .before .pre); few = omega arith })
+    (λ c. let start : tie.Start Inv-loop μ-loop = search in record { filled = filled-none _ _ _ _ (start .pre); few = omega arith })
     same-length
     returns
     (λ c κs. search needs) (λ c. omega (arith, c .byte-number2 .ensures .small)) (λ c. omega (arith, small (c .before) .at-small)) (λ c κs. omega (arith, small (c .before) .at-small))
     (λ c. omega (arith, c .before .byte-number2 .ensures .small, c .u16-number2 .ensures .small)) (λ c. omega (arith, small (c .before .before) .at-small)) (λ c κs. omega (arith, small (c .before .before) .at-small))
     (λ c. omega arith)
-    (λ c. omega (arith, c .before .before .byte-number2 .ensures .small, c .before .u16-number2 .ensures .small)) (λ c. omega arith) (λ c. omega (arith, c .before .before .before .before .before .loop .inv .filled .long))
+    (λ c. omega (arith, c .before .before .byte-number2 .ensures .small, c .before .u16-number2 .ensures .small)) (λ c. omega arith) (λ c. let at-loop : tie.At-loop Inv-loop μ-loop = search in omega (arith, at-loop .loop .inv .filled .long))
     (λ c. omega (arith, small (c .before .before .before) .body-small)) (λ c. omega arith) (λ c. omega arith)
     write-second
     (λ c. omega (arith, c .u16-number3 .ensures .small)) (λ c. omega arith) (λ c. omega arith)

@@ -17,25 +17,37 @@ turn c = record { so-far = begin _ _ 4 _ _ _; fits = omega (arith, c .before .if
 
 -- the row before it, among those before it
 turn-before : (c : tie.After-byte-number)
-    → Turn (tieAt (now (c .before .before .before .before .before .before .before .before .before .args .table))) idOf 4 (c .before .before .before .before .before .before .before .before .before .args .start) (c .before .before .before .before .before .before .before .before .before .args .n) (c .before .before .before .before .before .before .before .before .before .args .wanted)
-    (c .before .before .before .before .before .before .before .before .before .args .start) (c .before .before .before .before .before .before .before .before .before .args .near) (c .before .before .before .before .before .before .before .before .before .args .near - 1) (c .before .before .before .before .before .before .before .before .before .args .start + 4 * c .before .before .before .before .before .before .before .before .before .args .near - 4) (c .byte-number .result)
-turn-before c = record {
-  so-far = go-down (turn (c .before .before .before .before .before .before)) (omega (arith, c .before .before .before .before .if2 .left, c .before .before .if3 .left));
-  fits = omega (arith, c .before .if4 .left);
-  middle = omega (arith, c .before .if4 .left);
-  reads = c .byte-number .ensures .is;
-}
+    →
+    let start : tie.Start = search in
+    Turn (tieAt (now (start .args .table))) idOf 4 (start .args .start) (start .args .n) (start .args .wanted)
+    (start .args .start) (start .args .near) (start .args .near - 1) (start .args .start + 4 * start .args .near - 4) (c .byte-number .result)
+turn-before c =
+    let else2 : tie.Else2 = search in
+    let after-read-row : tie.After-read-row = search in
+    record {
+      so-far = go-down (turn after-read-row) (omega (arith, else2 .if2 .left, c .before .before .if3 .left));
+      fits = omega (arith, c .before .if4 .left);
+      middle = omega (arith, c .before .if4 .left);
+      reads = c .byte-number .ensures .is;
+    }
 
 returns-2 : tie.Need-returns-2
 returns-2 c =
-    let r = c .before .before .before .before .read-row .ensures in
-    glance-tied (now (c .before .before .before .before .before .before .before .args .table)) (turn (c .before .before .before .before)) _ _ (c .before .before .if2 .taken) (r .target .is) (r .kind .is)
+    let after-read-row : tie.After-read-row = search in
+    let start : tie.Start = search in
+    let r = after-read-row .read-row .ensures in
+    glance-tied (now (start .args .table)) (turn after-read-row) _ _ (c .before .before .if2 .taken) (r .target .is) (r .kind .is)
 
 returns-4 : tie.Need-returns-4
-returns-4 c = glance-untied (now (c .before .before .before .before .before .before .before .before .args .table)) (go-down (turn (c .before .before .before .before .before)) (omega (arith, c .before .before .before .if2 .left, c .before .if3 .left))) (omega (arith, c .if4 .taken))
+returns-4 c =
+    let after-read-row : tie.After-read-row = search in
+    let start : tie.Start = search in
+    glance-untied (now (start .args .table)) (go-down (turn after-read-row) (omega (arith, c .before .before .before .if2 .left, c .before .if3 .left))) (omega (arith, c .if4 .taken))
 
 returns-5 : tie.Need-returns-5
-returns-5 c = glance-untied (now (c .before .before .before .before .before .before .before .before .before .before .args .table)) (go-up (turn-before (c .before)) (omega (arith, c .if5 .taken))) (omega arith)
+returns-5 c =
+    let start : tie.Start = search in
+    glance-untied (now (start .args .table)) (go-up (turn-before (c .before)) (omega (arith, c .if5 .taken))) (omega arith)
 
 pub row-near-spec : {M : Type 1} → statement M
 row-near-spec =

@@ -11,7 +11,9 @@ use Rattle.coderows.proofs.scope_near.Statement.{statement}
 use Rattle.coderows.proofs.scope_near.Tie as tie
 
 -- what the search for the scope gives
-sought : (c : tie.After-find-index) → (let a = c .before .before .before .before .args in Listed (now (a .table)) (now (a .scopes))
+sought : (c : tie.After-find-index) →
+    let start : tie.Start = search in
+    (let a = start .args in Listed (now (a .table)) (now (a .scopes))
     → ScopeSought (now (a .table)) (a .scope-kind) (a .code) (c .before .before .u16-number .result) (c .find-index .result))
 sought c L = record {
   bytes = λ i. c .before .before .before .shared-slice-known .given i .fits;
@@ -21,11 +23,15 @@ sought c L = record {
 }
 
 -- the scope that was found is one of them
-within : (c : tie.After-index) → c .index .given .0 .0 < c .before .before .before .before .u16-number .result
+within : (c : tie.After-index) →
+    let after-u16-number : tie.After-u16-number = search in
+    c .index .given .0 .0 < after-u16-number .u16-number .result
 within c = c .before .before .find-index .ensures .inside (c .index .given .0 .0) (c .index .given .1)
 
 returns : tie.Need-returns
-returns c = λ L. finds _ _ _ _ (λ F. absurd (omega (arith, formed (now (c .before .before .before .before .args .table)) F .few-scopes)))
+returns c =
+    let start : tie.Start = search in
+    λ L. finds _ _ _ _ (λ F. absurd (omega (arith, formed (now (start .args .table)) F .few-scopes)))
 
 returns-2 : tie.Need-returns-2
 returns-2 c = λ L. finds _ _ _ _ (λ F. rw (c .missing2 .ensures) (missing-rows (sought (c .before .before .before) L) F (c .before .enum-told .given .1)))

@@ -34,8 +34,9 @@ turn c = record { so-far = head c .loop .inv .narrowed; fits = omega (arith, c .
 
 returns : tie.Need-returns Inv-loop μ-loop
 returns c =
+    let place-start : tie.Start Inv-loop μ-loop = search in
     let r = c .before .before .before .read-row .ensures in
-    row-hit (now (c .before .before .before .before .before .before .before .args .table)) (turn (c .before .before .before)) _ _ (c .before .before .if1 .taken) (r .target .is) (r .kind .is)
+    row-hit (now (place-start .args .table)) (turn (c .before .before .before)) _ _ (c .before .before .if1 .taken) (r .target .is) (r .kind .is)
 
 loop-again : tie.Need-loop-again Inv-loop μ-loop
 loop-again c = record { narrowed = go-up (turn (c .before .before)) (omega arith); at-small = omega arith; from-start = omega arith }

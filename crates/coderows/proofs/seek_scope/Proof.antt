@@ -39,8 +39,9 @@ loop-holds c = record { narrowed = begin (λ i. i) _ 1 0 _ _; inside = omega ari
 returns : tie.Need-returns Inv-loop μ-loop
 unfolding asFound
 returns c =
+    let at-loop : tie.At-loop Inv-loop μ-loop = search in
     let t = turn (c .before) in
-    record { is = λ a. ap asFound (sym (hit t (c .if1 .taken) a)); inside = λ i e. let q : c .before .before .before .before .loop .first + c .before .before .before .before .loop .scopes / 2 ≡ i = cc in omega arith }
+    record { is = λ a. ap asFound (sym (hit t (c .if1 .taken) a)); inside = λ i e. let q : at-loop .loop .first + at-loop .loop .scopes / 2 ≡ i = cc in omega arith }
 
 loop-again : tie.Need-loop-again Inv-loop μ-loop
 loop-again c = record { narrowed = go-up (turn (c .before .before)) (omega arith); inside = omega arith }

@@ -23,7 +23,9 @@ abbrev μ-loop : tie.MeasureT-loop
 μ-loop table start n at₀ left₀ least₀ at left least = left
 
 -- the code that a turn has read
-read : (c : tie.After-u16-number Inv-loop μ-loop) → CodeRead (now (c .before .before .before .before .args .table)) (c .before .before .loop .at) (c .before .before .loop .left) (c .u16-number .result)
+read : (c : tie.After-u16-number Inv-loop μ-loop) →
+    let place-start : tie.Start Inv-loop μ-loop = search in
+    CodeRead (now (place-start .args .table)) (c .before .before .loop .at) (c .before .before .loop .left) (c .u16-number .result)
 read c = record { more = omega arith; code-is = c .u16-number .ensures .is }
 
 loop-holds : tie.Need-loop-holds Inv-loop μ-loop

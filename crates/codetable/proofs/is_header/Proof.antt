@@ -22,7 +22,9 @@ abbrev μ-loop : tie.MeasureT-loop
 μ-loop table code wanted at₀ codes₀ at codes = codes
 
 -- the code that a turn has read
-read : (c : tie.After-u16-number Inv-loop μ-loop) → CodeRead (now (c .before .before .before .before .before .args .table)) (c .before .before .loop .at) (c .before .before .loop .codes) (c .u16-number .result)
+read : (c : tie.After-u16-number Inv-loop μ-loop) →
+    let start : tie.Start Inv-loop μ-loop = search in
+    CodeRead (now (start .args .table)) (c .before .before .loop .at) (c .before .before .loop .codes) (c .u16-number .result)
 read c = record { more = omega arith; code-is = c .u16-number .ensures .is }
 
 loop-holds : tie.Need-loop-holds Inv-loop μ-loop

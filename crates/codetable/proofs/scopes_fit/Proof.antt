@@ -29,7 +29,7 @@ abbrev μ-loop : tie.MeasureT-loop
 
 -- the loop's head, from where the last thing is read
 abbrev head : tie.After-u16-number2 Inv-loop μ-loop → tie.At-loop Inv-loop μ-loop
-head c = c .before .before .before .before
+head c = search
 
 -- the scope that a turn has read
 read : (c : tie.After-u16-number2 Inv-loop μ-loop)
@@ -42,12 +42,15 @@ read c = record {
 }
 
 -- past the test of the code, the kind is 2 or the code is 0
-code-known : (j : tie.Joined2 Inv-loop μ-loop) → (eqb (j .before .before .before .before .byte-number .result) 2 || eqb (j .before .before .before .u16-number .result) 0) ≡ true
+code-known : (j : tie.Joined2 Inv-loop μ-loop) →
+    let after-byte-number : tie.After-byte-number Inv-loop μ-loop = search in
+    (eqb (after-byte-number .byte-number .result) 2 || eqb (j .before .before .before .u16-number .result) 0) ≡ true
 code-known j =
+    let after-byte-number : tie.After-byte-number Inv-loop μ-loop = search in
     code-ok _ _
     (⊎-elim
     (λ w. let e : j .before .before .before .u16-number .result ≡ 0 = omega (arith, w .1 .left) in inr e)
-    (λ w. let e : j .before .before .before .before .byte-number .result ≡ 2 = omega (arith, w .left) in inl e)
+    (λ w. let e : after-byte-number .byte-number .result ≡ 2 = omega (arith, w .left) in inl e)
     (j .if2 .came))
 
 loop-holds : tie.Need-loop-holds Inv-loop μ-loop
@@ -60,33 +63,44 @@ loop-holds c = record {
 
 returns : tie.Need-returns Inv-loop μ-loop
 returns c =
-    let l = c .before .before .before .before .before .loop in
+    let at-loop : tie.At-loop Inv-loop μ-loop = search in
+    let l = at-loop .loop in
     sym (l .inv .decide ∙ scopes-kind (read (c .before)) (l .body) (l .least) (omega arith))
 
 returns-2 : tie.Need-returns-2 Inv-loop μ-loop
 returns-2 c =
-    let l = c .before .before .before .before .before .before .before .loop in
+    let at-loop : tie.At-loop Inv-loop μ-loop = search in
+    let l = at-loop .loop in
     sym (l .inv .decide ∙ scopes-code (read (c .before .before .before)) (l .body) (l .least) (omega arith) (λ e. omega arith) (λ e. omega arith))
 
 returns-3 : tie.Need-returns-3 Inv-loop μ-loop
 returns-3 c =
-    let l = c .before .before .before .before .before .before .before .loop in
+    let at-loop : tie.At-loop Inv-loop μ-loop = search in
+    let l = at-loop .loop in
     sym (l .inv .decide ∙ scopes-low (read (c .before .before .before)) (l .body) (l .least) (omega arith))
 
 returns-4 : tie.Need-returns-4 Inv-loop μ-loop
 returns-4 c =
-    let l = c .before .before .before .before .before .before .before .before .loop in
-    sym (l .inv .decide ∙ scopes-past (read (c .before .before .before .before)) (l .body) (l .least) (omega arith))
+    let after-u16-number2 : tie.After-u16-number2 Inv-loop μ-loop = search in
+    let at-loop : tie.At-loop Inv-loop μ-loop = search in
+    let l = at-loop .loop in
+    sym (l .inv .decide ∙ scopes-past (read after-u16-number2) (l .body) (l .least) (omega arith))
 
 returns-5 : tie.Need-returns-5 Inv-loop μ-loop
 returns-5 c =
-    let l = c .before .before .before .before .before .before .before .before .before .before .loop in
-    sym (l .inv .decide ∙ scopes-rows (read (c .before .before .before .before .before .before)) (l .body) (l .least) (omega arith) (code-known (c .before .before .before .before)) (sym (c .before .ties-ok .ensures) ∙ not-true _ (c .if6 .taken)))
+    let joined2 : tie.Joined2 Inv-loop μ-loop = search in
+    let after-u16-number2 : tie.After-u16-number2 Inv-loop μ-loop = search in
+    let at-loop : tie.At-loop Inv-loop μ-loop = search in
+    let l = at-loop .loop in
+    sym (l .inv .decide ∙ scopes-rows (read after-u16-number2) (l .body) (l .least) (omega arith) (code-known joined2) (sym (c .before .ties-ok .ensures) ∙ not-true _ (c .if6 .taken)))
 
 loop-again : tie.Need-loop-again Inv-loop μ-loop
 loop-again c =
-    let l = c .before .before .before .before .before .before .before .before .before .before .loop in
-    record { decide = l .inv .decide ∙ scopes-step (read (c .before .before .before .before .before .before)) (l .body) (l .least) (omega arith) (omega arith) (code-known (c .before .before .before .before)) (sym (c .before .ties-ok .ensures) ∙ not-false _ (c .if6 .left)); at-small = omega arith; body-small = omega arith; key-small = omega arith }
+    let joined2 : tie.Joined2 Inv-loop μ-loop = search in
+    let after-u16-number2 : tie.After-u16-number2 Inv-loop μ-loop = search in
+    let at-loop : tie.At-loop Inv-loop μ-loop = search in
+    let l = at-loop .loop in
+    record { decide = l .inv .decide ∙ scopes-step (read after-u16-number2) (l .body) (l .least) (omega arith) (omega arith) (code-known joined2) (sym (c .before .ties-ok .ensures) ∙ not-false _ (c .if6 .left)); at-small = omega arith; body-small = omega arith; key-small = omega arith }
 
 returns-6 : tie.Need-returns-6 Inv-loop μ-loop
 returns-6 c = sym (c .before .loop .inv .decide ∙ scopes-done _ _ _ (c .before .loop .left) _ (omega arith))

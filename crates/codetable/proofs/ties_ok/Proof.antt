@@ -50,12 +50,12 @@ returns-2 c =
 
 returns-3 : tie.Need-returns-3 Inv-loop μ-loop
 returns-3 c =
-    let r = c .before .before .before .before .before in
+    let r : tie.After-number-of Inv-loop μ-loop = search in
     sym (head r .loop .inv .decide ∙ ties-kind (read r) (head r .loop .least) (omega arith))
 
 loop-again : tie.Need-loop-again Inv-loop μ-loop
 loop-again c =
-    let r = c .before .before .before .before .before in
+    let r : tie.After-number-of Inv-loop μ-loop = search in
     let l = head r .loop in
     record {
       rows = l .inv .rows - 1;

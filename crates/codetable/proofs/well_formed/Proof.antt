@@ -19,12 +19,14 @@ returns-2 c = sym (formed-scopes (counts (c .before .before)) (omega arith) (ome
 
 returns-3 : tie.Need-returns-3
 returns-3 c =
-    sym (formed-codes (counts (c .before .before .before .before)) (omega arith) (omega arith) (sym (c .before .codes-ascend .ensures) ∙ not-true _ (c .if3 .taken)))
+    let after-u16-number : tie.After-u16-number = search in
+    sym (formed-codes (counts after-u16-number) (omega arith) (omega arith) (sym (c .before .codes-ascend .ensures) ∙ not-true _ (c .if3 .taken)))
 
 returns-4 : tie.Need-returns-4
 returns-4 c =
+    let after-u16-number : tie.After-u16-number = search in
     c .scopes-fit .ensures
-    ∙ sym (formed-rest (counts (c .before .before .before .before .before)) (omega arith) (omega arith) (sym (c .before .before .codes-ascend .ensures) ∙ not-false _ (c .before .if3 .left)))
+    ∙ sym (formed-rest (counts after-u16-number) (omega arith) (omega arith) (sym (c .before .before .codes-ascend .ensures) ∙ not-false _ (c .before .if3 .left)))
 
 pub well-formed-spec : {M : Type 1} → statement M
 well-formed-spec =
