@@ -9,9 +9,10 @@ use Rattle.propvalue.proofs.double_value.Tie as tie
 
 returns : tie.Need-returns
 returns c =
+    let start : tie.Start = search in
     c .valued .ensures
     ∙ ap₂ (λ (l h : ℕ). value 4 l h) (c .before .before .u32-at .ensures) (c .before .u32-at2 .ensures)
-    ∙ a-double (c .before .before .before .before .before .args .bytes .now) (omega arith)
+    ∙ a-double (start .args .bytes .now) (omega arith)
 
 returns-2 : tie.Need-returns-2
 returns-2 c = c .valued2 .ensures ∙ no-double (c .before .before .before .args .bytes .now) (λ e. omega arith)

@@ -48,11 +48,9 @@ returns-8 c =
 
 returns-9 : tie.Need-returns-9
 returns-9 c =
-    let n = c .before .match .rest in
+    let ((((((((_, n1), n2), n3), n4), n6), n8), n9), nac) = c .before .match .rest in
     let a = c .before .before .before .args in
-    c .valued .ensures
-    ∙ other-type (a .type-code) (a .bytes .now) (n .0 .0 .0 .0 .0 .0 .0 .1) (n .0 .0 .0 .0 .0 .0 .1) (n .0 .0 .0 .0 .0 .1) (n .0 .0 .0 .0 .1) (n .0 .0 .0 .1) (n .0 .0 .1) (n .0 .1)
-    (λ e. n .1 (inl e)) (λ e. n .1 (inr e))
+    c .valued .ensures ∙ other-type (a .type-code) (a .bytes .now) n1 n2 n3 n4 n6 n8 n9 (λ e. nac (inl e)) (λ e. nac (inr e))
 
 pub entry-value-spec : {M : Type 1} → statement M
 entry-value-spec =

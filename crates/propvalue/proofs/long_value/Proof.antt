@@ -14,14 +14,18 @@ v-is : (c : tie.After-known-told) → toZ w32 (ofZ w32 (c .before .v .given .0 .
 v-is c = toZ-ofZ {w = w32} (search needs)
 
 returns : tie.Need-returns
-returns c = c .valued .ensures ∙ missing-long (integerValue (c .before .before .before .before .before .args .bytes .now)) (sym (c .before .before .before .integer-value .ensures) ∙ c .before .enum-told .given .1)
+returns c =
+    let start : tie.Start = search in
+    c .valued .ensures ∙ missing-long (integerValue (start .args .bytes .now)) (sym (c .before .before .before .integer-value .ensures) ∙ c .before .enum-told .given .1)
 
 returns-2 : tie.Need-returns-2
 returns-2 c =
+    let after-integer-value : tie.After-integer-value = search in
+    let start : tie.Start = search in
     let z = c .before .before .before .v .given .0 .0 in
     c .valued2 .ensures
     ∙ ap (λ (n : ℕ). value 3 n 0) (c .before .word-of .ensures ∙ ap word32 (v-is (c .before .before)))
-    ∙ long-is (integerValue (c .before .before .before .before .before .before .before .args .bytes .now)) z (sym (c .before .before .before .before .before .integer-value .ensures) ∙ c .before .before .before .v .given .1)
+    ∙ long-is (integerValue (start .args .bytes .now)) z (sym (after-integer-value .integer-value .ensures) ∙ c .before .before .before .v .given .1)
 
 pub long-value-spec : {M : Type 1} → statement M
 long-value-spec =

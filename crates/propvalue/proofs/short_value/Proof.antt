@@ -25,26 +25,37 @@ n-fits c =
     subst (SFits w32) (sym (n-is c)) (record { sfits = omega arith })
 
 returns : tie.Need-returns
-returns c = c .valued .ensures ∙ missing-short (integerValue (c .before .before .before .before .before .args .bytes .now)) (sym (c .before .before .before .integer-value .ensures) ∙ c .before .enum-told .given .1)
+returns c =
+    let start : tie.Start = search in
+    c .valued .ensures ∙ missing-short (integerValue (start .args .bytes .now)) (sym (c .before .before .before .integer-value .ensures) ∙ c .before .enum-told .given .1)
 
 returns-2 : tie.Need-returns-2
 returns-2 c =
-    let z = c .before .before .before .before .before .v .given .0 .0 in
+    let after-known-told : tie.After-known-told = search in
+    let after-v : tie.After-v = search in
+    let after-integer-value : tie.After-integer-value = search in
+    let start : tie.Start = search in
+    let z = after-v .v .given .0 .0 in
     c .valued2 .ensures
-    ∙ too-long (integerValue (c .before .before .before .before .before .before .before .before .before .args .bytes .now)) z (sym (c .before .before .before .before .before .before .before .integer-value .ensures) ∙ c .before .before .before .before .before .v .given .1)
-    (ap shortOf (sym (v-is (c .before .before .before .before))) ∙ sym (c .before .before .before .short-of .ensures) ∙ c .before .enum-told2 .given .1)
+    ∙ too-long (integerValue (start .args .bytes .now)) z (sym (after-integer-value .integer-value .ensures) ∙ after-v .v .given .1)
+    (ap shortOf (sym (v-is after-known-told)) ∙ sym (c .before .before .before .short-of .ensures) ∙ c .before .enum-told2 .given .1)
 
 cast-word-of : tie.Need-cast-word-of
 cast-word-of c = n-fits c
 
 returns-3 : tie.Need-returns-3
 returns-3 c =
-    let z = c .before .before .before .before .before .before .before .v .given .0 .0 in
+    let after-short-of : tie.After-short-of = search in
+    let after-known-told : tie.After-known-told = search in
+    let after-v : tie.After-v = search in
+    let after-integer-value : tie.After-integer-value = search in
+    let start : tie.Start = search in
+    let z = after-v .v .given .0 .0 in
     let x = c .before .before .before .n .given .0 .0 in
     c .valued3 .ensures
     ∙ ap (λ (n : ℕ). value 2 n 0) (c .before .word-of .ensures ∙ ap word32 (toZ-ofZ {w = w32} (n-fits (c .before .before)) ∙ n-is (c .before .before)))
-    ∙ short-fits (integerValue (c .before .before .before .before .before .before .before .before .before .before .before .args .bytes .now)) z x (sym (c .before .before .before .before .before .before .before .before .before .integer-value .ensures) ∙ c .before .before .before .before .before .before .before .v .given .1)
-    (ap shortOf (sym (v-is (c .before .before .before .before .before .before))) ∙ sym (c .before .before .before .before .before .short-of .ensures) ∙ c .before .before .before .n .given .1)
+    ∙ short-fits (integerValue (start .args .bytes .now)) z x (sym (after-integer-value .integer-value .ensures) ∙ after-v .v .given .1)
+    (ap shortOf (sym (v-is after-known-told)) ∙ sym (after-short-of .short-of .ensures) ∙ c .before .before .before .n .given .1)
 
 pub short-value-spec : {M : Type 1} → statement M
 short-value-spec =

@@ -11,9 +11,10 @@ use Rattle.propvalue.proofs.single_value.Tie as tie
 
 returns : tie.Need-returns
 returns c =
+    let start : tie.Start = search in
     c .valued .ensures
     ∙ ap (λ (w : Wide). value 4 (w .low) (w .high)) (c .before .widen .ensures .0 ∙ ap (λ (n : ℕ). wordsOf (widened n)) (c .before .before .u32-at .ensures))
-    ∙ a-single (c .before .before .before .before .before .args .bytes .now) (omega arith)
+    ∙ a-single (start .args .bytes .now) (omega arith)
 
 returns-2 : tie.Need-returns-2
 returns-2 c = c .valued2 .ensures ∙ no-single (c .before .before .before .args .bytes .now) (λ e. omega arith)

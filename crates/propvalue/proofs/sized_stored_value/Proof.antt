@@ -15,7 +15,7 @@ u32-inside-requires c κs = let p = c .before .before .before .pre in omega (ari
 
 returns : tie.Need-returns
 returns c =
-    let b = c .before .before .before .before .before in
+    let b : tie.Start = search in
     c .valued .ensures ∙ ap (λ (n : ℕ). value 3 n 0) (c .before .u32-inside .ensures) ∙ stored-word (b .args .id) (b .args .bytes .now) (omega arith) (b .pre .tells) (omega (arith, c .before .u32-inside .ensures))
 
 u16-inside-requires : tie.Need-u16-inside-requires
@@ -23,13 +23,16 @@ u16-inside-requires c κs = let p = c .before .before .before .pre in omega (ari
 
 returns-2 : tie.Need-returns-2
 returns-2 c =
-    let a = c .before .before .before .before .before .before .before .args in
+    let start : tie.Start = search in
+    let a = start .args in
     c .valued2 .ensures
     ∙ ap (λ (n : ℕ). value 2 n 0) (c .before .word-of .ensures ∙ ap word32 (toZ-ofZ {w = w32} (record { sfits = c .before .before .signed16 .ok }) ∙ c .before .before .signed16 .ensures ∙ ap (signed 0x8000) (c .before .before .before .u16-inside .ensures)))
     ∙ stored-short (a .id) (a .bytes .now) (omega arith) (omega arith)
 
 shared-slice-read-valued : tie.Need-shared-slice-read-valued
-shared-slice-read-valued c = let p = c .before .before .before .before .pre in omega (arith, p .sized .enough 1 (tells-one _ (omega arith) (omega arith)))
+shared-slice-read-valued c =
+    let start : tie.Start = search in
+    let p = start .pre in omega (arith, p .sized .enough 1 (tells-one _ (omega arith) (omega arith)))
 
 cast-valued : tie.Need-cast-valued
 cast-valued c = record { fits = omega (arith, c .shared-slice-known2 .given 0 .fits) }
@@ -37,11 +40,14 @@ cast-valued c = record { fits = omega (arith, c .shared-slice-known2 .given 0 .f
 returns-3 : tie.Need-returns-3
 unfolding word32
 returns-3 c =
-    let a = c .before .before .before .before .before .args in
+    let start : tie.Start = search in
+    let a = start .args in
     c .valued3 .ensures ∙ stored-byte (a .id) (a .bytes .now) (omega arith) (omega arith)
 
 returns-4 : tie.Need-returns-4
-returns-4 c = let a = c .before .before .before .before .args in c .valued4 .ensures ∙ stored-flag (a .id) (a .bytes .now) (omega arith)
+returns-4 c =
+    let start : tie.Start = search in
+    let a = start .args in c .valued4 .ensures ∙ stored-flag (a .id) (a .bytes .now) (omega arith)
 
 pub sized-stored-value-spec : {M : Type 1} → statement M
 sized-stored-value-spec =

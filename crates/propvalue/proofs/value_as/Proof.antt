@@ -17,22 +17,29 @@ returns : tie.Need-returns
 returns c = let a = c .before .before .before .args in c .stored-value .ensures ∙ sym (by-id (a .id) (a .bytes .now) (a .kind) (omega arith))
 
 returns-2 : tie.Need-returns-2
-returns-2 c = let a = c .before .before .before .before .args in c .text-or .ensures ∙ sym (kinded (c .before .before .before .before) (c .before .match .keys1) ∙ by-kind (a .id) (a .bytes .now) _ (omega arith))
+returns-2 c =
+    let start : tie.Start = search in
+    let a = start .args in c .text-or .ensures ∙ sym (kinded start (c .before .match .keys1) ∙ by-kind (a .id) (a .bytes .now) _ (omega arith))
 
 returns-3 : tie.Need-returns-3
 unfolding guidOrBinary
-returns-3 c = let a = c .before .before .before .before .args in c .guid-value .ensures ∙ sym (kinded (c .before .before .before .before) (c .before .match .keys2) ∙ by-kind (a .id) (a .bytes .now) _ (omega arith))
+returns-3 c =
+    let start : tie.Start = search in
+    let a = start .args in c .guid-value .ensures ∙ sym (kinded start (c .before .match .keys2) ∙ by-kind (a .id) (a .bytes .now) _ (omega arith))
 
 returns-4 : tie.Need-returns-4
 unfolding doubleOrBinary
-returns-4 c = let a = c .before .before .before .before .args in c .double-value .ensures ∙ sym (kinded (c .before .before .before .before) (c .before .match .keys3) ∙ by-kind (a .id) (a .bytes .now) _ (omega arith))
+returns-4 c =
+    let start : tie.Start = search in
+    let a = start .args in c .double-value .ensures ∙ sym (kinded start (c .before .match .keys3) ∙ by-kind (a .id) (a .bytes .now) _ (omega arith))
 
 returns-5 : tie.Need-returns-5
 returns-5 c =
-    let a = c .before .before .before .before .args in
-    let n = c .before .match .rest in
+    let start : tie.Start = search in
+    let a = start .args in
+    let (((_, not-text), not-guid), not-double) = c .before .match .rest in
     c .valued .ensures
-    ∙ sym (by-kind (a .id) (a .bytes .now) (a .kind) (omega arith) ∙ simp (ne-eqb (a .kind) 1 (n .0 .0 .1), ne-eqb (a .kind) 2 (n .0 .1), ne-eqb (a .kind) 3 (n .1)))
+    ∙ sym (by-kind (a .id) (a .bytes .now) (a .kind) (omega arith) ∙ simp (ne-eqb (a .kind) 1 not-text, ne-eqb (a .kind) 2 not-guid, ne-eqb (a .kind) 3 not-double))
 
 pub value-as-spec : {M : Type 1} → statement M
 value-as-spec =

@@ -10,10 +10,14 @@ returns : tie.Need-returns
 returns c = c .valued .ensures ∙ yes-empty (c .before .before .before .args .bytes .now) (omega arith)
 
 returns-2 : tie.Need-returns-2
-returns-2 c = c .bool-value .ensures ∙ ap boolValue (c .before .byte-at .ensures) ∙ yes-byte (c .before .before .before .before .before .args .bytes .now) (omega arith)
+returns-2 c =
+    let start : tie.Start = search in
+    c .bool-value .ensures ∙ ap boolValue (c .before .byte-at .ensures) ∙ yes-byte (start .args .bytes .now) (omega arith)
 
 returns-3 : tie.Need-returns-3
-returns-3 c = c .long-value .ensures ∙ yes-longer (c .before .before .before .before .args .bytes .now) (λ e. omega arith) (λ e. omega arith)
+returns-3 c =
+    let start : tie.Start = search in
+    c .long-value .ensures ∙ yes-longer (start .args .bytes .now) (λ e. omega arith) (λ e. omega arith)
 
 pub yes-no-value-spec : {M : Type 1} → statement M
 yes-no-value-spec =
