@@ -33,12 +33,12 @@ by-size s id p = go (leb id 0x2F) (leb id 0x5F) (leb id 0x7F) (leb id 0xBC)
     go false false false true = refl
     go false false false false = refl
 
-module _ (s : List ℕ) (id p : ℕ) (z : Size) (known : z ≡ sizeOf id) where
-  pub extent-told : (n : ℕ) → z ≡ Size.Told n → Extent.At p n ≡ told.extent (extentAt s id p)
-  extent-told n k = sym (ap told.extent (by-size s id p ∙ ap (bySize s p) (sym known ∙ k)))
+module _ (s : List ℕ) (id p : ℕ) {z : Size} (known : z ≡ sizeOf id) where
+  pub extent-told : {n : ℕ} → z ≡ Size.Told n → Extent.At p n ≡ told.extent (extentAt s id p)
+  extent-told k = sym (ap told.extent (by-size s id p ∙ ap (bySize s p) (sym known ∙ k)))
 
-  pub extent-stored : (r : Extent) → z ≡ Size.Stored → r ≡ told.extent (lengthAt s p) → r ≡ told.extent (extentAt s id p)
-  extent-stored r k e = e ∙ sym (ap told.extent (by-size s id p ∙ ap (bySize s p) (sym known ∙ k)))
+  pub extent-stored : {r : Extent} → z ≡ Size.Stored → r ≡ told.extent (lengthAt s p) → r ≡ told.extent (extentAt s id p)
+  extent-stored k e = e ∙ sym (ap told.extent (by-size s id p ∙ ap (bySize s p) (sym known ∙ k)))
 
 -- ---- no value begins far off, or is long
 abbrev pub Near : ℕ → ℕ × ℕ → Type 0

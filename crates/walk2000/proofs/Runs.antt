@@ -63,27 +63,7 @@ pub stops : (s : List ℕ) (p : ℕ) → p < length s → 0xFD ≤ byte s p → 
 unfolding goesOn
 stops s p h k = rw (lt-ltb p (length s), le-ltb (byte s p) 0xFD)
 
--- from at to p there are n properties
-pub Passed : List ℕ → ℕ → ℕ → ℕ → Type 0
-Passed s at n p = told.run (runAt s at) ≡ addRun n (told.run (runAt s p))
-
-pub passed-none : (s : List ℕ) (at : ℕ) → Passed s at 0 at
-unfolding Passed
-passed-none s at = sym (add-none (told.run (runAt s at)))
-
-module _ (s : List ℕ) (at n p : ℕ) (known : Passed s at n p) where
-  pub passed-stop : goesOn s p ≡ false → Run.Of n p ≡ told.run (runAt s at)
-  unfolding Passed
-  passed-stop t = ap (λ m. Run.Of m p) (sym (add-zero n)) ∙ ap (addRun n) (sym (run-stop s p t)) ∙ sym known
-
-  pub passed-more : (r : Extent) (st sz : ℕ) → goesOn s p ≡ true → r ≡ told.value (propertyAt s p) → r ≡ Extent.At st sz → Passed s at (n + 1) (st + sz)
-  unfolding Passed
-  passed-more r st sz t e k = known ∙ ap (addRun n) (run-next s p st sz t (sym e ∙ k)) ∙ add-one-more n (told.run (runAt s (st + sz)))
-
-  pub passed-bad : (r : Extent) → goesOn s p ≡ true → r ≡ told.value (propertyAt s p) → r ≡ Extent.Bad → Run.Bad ≡ told.run (runAt s at)
-  unfolding Passed
-  passed-bad r t e k = ap (addRun n) (sym (run-bad s p t (sym e ∙ k))) ∙ sym known
-
+-- a property is further on, and inside
 pub ends : (s : List ℕ) (p : ℕ) (r : Extent) (st sz : ℕ) → r ≡ told.value (propertyAt s p) → r ≡ Extent.At st sz → (p < st + sz) × (st + sz ≤ length s)
 ends s p r st sz e k = go (propertyAt s p) (property-within s p) (sym e ∙ k)
   where
@@ -93,3 +73,25 @@ ends s p r st sz e k = go (propertyAt s p) (property-within s p) (sym e ∙ k)
         let e₀ : q .start ≡ st = cc in
         let e₁ : q .size ≡ sz = cc in
         omega arith
+
+-- from at to p there are n properties, of a byte or more each
+pub record Passed (s : List ℕ) (at n p : ℕ) : Type 0 where
+  pub long : at + n ≤ p
+  pub same : told.run (runAt s at) ≡ addRun n (told.run (runAt s p))
+
+pub passed-none : (s : List ℕ) (at : ℕ) → Passed s at 0 at
+passed-none s at = record { long = omega arith; same = sym (add-none (told.run (runAt s at))) }
+
+module _ {s : List ℕ} {at n p : ℕ} (known : Passed s at n p) where
+  pub passed-stop : goesOn s p ≡ false → Run.Of n p ≡ told.run (runAt s at)
+  passed-stop t = ap (λ m. Run.Of m p) (sym (add-zero n)) ∙ ap (addRun n) (sym (run-stop s p t)) ∙ sym (known .same)
+
+  -- r is what is told of the property at p
+  module _ {r : Extent} (t : goesOn s p ≡ true) (e : r ≡ told.value (propertyAt s p)) where
+    pub passed-more : {st sz : ℕ} → r ≡ Extent.At st sz → Passed s at (n + 1) (st + sz)
+    passed-more {st} {sz} k =
+        let further = ends s p r st sz e k in
+        record { long = omega (arith, known .long, further); same = known .same ∙ ap (addRun n) (run-next s p st sz t (sym e ∙ k)) ∙ add-one-more n (told.run (runAt s (st + sz))) }
+
+    pub passed-bad : r ≡ Extent.Bad → Run.Bad ≡ told.run (runAt s at)
+    passed-bad k = ap (addRun n) (sym (run-bad s p t (sym e ∙ k))) ∙ sym (known .same)

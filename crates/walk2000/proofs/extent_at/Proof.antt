@@ -4,10 +4,10 @@ use Rattle.walk2000.proofs.extent_at.Statement.{statement}
 use Rattle.walk2000.proofs.extent_at.Tie as tie
 
 returns : tie.Need-returns
-returns c = extent-stored _ _ _ _ (c .before .before .before .value-size .ensures) _ (c .before .enum-told .given .1) (c .length-at .ensures)
+returns c = extent-stored _ _ _ (c .before .before .before .value-size .ensures) (c .before .enum-told .given .1) (c .length-at .ensures)
 
 returns-2 : tie.Need-returns-2
-returns-2 c = extent-told _ _ _ _ (c .before .before .before .value-size .ensures) _ (c .before .size .given .1)
+returns-2 c = extent-told _ _ _ (c .before .before .before .value-size .ensures) (c .before .size .given .1)
 
 pub extent-at-spec : {M : Type 1} → statement M
 extent-at-spec =

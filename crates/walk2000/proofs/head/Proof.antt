@@ -14,16 +14,24 @@ returns-3 c = head-one _ _ (c .before .before .before .if1 .left) (c .before .if
 
 returns-4 : tie.Need-returns-4
 returns-4 c =
-    let b = c .before .before .before .before in
-    head-many _ _ (b .before .before .before .before .if1 .left) (b .before .before .if2 .left) (b .before .if3 .left) (b .if4 .taken) _ (c .before .before .before .u16-if-inside .ensures) _ (c .before .n .given .1)
+    let else1 : tie.Else1 = search in
+    let else2 : tie.Else2 = search in
+    let else3 : tie.Else3 = search in
+    let then4 : tie.Then4 = search in
+    head-many _ _ (else1 .if1 .left) (else2 .if2 .left) (else3 .if3 .left) (then4 .if4 .taken) _ (c .before .before .before .u16-if-inside .ensures) _ (c .before .n .given .1)
 
 returns-5 : tie.Need-returns-5
 returns-5 c =
-    let b = c .before .before .before in
-    head-short _ _ (b .before .before .before .before .if1 .left) (b .before .before .if2 .left) (b .before .if3 .left) (b .if4 .taken) _ (c .before .before .u16-if-inside .ensures) (c .enum-told .given .1)
+    let else1 : tie.Else1 = search in
+    let else2 : tie.Else2 = search in
+    let else3 : tie.Else3 = search in
+    let then4 : tie.Then4 = search in
+    head-short _ _ (else1 .if1 .left) (else2 .if2 .left) (else3 .if3 .left) (then4 .if4 .taken) _ (c .before .before .u16-if-inside .ensures) (c .enum-told .given .1)
 
 returns-6 : tie.Need-returns-6
-returns-6 c = head-other _ _ (c .before .before .before .before .if1 .left) (c .before .before .if2 .left) (c .before .if3 .left) (c .if4 .left)
+returns-6 c =
+    let else1 : tie.Else1 = search in
+    head-other _ _ (else1 .if1 .left) (c .before .before .if2 .left) (c .before .if3 .left) (c .if4 .left)
 
 pub head-spec : {M : Type 1} → statement M
 head-spec =

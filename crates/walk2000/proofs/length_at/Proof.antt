@@ -12,11 +12,16 @@ returns c = simp (le-ltb _ _ (c .if1 .taken))
 
 returns-2 : tie.Need-returns-2
 unfolding lengthAt byteAt
-returns-2 c = simp (lt-ltb _ _ (c .before .before .before .before .before .before .if1 .left), eq-eqb _ _ (c .before .before .before .before .if2 .taken), number-inside (halfAt _ _) _ _ (c .before .before .before .u16-if-inside .ensures) (c .before .m .given .1))
+returns-2 c =
+    let then2 : tie.Then2 = search in
+    let else1 : tie.Else1 = search in
+    simp (lt-ltb _ _ (else1 .if1 .left), eq-eqb _ _ (then2 .if2 .taken), number-inside (halfAt _ _) _ _ (c .before .before .before .u16-if-inside .ensures) (c .before .m .given .1))
 
 returns-3 : tie.Need-returns-3
 unfolding lengthAt byteAt
-returns-3 c = simp (lt-ltb _ _ (c .before .before .before .before .before .if1 .left), eq-eqb _ _ (c .before .before .before .if2 .taken), number-outside (halfAt _ _) _ (c .before .before .u16-if-inside .ensures) (c .enum-told .given .1))
+returns-3 c =
+    let else1 : tie.Else1 = search in
+    simp (lt-ltb _ _ (else1 .if1 .left), eq-eqb _ _ (c .before .before .before .if2 .taken), number-outside (halfAt _ _) _ (c .before .before .u16-if-inside .ensures) (c .enum-told .given .1))
 
 returns-4 : tie.Need-returns-4
 unfolding lengthAt byteAt

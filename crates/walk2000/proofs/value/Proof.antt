@@ -14,19 +14,26 @@ use Rattle.walk2000.proofs.value.Tie as tie
 -- the value's end is a number
 add-if1 : tie.Need-add-if1
 add-if1 c =
-    let b = c .before .before .before .before .before .before in
+    let after-shared-slice-known : tie.After-shared-slice-known = search in
+    let start : tie.Start = search in
     let e = extent-at (extentAt _ _ _) _ _ _ (c .before .before .before .extent-at .ensures) (c .before .start .given .1) in
-    omega (arith, every-at (Near (b .args .at + 1)) (extentAt _ _ _) _ (extent-near (now (b .args .s)) (λ i. c .before .before .before .before .before .shared-slice-known .given i .fits) _ _) e, b .pre, b .good)
+    omega (arith, every-at (Near (start .args .at + 1)) (extentAt _ _ _) _ (extent-near (now (start .args .s)) (λ i. after-shared-slice-known .shared-slice-known .given i .fits) _ _) e, start .pre, start .good)
 
 returns : tie.Need-returns
 unfolding propertyAt
-returns c = let g = c .before .before .start .given in
-    simp (extent-at (extentAt _ _ _) _ _ _ (c .before .before .before .before .extent-at .ensures) (g .1), lt-leb (g .0 .0 + g .0 .1 .0) (length (now (c .before .before .before .before .before .before .before .args .s))) (omega arith))
+returns c =
+    let after-extent-at : tie.After-extent-at = search in
+    let start : tie.Start = search in
+    let (place, is) = c .before .before .start .given in
+    simp (extent-at (extentAt _ _ _) _ _ _ (after-extent-at .extent-at .ensures) is, lt-leb (place .0 + place .1 .0) (length (now (start .args .s))) (omega arith))
 
 returns-2 : tie.Need-returns-2
 unfolding propertyAt
-returns-2 c = let g = c .before .before .start .given in
-    simp (extent-at (extentAt _ _ _) _ _ _ (c .before .before .before .before .extent-at .ensures) (g .1), le-leb (g .0 .0 + g .0 .1 .0) (length (now (c .before .before .before .before .before .before .before .args .s))) (omega arith))
+returns-2 c =
+    let after-extent-at : tie.After-extent-at = search in
+    let start : tie.Start = search in
+    let (place, is) = c .before .before .start .given in
+    simp (extent-at (extentAt _ _ _) _ _ _ (after-extent-at .extent-at .ensures) is, le-leb (place .0 + place .1 .0) (length (now (start .args .s))) (omega arith))
 
 returns-3 : tie.Need-returns-3
 unfolding propertyAt
