@@ -22,7 +22,7 @@ returns c =
 
 loop-again : tie.Need-loop-again Inv-loop μ-loop
 loop-again c =
-    let top = c .before .before .before .before in
+    let top : tie.At-loop Inv-loop μ-loop = search in
     let s = top .before .before .args .s .now in
     let p = top .loop .p in
     let left = top .loop .left in

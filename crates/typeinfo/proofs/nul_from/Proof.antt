@@ -18,10 +18,14 @@ loop-holds : tie.Need-loop-holds Inv-loop μ-loop
 loop-holds c = (c .pre, refl)
 
 returns : tie.Need-returns Inv-loop μ-loop
-returns c = omega (arith, nul-here (c .before .before .before .before .args .s .now) (c .before .before .before .loop .i) (omega arith) (c .if1 .taken))
+returns c =
+    let place-start : tie.Start Inv-loop μ-loop = search in
+    omega (arith, nul-here (place-start .args .s .now) (c .before .before .before .loop .i) (omega arith) (c .if1 .taken))
 
 loop-again : tie.Need-loop-again Inv-loop μ-loop
-loop-again c = omega (arith, nul-next (c .before .before .before .before .args .s .now) (c .before .before .before .loop .i) (omega arith) (c .if1 .left))
+loop-again c =
+    let place-start : tie.Start Inv-loop μ-loop = search in
+    omega (arith, nul-next (place-start .args .s .now) (c .before .before .before .loop .i) (omega arith) (c .if1 .left))
 
 returns-2 : tie.Need-returns-2 Inv-loop μ-loop
 returns-2 c = omega (arith, nul-end (c .before .before .args .s .now) (c .before .loop .i) (omega arith))

@@ -12,12 +12,17 @@ returns c =
     (omega (arith, not-one (start .args .e .«type_code») (omega arith)), put-nothing _ _ (start .args .e) (omega arith))
 
 put-info-requires : tie.Need-put-info-requires
-put-info-requires c κs = omega (arith, one (c .before .before .before .before .before .before .before .args .e .«type_code») (c .before .before .before .before .if1 .left))
+put-info-requires c κs =
+    let else1 : tie.Else1 = search in
+    let place-start : tie.Start = search in
+    omega (arith, one (place-start .args .e .«type_code») (else1 .if1 .left))
 
 returns-2 : tie.Need-returns-2
 returns-2 c =
-    let reported = c .before .before .before .before .before .before .before .if1 .left in
-    (omega (arith, one (c .before .before .before .before .before .before .before .before .before .before .args .e .«type_code») reported), c .before .before .put-info .ensures ∙ put-row _ _ _ reported)
+    let else1 : tie.Else1 = search in
+    let place-start : tie.Start = search in
+    let reported = else1 .if1 .left in
+    (omega (arith, one (place-start .args .e .«type_code») reported), c .before .before .put-info .ensures ∙ put-row _ _ _ reported)
 
 pub put-reported-spec : {M : Type 1} → statement M
 put-reported-spec =

@@ -14,13 +14,19 @@ returns-2 : tie.Need-returns-2
 returns-2 c = too-short (c .before .before .before .args .s .now) (omega arith) (omega arith)
 
 returns-3 : tie.Need-returns-3
-returns-3 c = other-magic (c .before .before .before .before .before .before .args .s .now) (omega arith) (omega arith) (c .before .before .u32-at .ensures) (c .if3 .taken)
+returns-3 c =
+    let start : tie.Start = search in
+    other-magic (start .args .s .now) (omega arith) (omega arith) (c .before .before .u32-at .ensures) (c .if3 .taken)
 
 returns-4 : tie.Need-returns-4
-returns-4 c = too-many (c .before .before .before .before .before .before .before .args .s .now) (omega arith) (omega arith) (omega arith) (omega arith)
+returns-4 c =
+    let start : tie.Start = search in
+    too-many (start .args .s .now) (omega arith) (omega arith) (omega arith) (omega arith)
 
 returns-5 : tie.Need-returns-5
-returns-5 c = ap Entries (c .before .before .u32-at2 .ensures) ∙ as-many (c .before .before .before .before .before .before .before .args .s .now) (omega arith) (omega arith) (omega arith) (omega arith)
+returns-5 c =
+    let start : tie.Start = search in
+    ap Entries (c .before .before .u32-at2 .ensures) ∙ as-many (start .args .s .now) (omega arith) (omega arith) (omega arith) (omega arith)
 
 pub type-info-count-spec : {M : Type 1} → statement M
 type-info-count-spec =

@@ -34,18 +34,19 @@ returns c =
 
 put-reported-requires : tie.Need-put-reported-requires Inv-loop μ-loop
 put-reported-requires c κs =
-    let top = c .before .before .before .before in
+    let top : tie.At-loop Inv-loop μ-loop = search in
     let start = top .before .before .before in
     let read = c .before .type-info-entry in
     row-room (start .args .s .now) (top .loop .p) (top .loop .left) (read .result) (read .ensures) (omega arith) (omega arith) _ _ (start .pre .not-long) (omega (arith, start .pre .all-rows, top .loop .inv .1, top .loop .inv .2))
 
 loop-again : tie.Need-loop-again Inv-loop μ-loop
 loop-again c =
-    let top = c .before .before .before .before .before .before .before in
+    let after-type-info-entry : tie.After-type-info-entry Inv-loop μ-loop = search in
+    let top : tie.At-loop Inv-loop μ-loop = search in
     let s = top .before .before .before .args .s .now in
     let p = top .loop .p in
     let left = top .loop .left in
-    let read = c .before .before .before .before .type-info-entry in
+    let read = after-type-info-entry .type-info-entry in
     let e = read .result in
     let is = read .ensures in
     let call = c .before .before .put-reported in
