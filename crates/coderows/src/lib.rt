@@ -1,9 +1,11 @@
 // What a code table that a caller lends ties an id to: the rows of a scope, and the row of an id.
+use codetable::CODE_AT;
 use codetable::CODE_SIZE;
 use codetable::CODES;
 use codetable::HEADER_AT;
 use codetable::HEADER_COUNT_AT;
 use codetable::MOST_SCOPES;
+use codetable::ROW_COUNT_AT;
 use codetable::ROW_SIZE;
 use codetable::SCOPE_COUNT_AT;
 use codetable::SCOPE_SIZE;
@@ -70,7 +72,7 @@ fn seek_scope(table: &[u8], contents: usize, n: usize, wanted: usize) -> FoundSc
         let half = scopes / 2;
         let mid = first + half;
         let at = contents + SCOPE_SIZE * mid;
-        let key = byte_number(table, at) * CODES + u16_number(table, at + 1);
+        let key = byte_number(table, at) * CODES + u16_number(table, at + CODE_AT);
         if key == wanted {
             return FoundScope::At(mid);
         }
@@ -97,8 +99,8 @@ pub fn list_scopes(table: &[u8], scopes: &mut [u32])
         if MOST_SCOPES <= i {
             return;
         }
-        let key = byte_number(table, at) * CODES + u16_number(table, at + 1);
-        let count = u16_number(table, at + 3);
+        let key = byte_number(table, at) * CODES + u16_number(table, at + CODE_AT);
+        let count = u16_number(table, at + ROW_COUNT_AT);
         let k = LISTED_WORDS * i;
         scopes[k] = key as u32;
         scopes[k + 1] = body as u32;

@@ -26,6 +26,16 @@ pub const SCOPE_SIZE: usize = 5;
 
 pub const ROW_SIZE: usize = 4;
 
+// In a scope of the contents the code stands after the kind, and the number of rows after that.
+pub const CODE_AT: usize = 1;
+
+pub const ROW_COUNT_AT: usize = 3;
+
+// In a row the target stands after the id, and the kind of its value after that.
+const TARGET_AT: usize = 1;
+
+const KIND_AT: usize = 3;
+
 // A table has no more header codes and scopes than these.
 pub const MOST_HEADERS: usize = 4;
 
@@ -34,7 +44,12 @@ pub const MOST_SCOPES: usize = 64;
 // A scope's kind and code are one number, kind * CODES + code: they ascend as it does.
 pub const CODES: usize = 65536;
 
-// The largest high byte of a target, which is below 0x8000.
+// No well-formed table has more bytes.
+pub const LONGEST_TABLE: usize = 65100;
+
+// The last target, and its high byte.
+pub const LAST_TARGET: u16 = 0x7FFF;
+
 const TARGET_HIGH: u8 = 0x7F;
 
 // The last of the kinds of scopes; only it has codes.
@@ -58,14 +73,14 @@ pub fn read_row(table: &[u8], at: usize) -> RowRead
     if at + 3 < table.len() {
         return RowRead {
             id: number_of(table[at]),
-            target: number_of(table[at + 1]) + 256 * number_of(table[at + 1 + 1]),
-            kind: number_of(table[at + 3]),
+            target: number_of(table[at + TARGET_AT]) + 256 * number_of(table[at + TARGET_AT + 1]),
+            kind: number_of(table[at + KIND_AT]),
         };
     }
     RowRead {
         id: byte_number(table, at),
-        target: u16_number(table, at + 1),
-        kind: byte_number(table, at + 3),
+        target: u16_number(table, at + TARGET_AT),
+        kind: byte_number(table, at + KIND_AT),
     }
 }
 
@@ -106,7 +121,7 @@ fn ties_ok(table: &[u8], start: usize, n: usize) -> bool
         if TARGET_HIGH < table[at + 2] {
             return false;
         }
-        if KIND_BYTES < table[at + 3] {
+        if KIND_BYTES < table[at + KIND_AT] {
             return false;
         }
         least = id + 1;
@@ -126,8 +141,8 @@ fn scopes_fit(table: &[u8], start: usize, bodies: usize, n: usize) -> bool
     let mut least = 0;
     while 0 < left {
         let kind = byte_number(table, at);
-        let code = u16_number(table, at + 1);
-        let count = u16_number(table, at + 3);
+        let code = u16_number(table, at + CODE_AT);
+        let count = u16_number(table, at + ROW_COUNT_AT);
         if LAST_SCOPE_KIND < kind {
             return false;
         }
