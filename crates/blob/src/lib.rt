@@ -1,5 +1,8 @@
 // A Blob of either layout, and the name of a control.
 use rules::Answer;
+use rules::BAD_TABLE;
+use rules::LONGEST;
+use rules::TOO_LONG;
 ghost use mathlib.Core.Path.{_≡_};
 ghost use mathlib.Core.List.{[]};
 ghost use mathlib.Core.Bool.{true};
@@ -13,14 +16,7 @@ ghost use Rattle.rules.specs.NamePart.{namePart, partBytes};
 ghost use Rattle.rows.specs.Judge.{Exits};
 ghost use Rattle.blob.specs.Exit.{exited, partOr, placeOr, partPlace};
 
-// The longest stream that is read, in bytes.
-const LONGEST: usize = 16777216;
-
 // The refusals that come before a reading.
-const TOO_LONG: u32 = 5;
-
-const BAD_TABLE: u32 = 8;
-
 const OTHER_LAYOUT: u32 = 15;
 
 fn refused(number: u32) -> Answer

@@ -3,6 +3,8 @@ use listing::Kind;
 use listing::refusal_line;
 use rows::CONTROL_WIDTH;
 use rows::PROPERTY_WIDTH;
+use rules::BAD_TABLE;
+use rules::TOO_LONG;
 ghost use Rattle.names.specs.Lookup.{Lent};
 ghost use Rattle.text.specs.Writer.{Wrote};
 ghost use Rattle.bloblines.specs.Blobs.{linesIn, listedIn, mostIn, Written};
@@ -17,11 +19,6 @@ const LONGEST_INPUT: usize = 32768;
 const CONTROL_ROOM: usize = 256;
 
 const PROPERTY_ROOM: usize = 1024;
-
-// The answers to an input that is too long, and to one without a whole code table.
-const TOO_LONG: u32 = 5;
-
-const BAD_TABLE: u32 = 8;
 
 // Reads a Blob into the lent rows and writes its lines.
 fn blob_lines(
@@ -79,7 +76,7 @@ pub fn write_listing(
     if input.len() < 4 {
         return refusal_line(out, BAD_TABLE);
     }
-    let size = leaf::u32_at(input, 0) as usize;
+    let size = numbers::u32_at(input, 0) as usize;
     if input.len() - 4 < size {
         return refusal_line(out, BAD_TABLE);
     }

@@ -35,9 +35,9 @@ use Rattle.names.proofs.value_name.Met as value-name-code
 use Rattle.propvalue.proofs.entry_value.Met as entry-value-code
 use Rattle.propvalue.proofs.stored_value.Met as stored-value-code
 use Rattle.propvalue.proofs.«value_as».Met as value-as-code
-use Rattle.leaf.proofs.integer_value.Met as integer-value-code
-use Rattle.leaf.proofs.is_utf16.Met as is-utf16-code
-use Rattle.leaf.proofs.widen.Met as widen-code
+use Rattle.numbers.proofs.integer_value.Met as integer-value-code
+use Rattle.utf16.proofs.is_utf16.Met as is-utf16-code
+use Rattle.numbers.proofs.widen.Met as widen-code
 use Rattle.text.proofs.guid_text.Met as guid-text-code
 use Rattle.text.proofs.label_text.Met as label-text-code
 use Rattle.typeinfo.proofs.read_type_info.Met as read-type-info-code
@@ -72,7 +72,7 @@ use Rattle.text.proofs.guid_text.Reads as guid-text-clauses
 use Rattle.text.proofs.label_text.Reads as label-text-clauses
 use Rattle.join.proofs.join.Reads as join-clauses
 use Rattle.blob.proofs.control_name.Reads as control-name-clauses
-use Rattle.leaf.proofs.widen.Reads as widen-clauses
+use Rattle.numbers.proofs.widen.Reads as widen-clauses
 use Rattle.oskuramos.proofs.oskuramos_read_blob.Reads as exported-read-blob-clauses
 use Rattle.oskuramos.proofs.oskuramos_read_2000.Reads as exported-read-2000-clauses
 use Rattle.oskuramos.proofs.oskuramos_read_later.Reads as exported-read-later-clauses

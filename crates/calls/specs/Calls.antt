@@ -26,8 +26,8 @@ use Rattle.rules.specs.Join.{joinExit, result}
 use Rattle.rules.specs.NamePart.{Part, namePart, partBytes}
 use Rattle.rules.specs.Room.{room2000, roomLater, roomFor, typeInfoRoom}
 use Rattle.rules.specs.Blob.{Exit, is2000, exit, exit2000, exitLater, spots}
-use Rattle.leaf.specs.Int.{intOf}
-use Rattle.leaf.specs.Wide.{wordsOf, bitsOf}
+use Rattle.numbers.specs.Int.{intOf}
+use Rattle.numbers.specs.Wide.{wordsOf, bitsOf}
 use Rattle.names.specs.Lookup.{named}
 use Rattle.blob.specs.Exit.{partPlace}
 use Rattle.oskuramos.specs.Handed.{handedPart}

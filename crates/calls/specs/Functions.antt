@@ -12,8 +12,8 @@ use Rattle.rules.specs.declared.Room.{Room}
 use Rattle.rules.specs.Texts.{TextExit}
 use Rattle.rules.specs.TypeInfo.{TypeInfoExit}
 use Rattle.rules.specs.Blob.{Exit}
-use Rattle.leaf.specs.declared.Int.{Int}
-use Rattle.leaf.specs.declared.Wide.{Wide}
+use Rattle.numbers.specs.declared.Int.{Int}
+use Rattle.numbers.specs.declared.Wide.{Wide}
 use Rattle.names.specs.declared.Name.{Name}
 use Rattle.blob.specs.Exit.{Place}
 use Rattle.oskuramos.specs.declared.Answer as c-answer
@@ -24,9 +24,9 @@ use Rattle.oskuramos.specs.declared.Part.{Part}
 use Rattle.propvalue.proofs.entry_value as entry_value
 use Rattle.propvalue.proofs.stored_value as stored_value
 use Rattle.propvalue.proofs.«value_as» as «value_as»
-use Rattle.leaf.proofs.integer_value as integer_value
-use Rattle.leaf.proofs.widen as widen_single
-use Rattle.leaf.proofs.is_utf16 as is_utf16
+use Rattle.numbers.proofs.integer_value as integer_value
+use Rattle.numbers.proofs.widen as widen_single
+use Rattle.utf16.proofs.is_utf16 as is_utf16
 use Rattle.names.proofs.text_name as text_name
 use Rattle.names.proofs.number_name as number_name
 use Rattle.names.proofs.bytes_name as bytes_name

@@ -1,12 +1,12 @@
 // Counts what an Access 2000 stream has.
+use numbers::IfInside;
+use numbers::u16_if_inside;
 use rows::Tally;
 use rows::is_section;
 use walk2000::Opens;
 use walk2000::Run;
-use walk2000::Word;
-use walk2000::half;
 use walk2000::head;
-use walk2000::props;
+use walk2000::run_at;
 ghost use mathlib.Core.Path.{_≡_};
 ghost use Rattle.rules.specs.Tree.{levels};
 ghost use Rattle.rules.specs.Access2000.{entriesAt, streamOf};
@@ -44,10 +44,10 @@ pub enum StreamTally {
 fn entry(s: &[u8], at: usize, left: usize) -> EntryTally
     ensures { λ r. ⌜ told.EntryRead (now (s .entry)) at left r ⌝ }
 {
-    let Word::Of(entry_type) = half(s, at) else {
+    let IfInside::Of(entry_type) = u16_if_inside(s, at) else {
         return EntryTally::Bad;
     };
-    let Run::Of { count, next } = props(s, at + 2) else {
+    let Run::Of { count, next } = run_at(s, at + 2) else {
         return EntryTally::Bad;
     };
     match head(s, next) {
@@ -152,7 +152,7 @@ pub fn count(s: &[u8]) -> StreamTally
     let Run::Of {
         count: own,
         next: p,
-    } = props(s, OBJECT_RUN)
+    } = run_at(s, OBJECT_RUN)
     else {
         return StreamTally::Bad;
     };

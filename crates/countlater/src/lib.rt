@@ -1,7 +1,7 @@
 // Counts what a stream of the later layout has: groups, nodes and the scan.
-use leaf::u16_at;
-use leaf::u32_at;
 use matchlater::find_match;
+use numbers::u16_at;
+use numbers::u32_at;
 use rows::Tally;
 use rows::is_section;
 ghost use mathlib.Core.Path.{_≡_};

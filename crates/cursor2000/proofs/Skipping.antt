@@ -11,11 +11,13 @@ use Rattle.rules.specs.Bytes.{halfAt}
 use Rattle.rules.specs.Tree.{Entry, Entries, plain, parent, levelsAt, isSection, isReported}
 use Rattle.rules.specs.Access2000.{Prop, runAt, headAt, closeAt, entryAt}
 use Rattle.rules.proofs.ListLaws.{Every, every-when}
+use Rattle.numbers.proofs.Inside.{number-inside, number-outside}
 use Rattle.walk2000.specs.Told as told
-use Rattle.walk2000.specs.declared.Word.{Word}
+use Rattle.numbers.specs.Reads.{ifInside}
+use Rattle.numbers.specs.declared.IfInside.{IfInside}
 use Rattle.walk2000.specs.declared.Run.{Run}
 use Rattle.walk2000.specs.declared.Opens.{Opens}
-use Rattle.walk2000.proofs.Inverse.{word-of, word-short, run-of, run-bad, opens-plain, opens-listed, opens-bad}
+use Rattle.walk2000.proofs.Inverse.{run-of, run-bad, opens-plain, opens-listed, opens-bad}
 use Rattle.cursor.specs.Walk.{entryBy}
 use Rattle.cursor2000.specs.Steps.{stepAt, Skips}
 use Rattle.cursor2000.specs.declared.Pass.{Pass}
@@ -43,35 +45,35 @@ close-section below type ps h e = go (h .0)
     go none = e
     go (some n) = every-when Reported (below n (h .1)) _ λ l _. refl
 
-module _ (s : List ℕ) (p : ℕ) {w : Word} (we : w ≡ told.half (halfAt s p)) where
-  pub skip-short : w ≡ Word.Short → Skips s p Pass.Not
+module _ (s : List ℕ) (p : ℕ) {w : IfInside} (we : w ≡ ifInside (halfAt s p)) where
+  pub skip-short : w ≡ IfInside.Outside → Skips s p Pass.Not
   unfolding entryAt
-  skip-short wk = kept s p (rw (word-short (halfAt s p) w we wk) tt)
+  skip-short wk = kept s p (rw (number-outside (halfAt s p) w we wk) tt)
 
-  module _ {type : ℕ} (wk : w ≡ Word.Of type) {b : Bool} (be : b ≡ isSection type) where
+  module _ {type : ℕ} (wk : w ≡ IfInside.Of type) {b : Bool} (be : b ≡ isSection type) where
     pub skip-section : b ≡ true → Skips s p Pass.Not
     unfolding entryAt
     skip-section bk = kept s p
-        (rw (word-of (halfAt s p) w type we wk)
+        (rw (number-inside (halfAt s p) w type we wk)
         (every-when Reported (runAt s (p + 2)) _ λ x _. every-when Reported (headAt s (x .1)) _ λ h _. close-section (deep s) type (x .0) h (sym be ∙ bk)))
 
     module _ {u : Run} (ue : u ≡ told.run (runAt s (p + 2))) where
       pub skip-run-bad : u ≡ Run.Bad → Skips s p Pass.Not
       unfolding entryAt
-      skip-run-bad uk = kept s p (rw (word-of (halfAt s p) w type we wk, run-bad (runAt s (p + 2)) u ue uk) tt)
+      skip-run-bad uk = kept s p (rw (number-inside (halfAt s p) w type we wk, run-bad (runAt s (p + 2)) u ue uk) tt)
 
       module _ {n q : ℕ} (uk : u ≡ Run.Of n q) {o : Opens} (oe : o ≡ told.head (headAt s q)) where
         pub skip-head-bad : o ≡ Opens.Bad → Skips s p Pass.Not
         unfolding entryAt
         skip-head-bad ok =
             let x = run-of (runAt s (p + 2)) u n q ue uk in
-            kept s p (rw (word-of (halfAt s p) w type we wk, x .2, opens-bad (headAt s q) o oe ok) tt)
+            kept s p (rw (number-inside (halfAt s p) w type we wk, x .2, opens-bad (headAt s q) o oe ok) tt)
 
         pub skip-listed : {m e : ℕ} → o ≡ Opens.Listed m e → Skips s p Pass.Not
         unfolding entryAt closeAt
         skip-listed {m = m} {e = e} ok =
             let x = run-of (runAt s (p + 2)) u n q ue uk in
-            kept s p (rw (word-of (halfAt s p) w type we wk, x .2, opens-listed (headAt s q) o m e oe ok) (every-when Reported (deep s m e) _ λ l _. refl))
+            kept s p (rw (number-inside (halfAt s p) w type we wk, x .2, opens-listed (headAt s q) o m e oe ok) (every-when Reported (deep s m e) _ λ l _. refl))
 
         pub skip-plain : {e : ℕ} → o ≡ Opens.Plain e → b ≡ false → Skips s p (Pass.Over e)
         unfolding entryAt closeAt
@@ -79,7 +81,7 @@ module _ (s : List ℕ) (p : ℕ) {w : Word} (we : w ≡ told.half (halfAt s p))
           where
             go : (ps : List Prop) × (length ps ≡ n) × (runAt s (p + 2) ≡ some (ps, q)) → Skips s p (Pass.Over e)
             go x =
-                let r : entryAt s (deep s) p ≡ some (plain type (x .0), e) = rw (word-of (halfAt s p) w type we wk, x .2, opens-plain (headAt s q) o e oe ok) in
+                let r : entryAt s (deep s) p ≡ some (plain type (x .0), e) = rw (number-inside (halfAt s p) w type we wk, x .2, opens-plain (headAt s q) o e oe ok) in
                 record {
                   over = λ next k.
                       let z : e ≡ next = cc in

@@ -2,13 +2,13 @@
 use cursor::Cursor;
 use cursor::STACK_WORDS;
 use cursor::after_entry;
+use numbers::IfInside;
+use numbers::u16_if_inside;
 use rows::is_section;
 use walk2000::Opens;
 use walk2000::Run;
-use walk2000::Word;
-use walk2000::half;
 use walk2000::head;
-use walk2000::props;
+use walk2000::run_at;
 ghost use Rattle.rules.specs.Tree.{isReported};
 ghost use Rattle.cursor.specs.Cursors.{Passed, PastReady, Past};
 ghost use Rattle.cursor2000.specs.Steps.{stepAt, listAt, Skips};
@@ -23,13 +23,13 @@ enum Pass {
 fn skip(s: &[u8], at: usize) -> Pass
     ensures { λ r. ⌜ Skips (now (s .entry)) at r ⌝ }
 {
-    let Word::Of(entry_type) = half(s, at) else {
+    let IfInside::Of(entry_type) = u16_if_inside(s, at) else {
         return Pass::Not;
     };
     if is_section(entry_type) {
         return Pass::Not;
     }
-    let Run::Of { count: _, next } = props(s, at + 2) else {
+    let Run::Of { count: _, next } = run_at(s, at + 2) else {
         return Pass::Not;
     };
     match head(s, next) {

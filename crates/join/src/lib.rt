@@ -1,11 +1,26 @@
 // Two code tables joined: the scopes and the rows of either, each once, in order. Both tables are walked at once: to count, and to find two different rows
 // for one scope and id; then to write.
-use codetable::byte;
+use codetable::CODES;
+use codetable::CODE_AT;
+use codetable::CODE_SIZE;
+use codetable::HEADER_AT;
+use codetable::HEADER_COUNT_AT;
+use codetable::MOST_SCOPES;
+use codetable::ROW_COUNT_AT;
+use codetable::ROW_SIZE;
+use codetable::SCOPE_COUNT_AT;
+use codetable::SCOPE_SIZE;
 use codetable::layout;
 use codetable::read_row;
 use codetable::well_formed;
-use codetable::word;
+use numbers::byte_number;
+use numbers::u16_number;
 use rules::Answer;
+use rules::BAD_TABLE;
+use rules::MORE_SCOPES;
+use rules::NO_ROOM_FOR_TEXT;
+use rules::OTHER_HEAD;
+use rules::TWO_ROWS;
 use text::put_byte;
 use text::refused;
 use text::wrote;
@@ -18,42 +33,6 @@ ghost use Rattle.rules.specs.CodeTable as t;
 ghost use Rattle.rules.specs.Join.{joinRows, joinScopes, sameRow, scopesAgree, twoBytes, tieBytes, tiesBytes, sameHead, joinExit};
 ghost use Rattle.text.specs.Writer.{Wrote};
 ghost use Rattle.join.specs.Walk.{alone, Walks, NextTurn, tieOf, rowsIn, RowsWalk, RowLeft, rowsAfter, RowsTurn, counted, scopesOf, ReadsKey, ScopesWalk, ScopeLeft, taken, stayed, ScopesTurn, sized, kindOf, codeOf, Formed, Agreed, codesBytes, headBytes, contentsBytes, bodiesBytes};
-
-// Where the number of a table's header codes stands, the number of its scopes, and the header codes.
-const HEADER_COUNT_AT: usize = 1;
-
-const SCOPE_COUNT_AT: usize = 2;
-
-const HEADER_AT: usize = 4;
-
-// How many bytes a header code has, a scope of the contents, a row.
-const CODE_SIZE: usize = 2;
-
-const SCOPE_SIZE: usize = 5;
-
-const ROW_SIZE: usize = 4;
-
-// In a scope of the contents the code stands after the kind, and the number of rows after that.
-const CODE_AT: usize = 1;
-
-const ROW_COUNT_AT: usize = 3;
-
-// A scope's kind and code are one number, kind * CODES + code.
-const CODES: usize = 65536;
-
-// A table has no more scopes.
-const MOST_SCOPES: usize = 64;
-
-// The refusals.
-const BAD_TABLE: u32 = 8;
-
-const NO_ROOM_FOR_TEXT: u32 = 9;
-
-const OTHER_HEAD: u32 = 16;
-
-const TWO_ROWS: u32 = 17;
-
-const MORE_SCOPES: u32 = 18;
 
 // Rows of a scope that are left: where the next one is, and how many they are.
 struct Rows {
@@ -217,14 +196,14 @@ fn key_at(table: &[u8], a: Scopes) -> usize
     requires { ⌜ a .at < 2 ^ 32 ⌝ }
     ensures { λ r. ⌜ ReadsKey (now (table .entry)) (a .at) r ⌝ }
 {
-    byte(table, a.at) * CODES + word(table, a.at + CODE_AT)
+    byte_number(table, a.at) * CODES + u16_number(table, a.at + CODE_AT)
 }
 
 fn take(table: &[u8], a: Scopes) -> Taken
     requires { ⌜ ScopeLeft a ⌝ }
     ensures { λ r. ⌜ r ≡ taken (now (table .entry)) a ⌝ }
 {
-    let count = word(table, a.at + ROW_COUNT_AT);
+    let count = u16_number(table, a.at + ROW_COUNT_AT);
     let rows = Rows {
         at: a.body,
         left: count,
@@ -280,8 +259,8 @@ fn scope_turn(one: &[u8], a: Scopes, other: &[u8], b: Scopes) -> ScopeTurn
 fn scopes_of(table: &[u8]) -> Scopes
     ensures { λ r. ⌜ r ≡ scopesOf (now (table .entry)) ⌝ }
 {
-    let contents = HEADER_AT + CODE_SIZE * byte(table, HEADER_COUNT_AT);
-    let scopes = word(table, SCOPE_COUNT_AT);
+    let contents = HEADER_AT + CODE_SIZE * byte_number(table, HEADER_COUNT_AT);
+    let scopes = u16_number(table, SCOPE_COUNT_AT);
     Scopes {
         at: contents,
         body: contents + SCOPE_SIZE * scopes,
@@ -328,7 +307,7 @@ fn same_codes(one: &[u8], other: &[u8], n: usize) -> bool
     let mut at = HEADER_AT;
     let mut left = n;
     while 0 < left {
-        if word(one, at) != word(other, at) {
+        if u16_number(one, at) != u16_number(other, at) {
             return false;
         }
         at += CODE_SIZE;
@@ -343,8 +322,8 @@ fn same_head(one: &[u8], other: &[u8]) -> bool
     if layout(one) != layout(other) {
         return false;
     }
-    let codes = byte(one, HEADER_COUNT_AT);
-    if codes != byte(other, HEADER_COUNT_AT) {
+    let codes = byte_number(one, HEADER_COUNT_AT);
+    if codes != byte_number(other, HEADER_COUNT_AT) {
         return false;
     }
     same_codes(one, other, codes)
@@ -364,9 +343,9 @@ fn put_codes(out: &mut [u8], at: usize, table: &[u8]) -> usize
 {
     let mut o = at;
     let mut from = HEADER_AT;
-    let mut left = byte(table, HEADER_COUNT_AT);
+    let mut left = byte_number(table, HEADER_COUNT_AT);
     while 0 < left {
-        o = put_two(out, o, word(table, from) as u16);
+        o = put_two(out, o, u16_number(table, from) as u16);
         from += CODE_SIZE;
         left -= 1;
     }
@@ -377,7 +356,7 @@ fn put_head(out: &mut [u8], table: &[u8], scopes: u16) -> usize
     ensures { λ r. ⌜ Wrote (now (out .entry)) 0 (headBytes (now (table .entry)) scopes) (now (out .exit)) r ⌝ }
 {
     let o = put_byte(out, 0, layout(table));
-    let o = put_byte(out, o, byte(table, HEADER_COUNT_AT) as u8);
+    let o = put_byte(out, o, byte_number(table, HEADER_COUNT_AT) as u8);
     let o = put_two(out, o, scopes);
     put_codes(out, o, table)
 }
@@ -470,7 +449,7 @@ pub fn join(one: &[u8], other: &[u8], out: &mut [u8]) -> Answer
         return refused(MORE_SCOPES);
     }
     let size = HEADER_AT
-        + CODE_SIZE * byte(one, HEADER_COUNT_AT)
+        + CODE_SIZE * byte_number(one, HEADER_COUNT_AT)
         + SCOPE_SIZE * sized.scopes
         + ROW_SIZE * sized.rows;
     if out.len() < size {

@@ -1,11 +1,22 @@
 // Why two code tables can't be joined; specs/Why.antt says it line by line. The lines are written into a lent buffer at a place; the place after them is returned.
-use coderows::find_scope;
+use coderows::SCOPE_LIST_WORDS;
 use coderows::list_scopes;
+use coderows::scope_near;
 use coderows::seek_row;
-use codetable::byte;
+use codetable::CODE_AT;
+use codetable::CODE_SIZE;
+use codetable::HEADER_AT;
+use codetable::HEADER_COUNT_AT;
+use codetable::ROW_COUNT_AT;
+use codetable::ROW_SIZE;
+use codetable::SCOPE_COUNT_AT;
+use codetable::SCOPE_SIZE;
 use codetable::read_row;
 use codetable::well_formed;
-use codetable::word;
+use numbers::byte_number;
+use numbers::u16_number;
+use rules::OTHER_HEAD;
+use rules::TWO_ROWS;
 use tabletext::put_row;
 use tabletext::put_scope_name;
 use tabletext::put_type_remark;
@@ -20,33 +31,6 @@ ghost use Rattle.text.specs.Writer.{Wrote};
 ghost use Rattle.joinwhy.specs.Why as w;
 ghost use Rattle.tabletext.specs.Text.{rowLine};
 ghost use Rattle.joinwhy.specs.Found.{SortedRows, TwoRows, ListedTable, tieOf, rowFrom, asAnother, asPair, pairLines};
-
-// Where the number of a table's header codes stands, the number of its scopes, and the header codes.
-const HEADER_COUNT_AT: usize = 1;
-
-const SCOPE_COUNT_AT: usize = 2;
-
-const HEADER_AT: usize = 4;
-
-// How many bytes a header code has, a scope of the contents, a row.
-const CODE_SIZE: usize = 2;
-
-const SCOPE_SIZE: usize = 5;
-
-const ROW_SIZE: usize = 4;
-
-// In a scope of the contents the code stands after the kind, and the number of rows after that.
-const CODE_AT: usize = 1;
-
-const ROW_COUNT_AT: usize = 3;
-
-// A list of scopes has three words for each of 64.
-const SCOPE_LIST_WORDS: usize = 192;
-
-// The refusals of which more is said.
-const OTHER_HEAD: u32 = 16;
-
-const TWO_ROWS: u32 = 17;
 
 struct Row {
     id: u8,
@@ -171,16 +155,16 @@ fn scopes_clash(one: &[u8], other: &[u8], listed: &[u32; SCOPE_LIST_WORDS]) -> P
     requires { ⌜ ListedTable (now other) (now listed) ⌝ }
     ensures { λ r. ⌜ r ≡ asPair (w.scopesClash (now (other .entry)) (t.scopes (now (one .entry)))) ⌝ }
 {
-    let scopes = word(one, SCOPE_COUNT_AT);
-    let contents = HEADER_AT + CODE_SIZE * byte(one, HEADER_COUNT_AT);
+    let scopes = u16_number(one, SCOPE_COUNT_AT);
+    let contents = HEADER_AT + CODE_SIZE * byte_number(one, HEADER_COUNT_AT);
     let mut place = contents;
     let mut body = contents + SCOPE_SIZE * scopes;
     let mut left = scopes;
     while 0 < left {
-        let kind = byte(one, place) as u8;
-        let code = word(one, place + CODE_AT) as u16;
-        let n = word(one, place + ROW_COUNT_AT);
-        let scope = find_scope(other, listed, kind, code, 0);
+        let kind = byte_number(one, place) as u8;
+        let code = u16_number(one, place + CODE_AT) as u16;
+        let n = u16_number(one, place + ROW_COUNT_AT);
+        let scope = scope_near(other, listed, kind, code, 0);
         let theirs = scope.body;
         let from = theirs.start as usize;
         let rows = theirs.count as usize;
@@ -254,7 +238,7 @@ fn put_codes(out: &mut [u8], at: usize, table: &[u8], start: usize, n: usize) ->
     let mut left = n;
     while 0 < left {
         let q = put_byte(out, p, b' ');
-        p = put_hex(out, q, 4, word(table, place) as u32);
+        p = put_hex(out, q, 4, u16_number(table, place) as u32);
         place += CODE_SIZE;
         left -= 1;
     }
@@ -265,9 +249,9 @@ fn put_head(out: &mut [u8], at: usize, table: &[u8]) -> usize
     ensures { λ r. ⌜ Wrote (now (out .entry)) at (w.headLine (now (table .entry))) (now (out .exit)) r ⌝ }
 {
     let p = put_text(out, at, b"layout ");
-    let p = put_hex(out, p, 2, byte(table, 0) as u32);
+    let p = put_hex(out, p, 2, byte_number(table, 0) as u32);
     let p = put_text(out, p, b" header");
-    let p = put_codes(out, p, table, HEADER_AT, byte(table, HEADER_COUNT_AT));
+    let p = put_codes(out, p, table, HEADER_AT, byte_number(table, HEADER_COUNT_AT));
     put_byte(out, p, b'\n')
 }
 

@@ -1,6 +1,6 @@
 // Finds where the scan's six bytes stand in a stream of the later layout.
-use leaf::u16_at;
-use leaf::u32_at;
+use numbers::u16_at;
+use numbers::u32_at;
 ghost use mathlib.Core.Path.{_≡_};
 ghost use Prim.Native.Nat.{_+_, _≤_};
 ghost use lib.ListN.{length};

@@ -1,12 +1,15 @@
 // Writes an entry of an Access 2000 stream without its list: its control row, and its property rows.
+use codehints::HINTS;
 use codehints::find_scope;
+use coderows::SCOPE_LIST_WORDS;
 use codetable::is_header;
-use leaf::byte_at;
-use leaf::u16_at;
+use numbers::byte_at;
+use numbers::u16_at;
 use rows::Next;
 use rows::control_row;
 use rows::is_section;
 use rows::put_control;
+use rules::SCOPE_ENTRY;
 use run2000::bit_or;
 use run2000::properties;
 ghost use mathlib.Core.Path.{_≡_};
@@ -14,9 +17,6 @@ ghost use mathlib.Core.Bool.{cond};
 ghost use Rattle.rules.specs.CodeTable.{header};
 ghost use Rattle.rules.specs.Read2000.{isReport, typeCode, nameId};
 ghost use Rattle.node2000.specs.Nodes as nodes;
-
-// The kind of an entry's scope.
-const SCOPE_ENTRY: u8 = 2;
 
 // The id under which the name of a section stands, and of any other control.
 const SECTION_NAME_ID: u8 = 0xDF;
@@ -67,8 +67,8 @@ fn type_code(table: &[u8], report: bool, entry_type: u16) -> u32
 // Writes the entry at a cursor without its list: its property rows, and its control row.
 pub fn put_node(
     table: &[u8],
-    hints: &mut [u8; 4352],
-    scopes: &[u32; 192],
+    hints: &mut [u8; HINTS],
+    scopes: &[u32; SCOPE_LIST_WORDS],
     s: &[u8],
     controls: &mut [u32],
     rows: &mut [u32],

@@ -252,7 +252,7 @@ pub extern "C" fn oskuramos_label_text(n: u32, out: &mut [u8]) -> Answer
 pub extern "C" fn oskuramos_is_utf16(bytes: &[u8]) -> bool
     ensures { λ r. ⌜ r ≡ isUtf16 (now (bytes .entry)) ⌝ }
 {
-    leaf::is_utf16(bytes)
+    utf16::is_utf16(bytes)
 }
 
 // ---- names by id

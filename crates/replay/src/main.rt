@@ -40,10 +40,10 @@ fn read_head() -> Next {
         return Next::End;
     }
     Next::Frame(Head {
-        kind: leaf::u32_at(&head, 0),
-        first: leaf::u32_at(&head, 4),
-        second: leaf::u32_at(&head, 8),
-        size: leaf::u32_at(&head, 12),
+        kind: numbers::u32_at(&head, 0),
+        first: numbers::u32_at(&head, 4),
+        second: numbers::u32_at(&head, 8),
+        size: numbers::u32_at(&head, 12),
     })
 }
 
@@ -72,7 +72,7 @@ fn read_by(
     match kind {
         9 => blob::read_2000(codes, bytes, controls, properties),
         10 => blob::read_later(
-            leaf::u32_at(bytes, 0),
+            numbers::u32_at(bytes, 0),
             behind(bytes, 4),
             controls,
             properties,
@@ -122,8 +122,8 @@ fn replay_label(n: u32, lent: u32, out: &mut [u8]) {
 
 // The bytes are the start and the length of the part, the label and the stream.
 fn replay_name_part(bytes: &[u8], mark: u32, size: u32, out: &mut [u8]) {
-    let start = leaf::u32_at(bytes, 0);
-    let length = leaf::u32_at(bytes, 4);
+    let start = numbers::u32_at(bytes, 0);
+    let length = numbers::u32_at(bytes, 4);
     let rest = behind(bytes, 8);
     let label = front(rest, size as usize);
     let stream = behind(rest, size as usize);

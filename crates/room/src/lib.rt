@@ -5,7 +5,7 @@ ghost use Prim.Native.Nat.{_-_};
 ghost use Rattle.rules.specs.Room.{readable, room2000, roomLater, roomFor, typeInfoRoom};
 
 // The longest stream that is read, in bytes.
-const LONGEST: u32 = 16777216;
+const LONGEST: u32 = rules::LONGEST as u32;
 
 // The bytes of an Access 2000 stream that hold no row, and the fewest of an entry.
 const HEAD_2000: u32 = 11;

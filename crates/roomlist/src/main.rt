@@ -94,7 +94,7 @@ fn print(length: u32, lines: &[u8])
 fn main() {
     let mut input = [0; LENGTH_SIZE];
     io::read_full(STDIN_FILENO, &mut input);
-    let length = leaf::u32_at(&input, 0);
+    let length = numbers::u32_at(&input, 0);
     let mut out = [0; LINES_ROOM];
     let end = put_rooms(&mut out, length);
     print(length, &out[..end]);

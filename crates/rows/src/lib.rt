@@ -1,6 +1,9 @@
 // What a reading is lent and answers, whatever the layout: rows with their widths and words by name, the cursor of whoever writes them,
 // what was counted of a stream, and the answer for these counts in the room that there is.
 use rules::Answer;
+use rules::NAME_LOOSE;
+use rules::NAME_NUMBERED;
+use rules::NAME_TEXT;
 use rules::Name;
 use rules::Property;
 use rules::Value;
@@ -25,13 +28,6 @@ pub const PROPERTY_WIDTH: usize = 6;
 
 // The same of a TypeInfo row.
 pub const INFO_WIDTH: usize = 4;
-
-// The marks of a name: UTF-16 in the stream, none that could be read, UTF-16 that is read loosely.
-const NAME_TEXT: u32 = 0;
-
-const NAME_NUMBERED: u32 = 1;
-
-const NAME_LOOSE: u32 = 2;
 
 // The types of sections.
 const FIRST_SECTION: usize = 0x98;

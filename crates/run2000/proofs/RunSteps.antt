@@ -23,7 +23,7 @@ use Rattle.rows.specs.Acts.{Held}
 use Rattle.rows.proofs.PutLaws.{put-length}
 use Rattle.rows.proofs.WritingLaws.{properties-none, properties-more}
 use Rattle.walk2000.specs.Told as told
-use Rattle.walk2000.specs.declared.Spot.{Spot}
+use Rattle.walk2000.specs.declared.Extent.{Extent}
 use Rattle.coderows.specs.Look.{bodyRows}
 use Rattle.coderows.specs.declared.Body.{Body}
 use Rattle.run2000.specs.declared.Naming.{Naming}
@@ -36,17 +36,17 @@ property-id s p =
     every-when (λ q. q .id ≡ byte s p) (extentAt s (byte s p) (p + 1)) _ λ x _.
     every-if (λ q. q .id ≡ byte s p) (leb (x .0 + x .1) (length s)) _ _ (λ _. refl) λ _. tt
 
-pub property-is : (s : List ℕ) (p : ℕ) (r : Spot) (st sz : ℕ) → r ≡ told.spot (propertyAt s p) → r ≡ Spot.At st sz → propertyAt s p ≡ some (prop (byte s p) st sz)
+pub property-is : (s : List ℕ) (p : ℕ) (r : Extent) (st sz : ℕ) → r ≡ told.value (propertyAt s p) → r ≡ Extent.At st sz → propertyAt s p ≡ some (prop (byte s p) st sz)
 property-is s p r st sz e k = go (propertyAt s p) (property-id s p) (sym e ∙ k)
   where
-    go : (o : Option Prop) → Every (λ q. q .id ≡ byte s p) o → told.spot o ≡ Spot.At st sz → o ≡ some (prop (byte s p) st sz)
+    go : (o : Option Prop) → Every (λ q. q .id ≡ byte s p) o → told.value o ≡ Extent.At st sz → o ≡ some (prop (byte s p) st sz)
     go none h e = cc
     go (some q) h e =
         let e₀ : q .start ≡ st = cc in
         let e₁ : q .size ≡ sz = cc in
         λ i. some (prop (h i) (e₀ i) (e₁ i))
 
-property-bad : (o : Option Prop) (r : Spot) → r ≡ told.spot o → r ≡ Spot.Bad → o ≡ none
+property-bad : (o : Option Prop) (r : Extent) → r ≡ told.value o → r ≡ Extent.Bad → o ≡ none
 property-bad none r e k = refl
 property-bad (some q) r e k = cc
 
@@ -57,14 +57,14 @@ Rest = Option (List Prop × ℕ)
 abbrev pub with-first : Prop → Rest → Rest
 with-first q o = o >>= λ x. some (q ∷ x .0, x .1)
 
-pub run-more : (s : List ℕ) (p : ℕ) (r : Spot) (st sz : ℕ) → goesOn s p ≡ true → r ≡ told.spot (propertyAt s p) → r ≡ Spot.At st sz
+pub run-more : (s : List ℕ) (p : ℕ) (r : Extent) (st sz : ℕ) → goesOn s p ≡ true → r ≡ told.value (propertyAt s p) → r ≡ Extent.At st sz
     → runAt s p ≡ with-first (prop (byte s p) st sz) (runAt s (st + sz))
 run-more s p r st sz t e k = (rw t at (run-step s p)) ∙ ap (λ o. o >>= after (runAt s)) (property-is s p r st sz e k)
 
 pub run-stop : (s : List ℕ) (p : ℕ) → goesOn s p ≡ false → runAt s p ≡ some ([], p)
 run-stop s p t = rw t at (run-step s p)
 
-pub run-bad : (s : List ℕ) (p : ℕ) (r : Spot) → goesOn s p ≡ true → r ≡ told.spot (propertyAt s p) → r ≡ Spot.Bad → runAt s p ≡ none
+pub run-bad : (s : List ℕ) (p : ℕ) (r : Extent) → goesOn s p ≡ true → r ≡ told.value (propertyAt s p) → r ≡ Extent.Bad → runAt s p ≡ none
 run-bad s p r t e k = (rw t at (run-step s p)) ∙ ap (λ o. o >>= after (runAt s)) (property-bad (propertyAt s p) r e k)
 
 -- ---- rows: what is left to write from here is what there was to write
@@ -99,11 +99,11 @@ module _ {f : Prop → Property} {s : List ℕ} {at : ℕ} {old : List ℕ} {fir
       let e : some (ran new n p) ≡ runAct f (some ([], p)) new n = λ i. some (ran (sym a i) (b i) p) in
       e ∙ ap (λ o. runAct f o new n) (sym (run-stop s p t)) ∙ known .is
 
-  module _ {r : Spot} (goes : goesOn s p ≡ true) (re : r ≡ told.spot (propertyAt s p)) where
-    pub left-bad : r ≡ Spot.Bad → ⊥
+  module _ {r : Extent} (goes : goesOn s p ≡ true) (re : r ≡ told.value (propertyAt s p)) where
+    pub left-bad : r ≡ Extent.Bad → ⊥
     left-bad k = rw (run-bad s p r goes re k) at (known .fits)
 
-    module _ {st sz : ℕ} (k : r ≡ Spot.At st sz) where
+    module _ {st sz : ℕ} (k : r ≡ Extent.At st sz) where
       pub left-room : n * propertyWidth + propertyWidth ≤ length new
       left-room = one-room (prop (byte s p) st sz) new n (runAt s (st + sz)) (rw (run-more s p r st sz goes re k) at (known .fits))
 
@@ -145,8 +145,8 @@ module _ (s : List ℕ) (w at p : ℕ) (known : Unnamed s w at p) where
   unfolding find
   unnamed-stop t = ap (nameIn s w) (sym (run-stop s p t)) ∙ known .is
 
-  module _ (r : Spot) (goes : goesOn s p ≡ true) (re : r ≡ told.spot (propertyAt s p)) where
-    module _ (st sz : ℕ) (k : r ≡ Spot.At st sz) where
+  module _ (r : Extent) (goes : goesOn s p ≡ true) (re : r ≡ told.value (propertyAt s p)) where
+    module _ (st sz : ℕ) (k : r ≡ Extent.At st sz) where
       unnamed-found : (x : Name) → byte s p ≡ w → x ≡ nameAt s st sz → x ≡ nameIn s w (runAt s at)
       unnamed-found x e xe =
           let m = run-more s p r st sz goes re k in
@@ -188,7 +188,7 @@ named-stop {s = s} {w = w} {at = at} {x = x} {p = p} h t = go (h .known)
     go (inl u) = u .numbered ∙ unnamed-stop s w at p (u .unnamed) t
     go (inr e) = e .name-is
 
-module _ {s : List ℕ} {w at p : ℕ} {x : Naming} (h : Named s w at x p) {r : Spot} (goes : goesOn s p ≡ true) (re : r ≡ told.spot (propertyAt s p)) {st sz : ℕ} (k : r ≡ Spot.At st sz) where
+module _ {s : List ℕ} {w at p : ℕ} {x : Naming} (h : Named s w at x p) {r : Extent} (goes : goesOn s p ≡ true) (re : r ≡ told.value (propertyAt s p)) {st sz : ℕ} (k : r ≡ Extent.At st sz) where
   same-named : (byte s p ≡ x .wanted → ⊥) → Named s w at x (st + sz)
   same-named n = record { known = go (h .known) }
     where

@@ -1,17 +1,23 @@
 // A run of an Access 2000 stream: its properties written as rows, and the name that it holds.
+use codehints::HINTS;
 use codehints::find_row;
 use coderows::Body;
 use coderows::Row;
-use leaf::is_plain;
-use leaf::is_utf16;
+use propvalue::sized_stored_value;
 use propvalue::stored_value;
-use propvalue::told_value;
 use propvalue::value_as;
 use rows::put_property;
+use rules::KIND_TEXT;
+use rules::LAST_ID;
+use rules::LAST_SIZED_ID;
+use rules::MARK_TEXT;
 use rules::Name;
 use rules::Property;
+use rules::UNMAPPED;
 use rules::Value;
-use walk2000::Spot;
+use utf16::is_plain;
+use utf16::is_utf16;
+use walk2000::Extent;
 use walk2000::value;
 ghost use mathlib.Core.Path.{_≡_};
 ghost use Prim.Native.Nat.{_+_, _≤_};
@@ -21,21 +27,6 @@ ghost use Rattle.coderows.specs.Look.{bodyRows};
 ghost use Rattle.rules.specs.Bytes.{part};
 ghost use Rattle.rules.specs.Value.{valueAs};
 ghost use Rattle.run2000.specs.Runs as runs;
-
-// The mark of a value that is text.
-const MARK_TEXT: u32 = 6;
-
-// The kind of a row that ties an id to text.
-const KIND_TEXT: u8 = 1;
-
-// Joined by OR to an id that the table doesn't tie.
-const UNMAPPED: u32 = 0x8000;
-
-// The last id that tells its value's size.
-const LAST_SIZED_ID: u8 = 0xBC;
-
-// The last id: what is above ends a run.
-const LAST_ID: u8 = 0xFC;
 
 // No property has this id.
 pub const NO_ID: u8 = 0xFF;
@@ -74,7 +65,7 @@ fn value_by_kind(s: &[u8], kind: u8, id: u8, start: usize, size: usize) -> Value
     ensures { λ r. ⌜ r ≡ valueAs kind id (part (now (s .entry)) start size) ⌝ }
 {
     if id <= LAST_SIZED_ID {
-        return told_value(id, part(s, start, size));
+        return sized_stored_value(id, part(s, start, size));
     }
     if kind == KIND_TEXT {
         if is_plain(part(s, start, size)) {
@@ -91,7 +82,7 @@ fn value_by_kind(s: &[u8], kind: u8, id: u8, start: usize, size: usize) -> Value
 // A property with this id and value, by the rows of its scope.
 fn property(
     table: &[u8],
-    hints: &mut [u8; 4352],
+    hints: &mut [u8; HINTS],
     body: Body,
     s: &[u8],
     id: u8,
@@ -162,7 +153,7 @@ fn run_rows(at: usize, row: usize, naming: Naming) -> RunRows
 // Writes a row for each property of the run at `at`, from row `first` on; the name is that of the first property with the id `wanted`, whose value has a length.
 pub fn properties(
     table: &[u8],
-    hints: &mut [u8; 4352],
+    hints: &mut [u8; HINTS],
     body: Body,
     s: &[u8],
     at: usize,
@@ -184,7 +175,7 @@ pub fn properties(
         if LAST_ID < id {
             return run_rows(p, n, naming);
         }
-        let Spot::At { start, size } = value(s, p) else {
+        let Extent::At { start, size } = value(s, p) else {
             return run_rows(p, n, naming);
         };
         let shown = property(table, hints, body, s, id, start, size);

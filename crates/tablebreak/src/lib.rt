@@ -1,7 +1,14 @@
 // Where a code table first breaks one of document 01's rules, and which: specs/Rules.antt has them by number.
-use codetable::byte;
+use codetable::CODES;
+use codetable::CODE_SIZE;
+use codetable::HEADER_AT;
+use codetable::MOST_HEADERS;
+use codetable::MOST_SCOPES;
+use codetable::ROW_SIZE;
+use codetable::SCOPE_SIZE;
 use codetable::read_row;
-use codetable::word;
+use numbers::byte_number;
+use numbers::u16_number;
 ghost use mathlib.Core.Path.{_≡_};
 ghost use Prim.Native.Nat.{_+_, _*_, _≤_, _<_, _^_};
 ghost use lib.ListN.{length};
@@ -35,31 +42,15 @@ const OVER_LONGEST: u32 = 13;
 
 const LONGEST: usize = 65100;
 
-// Where the header codes stand; how many bytes one has, a scope of the contents, a row.
-const HEADER_AT: usize = 4;
-
-const CODE_SIZE: usize = 2;
-
-const SCOPE_SIZE: usize = 5;
-
-const ROW_SIZE: usize = 4;
-
 // The limits of document 01.
-const MOST_HEADERS: usize = 4;
+const LAST_ID: usize = rules::LAST_ID as usize;
 
-const MOST_SCOPES: usize = 64;
-
-const LAST_ID: usize = 0xFC;
-
-const LAST_TARGET: usize = 0x7FFF;
+const LAST_TARGET: usize = codetable::LAST_TARGET as usize;
 
 // The last kind of a scope, which alone has codes, and the last kind of a row.
-const SCOPE_ENTRY: usize = 2;
+const SCOPE_ENTRY: usize = rules::SCOPE_ENTRY as usize;
 
-const KIND_BYTES: usize = 4;
-
-// A scope's kind and code are one number, kind * CODES + code: they ascend as it does.
-const CODES: usize = 65536;
+const KIND_BYTES: usize = rules::KIND_BYTES as usize;
 
 // A rule broken at a byte, 0 for none. Scopes and rows are counted from 1, and 0 where the rule is of none; kind and code are the scope's.
 // `found` is what stands there, `before` what stands before it.
@@ -134,7 +125,7 @@ fn header_break(table: &[u8], n: usize) -> Break
     let mut left = n;
     let mut least = 0;
     while 0 < left {
-        let code = word(table, at);
+        let code = u16_number(table, at);
         if code < least {
             return broken(HEADER_ORDER, at, code, least - 1);
         }
@@ -184,8 +175,8 @@ fn scope_break(table: &[u8], start: usize, n: usize) -> Break
     let mut number = 1;
     let mut least = 0;
     while 0 < left {
-        let kind = byte(table, at);
-        let code = word(table, at + 1);
+        let kind = byte_number(table, at);
+        let code = u16_number(table, at + 1);
         let found = scope_rule(at, kind, code, least);
         if found.rule != 0 {
             return placed(found, number, kind, code, 0);
@@ -207,7 +198,7 @@ fn bodies_end(table: &[u8], start: usize, bodies: usize, n: usize) -> usize
     let mut end = bodies;
     let mut left = n;
     while 0 < left {
-        end += ROW_SIZE * word(table, at + 3);
+        end += ROW_SIZE * u16_number(table, at + 3);
         at += SCOPE_SIZE;
         left -= 1;
     }
@@ -267,9 +258,9 @@ fn rows_break(table: &[u8], start: usize, bodies: usize, n: usize) -> Break
     let mut left = n;
     let mut number = 1;
     while 0 < left {
-        let kind = byte(table, at);
-        let code = word(table, at + 1);
-        let count = word(table, at + 3);
+        let kind = byte_number(table, at);
+        let code = u16_number(table, at + 1);
+        let count = u16_number(table, at + 3);
         let found = row_break(table, body, count, number, kind, code);
         if found.rule != 0 {
             return found;
@@ -307,11 +298,11 @@ fn search(table: &[u8]) -> Break
     if size < HEADER_AT {
         return broken(TOO_SHORT, size, HEADER_AT - size, 0);
     }
-    let headers = byte(table, 1);
+    let headers = byte_number(table, 1);
     if MOST_HEADERS < headers {
         return broken(MANY_HEADERS, 1, headers, 0);
     }
-    let scopes = word(table, 2);
+    let scopes = u16_number(table, 2);
     if MOST_SCOPES < scopes {
         return broken(MANY_SCOPES, 2, scopes, 0);
     }

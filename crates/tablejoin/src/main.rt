@@ -1,7 +1,9 @@
 // Joins the two code tables that standard input holds after the length of the first; specs/Said.antt says what is printed.
+use codetable::LONGEST_TABLE;
 use libc::STDIN_FILENO;
 use libc::STDOUT_FILENO;
 use listing::answer_line;
+use rules::BAD_TABLE;
 use text::put_text;
 use text::refused;
 ghost use mathlib.Core.Path.{_≡_};
@@ -12,12 +14,6 @@ ghost use Rattle.rules.specs.Listing.{answerLine};
 ghost use Rattle.text.specs.Writer.{Wrote};
 ghost use Rattle.tabletext.specs.Input.{Began};
 ghost use Rattle.tablejoin.specs.Said.{said, joinSaid, Lent};
-
-// The refusal of a table that isn't well formed.
-const BAD_TABLE: u32 = 8;
-
-// A well-formed table has no more bytes.
-const LONGEST_TABLE: usize = 65100;
 
 // The longest line of an answer, and with the longest table after it.
 const LONGEST_LINE: usize = 51;
@@ -57,7 +53,7 @@ fn write_input(input: &[u8], out: &mut [u8]) -> usize
     if input.len() < LENGTH_SIZE {
         return write_refusal(out);
     }
-    let size = leaf::u32_at(input, 0) as usize;
+    let size = numbers::u32_at(input, 0) as usize;
     if input.len() - LENGTH_SIZE < size {
         return write_refusal(out);
     }

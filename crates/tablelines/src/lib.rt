@@ -6,6 +6,9 @@ use faults::MANY_WORDS;
 use faults::TWO_DIGITS;
 use faults::UNKNOWN_KIND;
 use faults::UNKNOWN_WORD;
+use rules::SCOPE_ENTRY;
+use rules::SCOPE_FORM;
+use rules::SCOPE_REPORT;
 ghost use mathlib.Core.Path.{_≡_};
 ghost use Prim.Native.Nat.{_≤_, _<_};
 ghost use lib.ListN.{length, getD, drop};
@@ -31,13 +34,6 @@ const NO_BYTE: u32 = 256;
 const NO_CODE: u32 = 65536;
 
 const NO_ROW_KIND: u32 = 5;
-
-// The kinds of a scope.
-const SCOPE_FORM: u8 = 0;
-
-const SCOPE_REPORT: u8 = 1;
-
-const SCOPE_ENTRY: u8 = 2;
 
 // What a line says.
 pub enum Item {

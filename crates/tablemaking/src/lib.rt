@@ -1,4 +1,7 @@
 // The code table that a text says, or the first line that breaks a rule: lines are judged first (specs/Judged.antt), then written (specs/Made.antt).
+use codetable::CODE_SIZE;
+use codetable::ROW_SIZE;
+use codetable::SCOPE_SIZE;
 use tablelines::Item;
 use tablelines::faults::HEADER_LATE;
 use tablelines::faults::HEADER_ORDER;
@@ -33,22 +36,16 @@ const UNNAMED: u32 = 256;
 const LONGEST_TEXT: usize = 2097152;
 
 // The limits of document 01.
-const MOST_HEADERS: u32 = 4;
+const MOST_HEADERS: u32 = codetable::MOST_HEADERS as u32;
 
-const MOST_SCOPES: u32 = 64;
+const MOST_SCOPES: u32 = codetable::MOST_SCOPES as u32;
 
-const LAST_ID: u32 = 0xFC;
+const LAST_ID: u32 = rules::LAST_ID as u32;
 
-const LAST_TARGET: u32 = 0x7FFF;
+const LAST_TARGET: u32 = codetable::LAST_TARGET as u32;
 
 // How many bytes the counts have, a header code, a scope of the contents, a row.
 const HEAD_SIZE: usize = 4;
-
-const CODE_SIZE: usize = 2;
-
-const SCOPE_SIZE: usize = 5;
-
-const ROW_SIZE: usize = 4;
 
 // What the lines so far say: the layout byte, how many header codes, scopes and rows, and the least code, key and id that may follow.
 pub struct Seen {

@@ -1,7 +1,7 @@
 // A code table as text; specs/Text.antt says it line by line. Each part is written into a lent buffer; the place behind it is returned.
-use codetable::byte;
 use codetable::read_row;
-use codetable::word;
+use numbers::byte_number;
+use numbers::u16_number;
 use text::put_byte;
 use text::put_hex;
 use text::put_text;
@@ -154,9 +154,9 @@ fn put_scopes(
     let mut body = bodies;
     let mut left = n;
     while 0 < left {
-        let kind = byte(table, place);
-        let code = word(table, place + 1);
-        let count = word(table, place + 3);
+        let kind = byte_number(table, place);
+        let code = u16_number(table, place + 1);
+        let count = u16_number(table, place + 3);
         let q = put_scope(out, p, kind, code);
         p = put_rows(out, q, table, body, count);
         place += 5;
@@ -185,7 +185,7 @@ fn put_headers(out: &mut [u8], at: usize, table: &[u8], start: usize, n: usize) 
     let mut place = start;
     let mut left = n;
     while 0 < left {
-        p = put_header(out, p, word(table, place));
+        p = put_header(out, p, u16_number(table, place));
         place += 2;
         left -= 1;
     }
@@ -196,11 +196,11 @@ fn put_headers(out: &mut [u8], at: usize, table: &[u8], start: usize, n: usize) 
 pub fn table_text(table: &[u8], out: &mut [u8]) -> usize
     ensures { λ r. ⌜ Wrote (now (out .entry)) 0 (t.tableText (now (table .entry))) (now (out .exit)) r ⌝ }
 {
-    let headers = byte(table, 1);
-    let scopes = word(table, 2);
+    let headers = byte_number(table, 1);
+    let scopes = u16_number(table, 2);
     let contents = 4 + 2 * headers;
     let p = put_text(out, 0, b"layout ");
-    let p = put_hex(out, p, 2, byte(table, 0) as u32);
+    let p = put_hex(out, p, 2, byte_number(table, 0) as u32);
     let p = put_byte(out, p, b'\n');
     let p = put_headers(out, p, table, 4, headers);
     put_scopes(out, p, table, contents, contents + 5 * scopes, scopes)

@@ -1,5 +1,7 @@
 // Text in a lent buffer. A `put` function writes at a place and returns the place after it; what has no room is left out.
 use rules::Answer;
+use rules::NOT_A_GUID;
+use rules::NO_ROOM_FOR_TEXT;
 ghost use mathlib.Core.Path.{_≡_};
 ghost use mathlib.Core.List.{[], _∷_};
 ghost use Prim.Native.Nat.{_<_};
@@ -8,11 +10,6 @@ ghost use Rattle.rules.specs.Answer.{refusal, answer};
 ghost use Rattle.rules.specs.Digits.{digit, decimal, hex};
 ghost use Rattle.rules.specs.Texts.{hexes, guidText, label, guidExit, labelExit};
 ghost use Rattle.text.specs.Writer.{Wrote};
-
-// The refusals.
-const NO_ROOM_FOR_TEXT: u32 = 9;
-
-const NOT_A_GUID: u32 = 10;
 
 // How many bytes a GUID has, and its text; the latter also as an answer counts it.
 const GUID_SIZE: usize = 16;
@@ -96,8 +93,8 @@ pub fn put_hex(out: &mut [u8], at: usize, k: u32, n: u32) -> usize
 fn put_pair(out: &mut [u8], at: usize, g: &[u8], i: usize, j: usize) -> usize
     ensures { λ r. ⌜ Wrote (now (out .entry)) at (hexes (now (g .entry)) (i ∷ j ∷ [])) (now (out .exit)) r ⌝ }
 {
-    let o = put_hex(out, at, 2, leaf::byte_at(g, i) as u32);
-    put_hex(out, o, 2, leaf::byte_at(g, j) as u32)
+    let o = put_hex(out, at, 2, numbers::byte_at(g, i) as u32);
+    put_hex(out, o, 2, numbers::byte_at(g, j) as u32)
 }
 
 pub fn put_guid(out: &mut [u8], at: usize, g: &[u8]) -> usize

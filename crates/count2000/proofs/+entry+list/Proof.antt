@@ -6,8 +6,9 @@ use mathlib.Core.List.{List}
 use lib.ListN.{length}
 use denote.Ref.{now}
 use Rattle.rules.specs.Access2000.{entriesAt}
+use Rattle.numbers.proofs.Inside.{inside-room}
 use Rattle.rows.proofs.TakenLaws.{counting-start, counting-all, counting-deep, counting-bad, counting-more}
-use Rattle.walk2000.proofs.Room.{half-room, run-room, head-room}
+use Rattle.walk2000.proofs.Room.{run-room, head-room}
 use Rattle.count2000.proofs.Entries.{Listing, whole, whole-is, entry-room, list-room, entry-short, entry-run-bad, entry-head-bad, entry-plain, entry-list-bad, entry-parent}
 use borrow.Fn.Kinds.{In}
 use borrow.Fn.PlainCycle.{Measures, is, falls, and}
@@ -17,10 +18,10 @@ use Rattle.count2000.proofs.+entry+list.Lts-list as list-lts
 use Rattle.count2000.proofs.entry.Reads as entry
 use Rattle.count2000.proofs.entry.Kinds as entry-kinds
 use Rattle.count2000.proofs.+entry+list.Lts-entry as entry-lts
-use Rattle.walk2000.proofs.half.Reads as half-reads
+use Rattle.numbers.proofs.u16_if_inside.Reads as u16-if-inside-reads
 use Rattle.walk2000.proofs.head.Reads as head-reads
 use Rattle.rows.proofs.is_section.Reads as is-section-reads
-use Rattle.walk2000.proofs.props.Reads as props-reads
+use Rattle.walk2000.proofs.run_at.Reads as run-at-reads
 use Rattle.count2000.proofs.+entry+list.{statement}
 use Rattle.count2000.proofs.+entry+list.Tie.{close}
 
@@ -51,7 +52,7 @@ abbrev list-calls : ℕ → list-lts.Claims
 list-calls t = (entry-below t, entry.Post)
 
 abbrev entry-calls : ℕ → entry-lts.Claims
-entry-calls t = (half-reads.Asked, half-reads.Learnt, props-reads.Asked, props-reads.Learnt, head-reads.Asked, head-reads.Learnt, is-section-reads.Asked, is-section-reads.Learnt, list-below t, list.Post)
+entry-calls t = (u16-if-inside-reads.Asked, u16-if-inside-reads.Learnt, run-at-reads.Asked, run-at-reads.Learnt, head-reads.Asked, head-reads.Learnt, is-section-reads.Asked, is-section-reads.Learnt, list-below t, list.Post)
 
 abbrev list-Inv-loop : list-lts.InvT-loop
 list-Inv-loop s at n left p₀ k₀ all₀ theirs₀ p k all theirs = Listing s left n at all theirs k p
@@ -97,24 +98,24 @@ unfolding entriesAt
 list-returns-3 t c = record { is = counting-all (c .before .loop .inv .counts) (c .loop-test .left) }
 
 entry-returns : (t : ℕ) → entry-lts.Need-returns (entry-calls t) (entry-at t) entry.Post
-entry-returns t c = record { is = entry-short _ _ _ (c .before .before .half .ensures) (c .enum-told .given .1) }
+entry-returns t c = record { is = entry-short _ _ _ (c .before .before .u16-if-inside .ensures) (c .enum-told .given .1) }
 
-entry-add-props : (t : ℕ) → entry-lts.Need-add-props (entry-calls t) (entry-at t) entry.Post
-entry-add-props t c = omega (arith, half-room _ _ _ _ (c .before .before .before .half .ensures) (c .before .entry-type .given .1))
+entry-add-run-at : (t : ℕ) → entry-lts.Need-add-run-at (entry-calls t) (entry-at t) entry.Post
+entry-add-run-at t c = omega (arith, inside-room _ _ _ _ (c .before .before .before .u16-if-inside .ensures) (c .before .entry-type .given .1))
 
 entry-returns-2 : (t : ℕ) → entry-lts.Need-returns-2 (entry-calls t) (entry-at t) entry.Post
 entry-returns-2 t c =
     let after-entry-type : entry-lts.After-entry-type (entry-calls t) (entry-at t) entry.Post = search in
-    let after-half : entry-lts.After-half (entry-calls t) (entry-at t) entry.Post = search in
-    record { is = entry-run-bad _ _ _ (after-half .half .ensures) (after-entry-type .entry-type .given .1) (c .before .before .props .ensures) (c .enum-told2 .given .1) }
+    let after-u16-if-inside : entry-lts.After-u16-if-inside (entry-calls t) (entry-at t) entry.Post = search in
+    record { is = entry-run-bad _ _ _ (after-u16-if-inside .u16-if-inside .ensures) (after-entry-type .entry-type .given .1) (c .before .before .run-at .ensures) (c .enum-told2 .given .1) }
 
 entry-list-requires : (t : ℕ) → entry-lts.Need-list-requires (entry-calls t) (entry-at t) entry.Post
 entry-list-requires t c κs =
     let after-count : entry-lts.After-count (entry-calls t) (entry-at t) entry.Post = search in
-    let after-props : entry-lts.After-props (entry-calls t) (entry-at t) entry.Post = search in
+    let after-run-at : entry-lts.After-run-at (entry-calls t) (entry-at t) entry.Post = search in
     let after-entry-type : entry-lts.After-entry-type (entry-calls t) (entry-at t) entry.Post = search in
-    let after-half : entry-lts.After-half (entry-calls t) (entry-at t) entry.Post = search in
-    omega (arith, half-room _ _ _ _ (after-half .half .ensures) (after-entry-type .entry-type .given .1), run-room _ _ _ _ _ (after-props .props .ensures) (after-count .count .given .1), head-room _ _ _ _ _ (c .before .before .before .head .ensures) (c .before .n .given .1))
+    let after-u16-if-inside : entry-lts.After-u16-if-inside (entry-calls t) (entry-at t) entry.Post = search in
+    omega (arith, inside-room _ _ _ _ (after-u16-if-inside .u16-if-inside .ensures) (after-entry-type .entry-type .given .1), run-room _ _ _ _ _ (after-run-at .run-at .ensures) (after-count .count .given .1), head-room _ _ _ _ _ (c .before .before .before .head .ensures) (c .before .n .given .1))
 
 entry-add-t21 : (t : ℕ) → entry-lts.Need-add-t21 (entry-calls t) (entry-at t) entry.Post
 entry-add-t21 t c =
@@ -127,45 +128,45 @@ entry-add-t22 t c =
     let after-n : entry-lts.After-n (entry-calls t) (entry-at t) entry.Post = search in
     let after-head : entry-lts.After-head (entry-calls t) (entry-at t) entry.Post = search in
     let after-count : entry-lts.After-count (entry-calls t) (entry-at t) entry.Post = search in
-    let after-props : entry-lts.After-props (entry-calls t) (entry-at t) entry.Post = search in
-    omega (arith, list-room (c .before .before .before .list .ensures) (c .before .controls .given .1), head-room _ _ _ _ _ (after-head .head .ensures) (after-n .n .given .1), run-room _ _ _ _ _ (after-props .props .ensures) (after-count .count .given .1))
+    let after-run-at : entry-lts.After-run-at (entry-calls t) (entry-at t) entry.Post = search in
+    omega (arith, list-room (c .before .before .before .list .ensures) (c .before .controls .given .1), head-room _ _ _ _ _ (after-head .head .ensures) (after-n .n .given .1), run-room _ _ _ _ _ (after-run-at .run-at .ensures) (after-count .count .given .1))
 
 entry-returns-3 : (t : ℕ) → entry-lts.Need-returns-3 (entry-calls t) (entry-at t) entry.Post
 entry-returns-3 t c =
     let after-count : entry-lts.After-count (entry-calls t) (entry-at t) entry.Post = search in
-    let after-props : entry-lts.After-props (entry-calls t) (entry-at t) entry.Post = search in
+    let after-run-at : entry-lts.After-run-at (entry-calls t) (entry-at t) entry.Post = search in
     let after-entry-type : entry-lts.After-entry-type (entry-calls t) (entry-at t) entry.Post = search in
-    let after-half : entry-lts.After-half (entry-calls t) (entry-at t) entry.Post = search in
-    record { is = entry-head-bad _ _ _ (after-half .half .ensures) (after-entry-type .entry-type .given .1) (after-props .props .ensures) (after-count .count .given .1) (c .before .before .head .ensures) (c .enum-told3 .given .1) }
+    let after-u16-if-inside : entry-lts.After-u16-if-inside (entry-calls t) (entry-at t) entry.Post = search in
+    record { is = entry-head-bad _ _ _ (after-u16-if-inside .u16-if-inside .ensures) (after-entry-type .entry-type .given .1) (after-run-at .run-at .ensures) (after-count .count .given .1) (c .before .before .head .ensures) (c .enum-told3 .given .1) }
 
 entry-returns-4 : (t : ℕ) → entry-lts.Need-returns-4 (entry-calls t) (entry-at t) entry.Post
 entry-returns-4 t c =
     let after-head : entry-lts.After-head (entry-calls t) (entry-at t) entry.Post = search in
     let after-count : entry-lts.After-count (entry-calls t) (entry-at t) entry.Post = search in
-    let after-props : entry-lts.After-props (entry-calls t) (entry-at t) entry.Post = search in
+    let after-run-at : entry-lts.After-run-at (entry-calls t) (entry-at t) entry.Post = search in
     let after-entry-type : entry-lts.After-entry-type (entry-calls t) (entry-at t) entry.Post = search in
-    let after-half : entry-lts.After-half (entry-calls t) (entry-at t) entry.Post = search in
-    record { is = entry-plain _ _ _ (after-half .half .ensures) (after-entry-type .entry-type .given .1) (after-props .props .ensures) (after-count .count .given .1) (after-head .head .ensures) (c .is-section .ensures) (c .before .before .e .given .1) }
+    let after-u16-if-inside : entry-lts.After-u16-if-inside (entry-calls t) (entry-at t) entry.Post = search in
+    record { is = entry-plain _ _ _ (after-u16-if-inside .u16-if-inside .ensures) (after-entry-type .entry-type .given .1) (after-run-at .run-at .ensures) (after-count .count .given .1) (after-head .head .ensures) (c .is-section .ensures) (c .before .before .e .given .1) }
 
 entry-returns-5 : (t : ℕ) → entry-lts.Need-returns-5 (entry-calls t) (entry-at t) entry.Post
 entry-returns-5 t c =
     let after-n : entry-lts.After-n (entry-calls t) (entry-at t) entry.Post = search in
     let after-head : entry-lts.After-head (entry-calls t) (entry-at t) entry.Post = search in
     let after-count : entry-lts.After-count (entry-calls t) (entry-at t) entry.Post = search in
-    let after-props : entry-lts.After-props (entry-calls t) (entry-at t) entry.Post = search in
+    let after-run-at : entry-lts.After-run-at (entry-calls t) (entry-at t) entry.Post = search in
     let after-entry-type : entry-lts.After-entry-type (entry-calls t) (entry-at t) entry.Post = search in
-    let after-half : entry-lts.After-half (entry-calls t) (entry-at t) entry.Post = search in
-    record { is = entry-list-bad _ _ _ (after-half .half .ensures) (after-entry-type .entry-type .given .1) (after-props .props .ensures) (after-count .count .given .1) (after-head .head .ensures) (after-n .n .given .1) (c .before .before .list .ensures .is) (c .enum-told4 .given .1) }
+    let after-u16-if-inside : entry-lts.After-u16-if-inside (entry-calls t) (entry-at t) entry.Post = search in
+    record { is = entry-list-bad _ _ _ (after-u16-if-inside .u16-if-inside .ensures) (after-entry-type .entry-type .given .1) (after-run-at .run-at .ensures) (after-count .count .given .1) (after-head .head .ensures) (after-n .n .given .1) (c .before .before .list .ensures .is) (c .enum-told4 .given .1) }
 
 entry-returns-6 : (t : ℕ) → entry-lts.Need-returns-6 (entry-calls t) (entry-at t) entry.Post
 entry-returns-6 t c =
     let after-n : entry-lts.After-n (entry-calls t) (entry-at t) entry.Post = search in
     let after-head : entry-lts.After-head (entry-calls t) (entry-at t) entry.Post = search in
     let after-count : entry-lts.After-count (entry-calls t) (entry-at t) entry.Post = search in
-    let after-props : entry-lts.After-props (entry-calls t) (entry-at t) entry.Post = search in
+    let after-run-at : entry-lts.After-run-at (entry-calls t) (entry-at t) entry.Post = search in
     let after-entry-type : entry-lts.After-entry-type (entry-calls t) (entry-at t) entry.Post = search in
-    let after-half : entry-lts.After-half (entry-calls t) (entry-at t) entry.Post = search in
-    record { is = entry-parent _ _ _ (after-half .half .ensures) (after-entry-type .entry-type .given .1) (after-props .props .ensures) (after-count .count .given .1) (after-head .head .ensures) (after-n .n .given .1) (c .before .before .before .list .ensures .is) (c .before .controls .given .1) }
+    let after-u16-if-inside : entry-lts.After-u16-if-inside (entry-calls t) (entry-at t) entry.Post = search in
+    record { is = entry-parent _ _ _ (after-u16-if-inside .u16-if-inside .ensures) (after-entry-type .entry-type .given .1) (after-run-at .run-at .ensures) (after-count .count .given .1) (after-head .head .ensures) (after-n .n .given .1) (c .before .before .before .list .ensures .is) (c .before .controls .given .1) }
 
 pub +entry+list-spec : {M : Type 1} → statement M
 +entry+list-spec =
@@ -173,7 +174,7 @@ pub +entry+list-spec : {M : Type 1} → statement M
     (λ t. entry-lts.spec (entry-calls t) (entry-at t) entry.Post
     (λ c κs. search needs) (λ c. search needs) (λ c. search needs)
     (entry-returns t)
-    (entry-add-props t)
+    (entry-add-run-at t)
     (λ c κs. search needs) (λ c. search needs) (λ c. search needs)
     (entry-returns-2 t)
     (λ c κs. search needs) (λ c. search needs) (λ c. search needs) (λ c κs. search needs) (λ c. search needs)

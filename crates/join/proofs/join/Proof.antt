@@ -66,15 +66,15 @@ add-size-3 : tie.Need-add-size-3
 add-size-3 c =
     let else5 : tie.Else5 = search in
     let else4 : tie.Else4 = search in
-    omega (arith, rows-few (passed else4), c .before .before .byte .ensures .small, else5 .if5 .left)
+    omega (arith, rows-few (passed else4), c .before .before .byte-number .ensures .small, else5 .if5 .left)
 
 returns-6 : tie.Need-returns-6
 returns-6 c =
-    let after-byte : tie.After-byte = search in
+    let after-byte-number : tie.After-byte-number = search in
     let else5 : tie.Else5 = search in
     let else4 : tie.Else4 = search in
     let p = passed else4 in
-    let l = size-is p (after-byte .byte .ensures .is) in
+    let l = size-is p (after-byte-number .byte-number .ensures .is) in
     shown (exit-text p _ (omega (arith, else5 .if5 .left)) ∙ no-room-exit _ _ (omega (arith, l, c .before .if6 .taken))) (c .refused6 .ensures)
 
 put-contents-requires : tie.Need-put-contents-requires
@@ -89,10 +89,10 @@ put-bodies-requires c κs =
 
 cast-wrote : tie.Need-cast-wrote
 cast-wrote c =
-    let after-byte : tie.After-byte = search in
+    let after-byte-number : tie.After-byte-number = search in
     let else5 : tie.Else5 = search in
     let else4 : tie.Else4 = search in
-    omega (arith, rows-few (passed else4), after-byte .byte .ensures .small, else5 .if5 .left)
+    omega (arith, rows-few (passed else4), after-byte-number .byte-number .ensures .small, else5 .if5 .left)
 
 returns-7 : tie.Need-returns-7
 returns-7 c =
@@ -100,11 +100,11 @@ returns-7 c =
     let after-put-contents : tie.After-put-contents = search in
     let after-put-head : tie.After-put-head = search in
     let else6 : tie.Else6 = search in
-    let after-byte : tie.After-byte = search in
+    let after-byte-number : tie.After-byte-number = search in
     let else5 : tie.Else5 = search in
     let else4 : tie.Else4 = search in
     let p = passed else4 in
-    let l = size-is p (after-byte .byte .ensures .is) in
+    let l = size-is p (after-byte-number .byte-number .ensures .is) in
     let w = wrote-as (after-put-head .put-head .ensures ⨟ after-put-contents .put-contents .ensures ⨟ after-put-bodies .put-bodies .ensures) (parts-are p) in
     shown
     (exit-text p _ (omega (arith, else5 .if5 .left)) ∙ room-exit _ _ w (omega (arith, l, else6 .if6 .left)))

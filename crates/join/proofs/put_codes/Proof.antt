@@ -11,12 +11,12 @@ abbrev μ-loop : tie.MeasureT-loop
 μ-loop out₀ at table o₀ from₀ left₀ out o from left = left
 
 loop-holds : tie.Need-loop-holds Inv-loop μ-loop
-loop-holds c = no-code-written (c .byte .ensures .is) (c .byte .ensures .small)
+loop-holds c = no-code-written (c .byte-number .ensures .is) (c .byte-number .ensures .small)
 
 loop-again : tie.Need-loop-again Inv-loop μ-loop
 loop-again c =
     let at-loop : tie.At-loop Inv-loop μ-loop = search in
-    code-written (at-loop .loop .inv) (omega arith) (c .before .before .before .word .ensures .is) (c .before .before .put-two .ensures)
+    code-written (at-loop .loop .inv) (omega arith) (c .before .before .before .u16-number .ensures .is) (c .before .before .put-two .ensures)
 
 returns : tie.Need-returns Inv-loop μ-loop
 returns c = codes-written (c .before .loop .inv) (omega arith)
@@ -32,7 +32,7 @@ put-codes-spec =
     μ-loop
     (λ c κs. tt)
     loop-holds
-    (λ c κs. omega arith) (λ c. omega (arith, c .word .ensures .small)) (λ c κs. tt)
+    (λ c κs. omega arith) (λ c. omega (arith, c .u16-number .ensures .small)) (λ c κs. tt)
     (λ c. omega arith) (λ c. omega arith) (λ c. omega arith)
     loop-again
     same-length

@@ -8,11 +8,11 @@ returns : tie.Need-returns
 returns c =
     let after-put-two : tie.After-put-two = search in
     let after-put-byte2 : tie.After-put-byte2 = search in
-    let after-byte : tie.After-byte = search in
+    let after-byte-number : tie.After-byte-number = search in
     let after-put-byte : tie.After-put-byte = search in
     let after-layout : tie.After-layout = search in
     wrote-as (after-put-byte .put-byte .ensures ⨟ after-put-byte2 .put-byte2 .ensures ⨟ after-put-two .put-two .ensures ⨟ c .before .before .put-codes .ensures)
-    (head-is _ _ _ _ (after-layout .layout .ensures) (after-byte .byte .ensures .is))
+    (head-is _ _ _ _ (after-layout .layout .ensures) (after-byte-number .byte-number .ensures .is))
 
 pub put-head-spec : {M : Type 1} → statement M
 put-head-spec =

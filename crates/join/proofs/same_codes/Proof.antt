@@ -16,12 +16,12 @@ loop-holds c = none-compared (c .before .before .pre)
 returns : tie.Need-returns Inv-loop μ-loop
 returns c =
     let at-loop : tie.At-loop Inv-loop μ-loop = search in
-    sym (code-differs (at-loop .loop .inv) (omega arith) (c .before .before .word .ensures .is) (c .before .word2 .ensures .is) (c .if1 .taken))
+    sym (code-differs (at-loop .loop .inv) (omega arith) (c .before .before .u16-number .ensures .is) (c .before .u16-number2 .ensures .is) (c .if1 .taken))
 
 loop-again : tie.Need-loop-again Inv-loop μ-loop
 loop-again c =
     let at-loop : tie.At-loop Inv-loop μ-loop = search in
-    code-same (at-loop .loop .inv) (omega arith) (c .before .before .word .ensures .is) (c .before .word2 .ensures .is) (c .if1 .left)
+    code-same (at-loop .loop .inv) (omega arith) (c .before .before .u16-number .ensures .is) (c .before .u16-number2 .ensures .is) (c .if1 .left)
 
 returns-2 : tie.Need-returns-2 Inv-loop μ-loop
 returns-2 c = sym (all-compared (c .before .loop .inv) (omega arith))

@@ -17,7 +17,7 @@ one-layout : (c : tie.Else1) →
 one-layout c = sym (c .before .before .layout .ensures) ∙ c .if1 .left ∙ c .before .layout2 .ensures
 
 returns-2 : tie.Need-returns-2
-returns-2 c = sym (other-count _ _ (one-layout (c .before .before .before)) (λ e. c .if2 .taken (c .before .before .byte .ensures .is ∙ e ∙ sym (c .before .byte2 .ensures .is))))
+returns-2 c = sym (other-count _ _ (one-layout (c .before .before .before)) (λ e. c .if2 .taken (c .before .before .byte-number .ensures .is ∙ e ∙ sym (c .before .byte-number2 .ensures .is))))
 
 returns-3 : tie.Need-returns-3
 returns-3 c =
@@ -25,8 +25,8 @@ returns-3 c =
     let start : tie.Start = search in
     let a = start .args in
     c .same-codes .ensures
-    ∙ ap (λ (n : ℕ). same (codesAt (a .one .now) 4 n) (codesAt (a .other .now) 4 n)) (c .before .before .before .byte .ensures .is)
-    ∙ sym (same-count _ _ (one-layout else1) (sym (c .before .before .before .byte .ensures .is) ∙ c .before .if2 .left ∙ c .before .before .byte2 .ensures .is))
+    ∙ ap (λ (n : ℕ). same (codesAt (a .one .now) 4 n) (codesAt (a .other .now) 4 n)) (c .before .before .before .byte-number .ensures .is)
+    ∙ sym (same-count _ _ (one-layout else1) (sym (c .before .before .before .byte-number .ensures .is) ∙ c .before .if2 .left ∙ c .before .before .byte-number2 .ensures .is))
 
 pub same-head-spec : {M : Type 1} → statement M
 same-head-spec =

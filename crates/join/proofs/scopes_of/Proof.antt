@@ -4,7 +4,7 @@ use Rattle.join.proofs.scopes_of.Statement.{statement}
 use Rattle.join.proofs.scopes_of.Tie as tie
 
 returns : tie.Need-returns
-returns c = let h = c .before .byte .ensures .is in let n = c .word .ensures .is in λ i. record { at = 4 + 2 * h i; body = 4 + 2 * h i + 5 * n i; left = n i }
+returns c = let h = c .before .byte-number .ensures .is in let n = c .u16-number .ensures .is in λ i. record { at = 4 + 2 * h i; body = 4 + 2 * h i + 5 * n i; left = n i }
 
 pub scopes-of-spec : {M : Type 1} → statement M
 scopes-of-spec =

@@ -8,7 +8,7 @@ use Rattle.join.proofs.take.Tie as tie
 returns : tie.Need-returns
 returns c =
     let start : tie.Start = search in
-    ap (λ (n : ℕ). takenBy (start .args .a) n) (c .before .before .before .word .ensures .is)
+    ap (λ (n : ℕ). takenBy (start .args .a) n) (c .before .before .before .u16-number .ensures .is)
 
 pub take-spec : {M : Type 1} → statement M
 take-spec =

@@ -19,7 +19,7 @@ loop-again : tie.Need-loop-again Inv-loop μ-loop
 loop-again c =
     let after-put-byte : tie.After-put-byte Inv-loop μ-loop = search in
     let at-loop : tie.At-loop Inv-loop μ-loop = search in
-    code-written (at-loop .loop .inv) (omega arith) (c .before .before .before .word .ensures .is) (after-put-byte .put-byte .ensures) (c .before .before .put-hex .ensures)
+    code-written (at-loop .loop .inv) (omega arith) (c .before .before .before .u16-number .ensures .is) (after-put-byte .put-byte .ensures) (c .before .before .put-hex .ensures)
 
 returns : tie.Need-returns Inv-loop μ-loop
 returns c = codes-written (c .before .loop .inv) (omega arith)

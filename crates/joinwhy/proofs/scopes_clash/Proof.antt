@@ -16,30 +16,30 @@ abbrev μ-loop : tie.MeasureT-loop
 μ-loop one other listed found contents place₀ body₀ left₀ place body left = left
 
 -- what is read of the next scope
-scope-read : (c : tie.After-word3 Inv-loop μ-loop) →
-    let after-byte2 : tie.After-byte2 Inv-loop μ-loop = search in
-    let after-word2 : tie.After-word2 Inv-loop μ-loop = search in
+scope-read : (c : tie.After-u16-number3 Inv-loop μ-loop) →
+    let after-byte-number2 : tie.After-byte-number2 Inv-loop μ-loop = search in
+    let after-u16-number2 : tie.After-u16-number2 Inv-loop μ-loop = search in
     let at-loop : tie.At-loop Inv-loop μ-loop = search in
     let start : tie.Start Inv-loop μ-loop = search in
-    ScopeRead (now (start .args .one)) (at-loop .loop .place) (at-loop .loop .left) (after-byte2 .byte2 .result) (after-word2 .word2 .result) (c .word3 .result)
+    ScopeRead (now (start .args .one)) (at-loop .loop .place) (at-loop .loop .left) (after-byte-number2 .byte-number2 .result) (after-u16-number2 .u16-number2 .result) (c .u16-number3 .result)
 scope-read c =
-    let after-byte2 : tie.After-byte2 Inv-loop μ-loop = search in
-    let after-word2 : tie.After-word2 Inv-loop μ-loop = search in
+    let after-byte-number2 : tie.After-byte-number2 Inv-loop μ-loop = search in
+    let after-u16-number2 : tie.After-u16-number2 Inv-loop μ-loop = search in
     let in-loop : tie.In-loop Inv-loop μ-loop = search in
-    record { more = in-loop .loop-test .taken; kind-is = after-byte2 .byte2 .ensures .is; code-is = after-word2 .word2 .ensures .is; count-is = c .word3 .ensures .is }
+    record { more = in-loop .loop-test .taken; kind-is = after-byte-number2 .byte-number2 .ensures .is; code-is = after-u16-number2 .u16-number2 .ensures .is; count-is = c .u16-number3 .ensures .is }
 
 -- the rows that were found are the other table's in the same scope
-theirs : (c : tie.After-find-scope Inv-loop μ-loop) →
-    let after-byte2 : tie.After-byte2 Inv-loop μ-loop = search in
-    let after-word2 : tie.After-word2 Inv-loop μ-loop = search in
+theirs : (c : tie.After-scope-near Inv-loop μ-loop) →
+    let after-byte-number2 : tie.After-byte-number2 Inv-loop μ-loop = search in
+    let after-u16-number2 : tie.After-u16-number2 Inv-loop μ-loop = search in
     let start : tie.Start Inv-loop μ-loop = search in
-    Finds (now (start .args .other)) (after-byte2 .byte2 .result) (after-word2 .word2 .result) (c .find-scope .result .body)
+    Finds (now (start .args .other)) (after-byte-number2 .byte-number2 .result) (after-u16-number2 .u16-number2 .result) (c .scope-near .result .body)
 theirs c =
     let start : tie.Start Inv-loop μ-loop = search in
-    c .find-scope .ensures (start .pre .listed)
+    c .scope-near .ensures (start .pre .listed)
 
 loop-holds : tie.Need-loop-holds Inv-loop μ-loop
-loop-holds c = no-scope-tried _ (record { headers-is = c .byte .ensures .is; scopes-is = c .before .word .ensures .is }) (c .byte .ensures .small) (c .before .word .ensures .small)
+loop-holds c = no-scope-tried _ (record { headers-is = c .byte-number .ensures .is; scopes-is = c .before .u16-number .ensures .is }) (c .byte-number .ensures .small) (c .before .u16-number .ensures .small)
 
 rows-clash-requires : tie.Need-rows-clash-requires Inv-loop μ-loop
 unfolding bodyRows
@@ -50,20 +50,20 @@ rows-clash-requires c κs =
 returns : tie.Need-returns Inv-loop μ-loop
 unfolding bodyRows
 returns c =
-    let after-find-scope : tie.After-find-scope Inv-loop μ-loop = search in
-    let after-word3 : tie.After-word3 Inv-loop μ-loop = search in
+    let after-scope-near : tie.After-scope-near Inv-loop μ-loop = search in
+    let after-u16-number3 : tie.After-u16-number3 Inv-loop μ-loop = search in
     let at-loop : tie.At-loop Inv-loop μ-loop = search in
     let start : tie.Start Inv-loop μ-loop = search in
-    scope-clashes (at-loop .loop .inv) (scope-read after-word3) (theirs after-find-scope .rows (start .pre .formed)) (c .before .rows-clash .ensures) (search)
+    scope-clashes (at-loop .loop .inv) (scope-read after-u16-number3) (theirs after-scope-near .rows (start .pre .formed)) (c .before .rows-clash .ensures) (search)
 
 loop-again : tie.Need-loop-again Inv-loop μ-loop
 unfolding bodyRows
 loop-again c =
-    let after-find-scope : tie.After-find-scope Inv-loop μ-loop = search in
-    let after-word3 : tie.After-word3 Inv-loop μ-loop = search in
+    let after-scope-near : tie.After-scope-near Inv-loop μ-loop = search in
+    let after-u16-number3 : tie.After-u16-number3 Inv-loop μ-loop = search in
     let at-loop : tie.At-loop Inv-loop μ-loop = search in
     let start : tie.Start Inv-loop μ-loop = search in
-    scope-passes (at-loop .loop .inv) (scope-read after-word3) (theirs after-find-scope .rows (start .pre .formed)) (c .before .rows-clash .ensures) (after-word3 .word3 .ensures .small) (search)
+    scope-passes (at-loop .loop .inv) (scope-read after-u16-number3) (theirs after-scope-near .rows (start .pre .formed)) (c .before .rows-clash .ensures) (after-u16-number3 .u16-number3 .ensures .small) (search)
 
 returns-2 : tie.Need-returns-2 Inv-loop μ-loop
 returns-2 c = c .no-pair .ensures ∙ sym (ap asPair (all-scopes-tried (c .before .before .loop .inv) (omega arith)))

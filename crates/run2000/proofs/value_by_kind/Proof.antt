@@ -8,15 +8,15 @@ use Rattle.run2000.proofs.Shows.{plain-text}
 use Rattle.run2000.proofs.value_by_kind.Statement.{statement}
 use Rattle.run2000.proofs.value_by_kind.Tie as tie
 
-told-value-requires : tie.Need-told-value-requires
-told-value-requires c κs =
-    (omega arith, bytes-sized (c .part .ensures) (c .before .before .before .pre))
+sized-stored-value-requires : tie.Need-sized-stored-value-requires
+sized-stored-value-requires c κs =
+    record { tells = omega arith; sized = bytes-sized (c .part .ensures) (c .before .before .before .pre) }
 
 returns : tie.Need-returns
 returns c =
     let start : tie.Start = search in
     let a = start .args in
-    c .told-value .ensures ∙ sym (by-id (a .id) _ (a .kind) (omega arith)) ∙ ap (valueAs (a .kind) (a .id)) (c .before .part .ensures)
+    c .sized-stored-value .ensures ∙ sym (by-id (a .id) _ (a .kind) (omega arith)) ∙ ap (valueAs (a .kind) (a .id)) (c .before .part .ensures)
 
 returns-2 : tie.Need-returns-2
 returns-2 c =
@@ -33,7 +33,7 @@ value-by-kind-spec =
     tie.close
     (tie.spec
     (λ c κs. search needs)
-    told-value-requires
+    sized-stored-value-requires
     returns
     (λ c κs. search needs) (λ c κs. search needs)
     returns-2

@@ -24,9 +24,9 @@ loop-again c =
     let start : tie.Start Inv-loop μ-loop = search in
     let l = c .before .before .loop in
     record {
-      total = l .inv .total ∙ ends-step (start .args .table .now) (l .at) (l .end) (l .left) (c .before .loop-test .taken) (c .word .ensures .is);
+      total = l .inv .total ∙ ends-step (start .args .table .now) (l .at) (l .end) (l .left) (c .before .loop-test .taken) (c .u16-number .ensures .is);
       near = omega arith;
-      end-near = omega (arith, c .word .ensures .small);
+      end-near = omega (arith, c .u16-number .ensures .small);
     }
 
 returns : tie.Need-returns Inv-loop μ-loop
@@ -43,8 +43,8 @@ bodies-end-spec =
     (λ c. record { total = refl; near = omega arith; end-near = omega arith })
     (λ c. omega arith)
     (λ c κs. omega arith)
-    (λ c. omega (arith, c .word .ensures .small))
-    (λ c. omega (arith, c .word .ensures .small))
+    (λ c. omega (arith, c .u16-number .ensures .small))
+    (λ c. omega (arith, c .u16-number .ensures .small))
     (λ c. omega arith)
     (λ c. omega arith)
     (λ c. omega arith)

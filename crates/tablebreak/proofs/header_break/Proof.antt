@@ -21,11 +21,11 @@ abbrev μ-loop : tie.MeasureT-loop
 μ-loop table n at₀ left₀ least₀ at left least = left
 
 -- the code that a turn has read
-read : (c : tie.After-word Inv-loop μ-loop) →
+read : (c : tie.After-u16-number Inv-loop μ-loop) →
     let start : tie.Start Inv-loop μ-loop = search in
     let at-loop : tie.At-loop Inv-loop μ-loop = search in
-    HeaderRead (start .args .table .now) (at-loop .loop .at) (at-loop .loop .left) (c .word .result)
-read c = record { more = c .before .loop-test .taken; code-is = c .word .ensures .is }
+    HeaderRead (start .args .table .now) (at-loop .loop .at) (at-loop .loop .left) (c .u16-number .result)
+read c = record { more = c .before .loop-test .taken; code-is = c .u16-number .ensures .is }
 
 returns : tie.Need-returns Inv-loop μ-loop
 returns c =
@@ -36,7 +36,7 @@ returns c =
 loop-again : tie.Need-loop-again Inv-loop μ-loop
 loop-again c =
     let l = c .before .before .before .loop in
-    record { decide = l .inv .decide ∙ headers-step (read (c .before)) (l .least) (c .if1 .left); near = omega arith; low = omega (arith, c .before .word .ensures .small) }
+    record { decide = l .inv .decide ∙ headers-step (read (c .before)) (l .least) (c .if1 .left); near = omega arith; low = omega (arith, c .before .u16-number .ensures .small) }
 
 returns-2 : tie.Need-returns-2 Inv-loop μ-loop
 returns-2 c =
@@ -53,9 +53,9 @@ header-break-spec =
     (λ c. record { decide = refl; near = omega arith; low = omega arith })
     (λ c κs. omega arith)
     (λ c. omega arith)
-    (λ c κs. omega (arith, c .before .word .ensures .small))
+    (λ c κs. omega (arith, c .before .u16-number .ensures .small))
     returns
-    (λ c. omega (arith, c .before .word .ensures .small))
+    (λ c. omega (arith, c .before .u16-number .ensures .small))
     (λ c. omega arith)
     (λ c. omega arith)
     (λ c. omega arith)

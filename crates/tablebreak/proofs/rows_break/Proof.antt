@@ -22,39 +22,39 @@ abbrev μ-loop : tie.MeasureT-loop
 μ-loop table start bodies n at₀ body₀ left₀ number₀ at body left number = left
 
 -- the scope that a turn has read
-read : (c : tie.After-word2 Inv-loop μ-loop) →
+read : (c : tie.After-u16-number2 Inv-loop μ-loop) →
     let start : tie.Start Inv-loop μ-loop = search in
     let at-loop : tie.At-loop Inv-loop μ-loop = search in
-    BodyRead (start .args .table .now) (at-loop .loop .at) (at-loop .loop .left) (c .before .before .byte .result) (c .before .word .result) (c .word2 .result)
+    BodyRead (start .args .table .now) (at-loop .loop .at) (at-loop .loop .left) (c .before .before .byte-number .result) (c .before .u16-number .result) (c .u16-number2 .result)
 read c = record {
   more = c .before .before .before .loop-test .taken;
-  kind-is = c .before .before .byte .ensures .is;
-  code-is = c .before .word .ensures .is;
-  count-is = c .word2 .ensures .is;
+  kind-is = c .before .before .byte-number .ensures .is;
+  code-is = c .before .u16-number .ensures .is;
+  count-is = c .u16-number2 .ensures .is;
 }
 
 row-break-requires : tie.Need-row-break-requires Inv-loop μ-loop
 row-break-requires c κs = record {
-  near = omega (arith, c .word2 .ensures .small);
-  place = omega (arith, c .before .before .byte .ensures .small, c .before .word .ensures .small);
+  near = omega (arith, c .u16-number2 .ensures .small);
+  place = omega (arith, c .before .before .byte-number .ensures .small, c .before .u16-number .ensures .small);
 }
 
 returns : tie.Need-returns Inv-loop μ-loop
 returns c =
     let at-loop : tie.At-loop Inv-loop μ-loop = search in
-    let scope : tie.After-word2 Inv-loop μ-loop = search in
+    let scope : tie.After-u16-number2 Inv-loop μ-loop = search in
     let l = at-loop .loop in
     sym (l .inv .decide ∙ bodies-fail (read scope) (l .body) (l .number) (c .before .before .row-break .ensures) (c .if1 .taken))
 
 loop-again : tie.Need-loop-again Inv-loop μ-loop
 loop-again c =
     let at-loop : tie.At-loop Inv-loop μ-loop = search in
-    let scope : tie.After-word2 Inv-loop μ-loop = search in
+    let scope : tie.After-u16-number2 Inv-loop μ-loop = search in
     let l = at-loop .loop in
     record {
       decide = l .inv .decide ∙ bodies-step (read scope) (l .body) (l .number) (c .before .before .row-break .ensures) (c .if1 .left);
       near = omega arith;
-      body-near = omega (arith, scope .word2 .ensures .small);
+      body-near = omega (arith, scope .u16-number2 .ensures .small);
       counted = omega arith;
     }
 
@@ -79,8 +79,8 @@ rows-break-spec =
     row-break-requires
     returns
     (λ c. omega arith)
-    (λ c. let scope : tie.After-word2 Inv-loop μ-loop = search in omega (arith, scope .word2 .ensures .small))
-    (λ c. let scope : tie.After-word2 Inv-loop μ-loop = search in omega (arith, scope .word2 .ensures .small))
+    (λ c. let scope : tie.After-u16-number2 Inv-loop μ-loop = search in omega (arith, scope .u16-number2 .ensures .small))
+    (λ c. let scope : tie.After-u16-number2 Inv-loop μ-loop = search in omega (arith, scope .u16-number2 .ensures .small))
     (λ c. omega arith)
     (λ c. omega arith)
     (λ c. omega arith)

@@ -22,33 +22,33 @@ abbrev μ-loop : tie.MeasureT-loop
 μ-loop table start n at₀ left₀ number₀ least₀ at left number least = left
 
 -- the scope that a turn has read
-read : (c : tie.After-word Inv-loop μ-loop) →
+read : (c : tie.After-u16-number Inv-loop μ-loop) →
     let start : tie.Start Inv-loop μ-loop = search in
     let at-loop : tie.At-loop Inv-loop μ-loop = search in
-    ScopeRead (start .args .table .now) (at-loop .loop .at) (at-loop .loop .left) (c .before .byte .result) (c .word .result)
-read c = record { more = c .before .before .loop-test .taken; kind-is = c .before .byte .ensures .is; code-is = c .word .ensures .is }
+    ScopeRead (start .args .table .now) (at-loop .loop .at) (at-loop .loop .left) (c .before .byte-number .result) (c .u16-number .result)
+read c = record { more = c .before .before .loop-test .taken; kind-is = c .before .byte-number .ensures .is; code-is = c .u16-number .ensures .is }
 
 placed-requires : tie.Need-placed-requires Inv-loop μ-loop
 placed-requires c κs =
-    let scope : tie.After-word Inv-loop μ-loop = search in
-    omega (arith, scope .before .byte .ensures .small, scope .word .ensures .small)
+    let scope : tie.After-u16-number Inv-loop μ-loop = search in
+    omega (arith, scope .before .byte-number .ensures .small, scope .u16-number .ensures .small)
 
 returns : tie.Need-returns Inv-loop μ-loop
 returns c =
     let at-loop : tie.At-loop Inv-loop μ-loop = search in
-    let scope : tie.After-word Inv-loop μ-loop = search in
+    let scope : tie.After-u16-number Inv-loop μ-loop = search in
     let l = at-loop .loop in
     c .placed .ensures ∙ sym (l .inv .decide ∙ scopes-fail (read scope) (l .least) (l .number) (c .before .before .before .scope-rule .ensures) (c .before .if1 .taken))
 
 loop-again : tie.Need-loop-again Inv-loop μ-loop
 loop-again c =
     let at-loop : tie.At-loop Inv-loop μ-loop = search in
-    let scope : tie.After-word Inv-loop μ-loop = search in
+    let scope : tie.After-u16-number Inv-loop μ-loop = search in
     let l = at-loop .loop in
     record {
       decide = l .inv .decide ∙ scopes-step (read scope) (l .least) (l .number) (c .before .before .scope-rule .ensures) (c .if1 .left);
       near = omega arith;
-      low = omega (arith, scope .before .byte .ensures .small, scope .word .ensures .small);
+      low = omega (arith, scope .before .byte-number .ensures .small, scope .u16-number .ensures .small);
       counted = omega arith;
     }
 
@@ -68,12 +68,12 @@ scope-break-spec =
     (λ c κs. search needs)
     (λ c. omega arith)
     (λ c κs. omega arith)
-    (λ c κs. omega (arith, c .before .byte .ensures .small, c .word .ensures .small))
+    (λ c κs. omega (arith, c .before .byte-number .ensures .small, c .u16-number .ensures .small))
     placed-requires
     returns
-    (λ c. let scope : tie.After-word Inv-loop μ-loop = search in omega (arith, scope .before .byte .ensures .small, scope .word .ensures .small))
-    (λ c. let scope : tie.After-word Inv-loop μ-loop = search in omega (arith, scope .before .byte .ensures .small, scope .word .ensures .small))
-    (λ c. let scope : tie.After-word Inv-loop μ-loop = search in omega (arith, scope .before .byte .ensures .small, scope .word .ensures .small))
+    (λ c. let scope : tie.After-u16-number Inv-loop μ-loop = search in omega (arith, scope .before .byte-number .ensures .small, scope .u16-number .ensures .small))
+    (λ c. let scope : tie.After-u16-number Inv-loop μ-loop = search in omega (arith, scope .before .byte-number .ensures .small, scope .u16-number .ensures .small))
+    (λ c. let scope : tie.After-u16-number Inv-loop μ-loop = search in omega (arith, scope .before .byte-number .ensures .small, scope .u16-number .ensures .small))
     (λ c. omega arith)
     (λ c. omega arith)
     (λ c. omega arith)

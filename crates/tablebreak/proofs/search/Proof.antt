@@ -8,15 +8,15 @@ use Rattle.tablebreak.proofs.search.Tie as tie
 -- the counts that the code has read
 counts : (c : tie.Else3) →
     let start : tie.Start = search in
-    let headers : tie.After-byte = search in
-    Counted (start .args .table .now) (headers .byte .result) (c .before .word .result)
+    let headers : tie.After-byte-number = search in
+    Counted (start .args .table .now) (headers .byte-number .result) (c .before .u16-number .result)
 counts c =
     let else1 : tie.Else1 = search in
     record {
       head = else1 .if1 .left;
-      headers-are = c .before .before .before .byte .ensures .is;
+      headers-are = c .before .before .before .byte-number .ensures .is;
       few = c .before .before .if2 .left;
-      scopes-are = c .before .word .ensures .is;
+      scopes-are = c .before .u16-number .ensures .is;
       some = c .if3 .left;
     }
 
@@ -26,14 +26,14 @@ returns c = c .broken .ensures ∙ sym (head-short (c .before .before .before .a
 returns-2 : tie.Need-returns-2
 returns-2 c =
     let start : tie.Start = search in
-    c .broken2 .ensures ∙ sym (many-headers (start .args .table .now) (c .before .before .before .if1 .left) (c .before .before .byte .ensures .is) (c .before .if2 .taken))
+    c .broken2 .ensures ∙ sym (many-headers (start .args .table .now) (c .before .before .before .if1 .left) (c .before .before .byte-number .ensures .is) (c .before .if2 .taken))
 
 returns-3 : tie.Need-returns-3
 returns-3 c =
     let start : tie.Start = search in
     let else1 : tie.Else1 = search in
-    let headers : tie.After-byte = search in
-    c .broken3 .ensures ∙ sym (many-scopes (start .args .table .now) (else1 .if1 .left) (headers .byte .ensures .is) (c .before .before .before .if2 .left) (c .before .before .word .ensures .is) (c .before .if3 .taken))
+    let headers : tie.After-byte-number = search in
+    c .broken3 .ensures ∙ sym (many-scopes (start .args .table .now) (else1 .if1 .left) (headers .byte-number .ensures .is) (c .before .before .before .if2 .left) (c .before .before .u16-number .ensures .is) (c .before .if3 .taken))
 
 returns-4 : tie.Need-returns-4
 returns-4 c = c .broken4 .ensures ∙ sym (contents-short (counts (c .before .before)) (c .before .if4 .taken))
@@ -100,10 +100,10 @@ search-spec =
     (λ c κs. omega arith)
     returns
     (λ c κs. search needs)
-    (λ c κs. omega (arith, c .before .byte .ensures .small))
+    (λ c κs. omega (arith, c .before .byte-number .ensures .small))
     returns-2
     (λ c κs. omega arith)
-    (λ c κs. omega (arith, c .before .word .ensures .small))
+    (λ c κs. omega (arith, c .before .u16-number .ensures .small))
     returns-3
     (λ c. omega (arith, counts c .few, counts c .some))
     (λ c. omega (arith, counts c .few, counts c .some))

@@ -24,13 +24,13 @@ loop-holds : tie.Need-loop-holds Inv-loop μ-loop
 loop-holds c = record { rest = all-remains; near = omega arith }
 
 put-header-requires : tie.Need-put-header-requires Inv-loop μ-loop
-put-header-requires c κs = c .word .ensures .small
+put-header-requires c κs = c .u16-number .ensures .small
 
 loop-again : tie.Need-loop-again Inv-loop μ-loop
 loop-again c =
     let l : tie.At-loop Inv-loop μ-loop = search in
     record {
-      rest = on (l .loop .inv .rest) (headers-read (l .before .before .before .args .table .now) (l .loop .place) (l .loop .left) (omega arith) (c .before .before .before .word .ensures .is)) (c .before .before .put-header .ensures);
+      rest = on (l .loop .inv .rest) (headers-read (l .before .before .before .args .table .now) (l .loop .place) (l .loop .left) (omega arith) (c .before .before .before .u16-number .ensures .is)) (c .before .before .put-header .ensures);
       near = omega arith;
     }
 

@@ -26,16 +26,16 @@ loop-holds : tie.Need-loop-holds Inv-loop μ-loop
 loop-holds c = record { rest = all-remains; near = omega arith; body-near = omega arith }
 
 put-scope-requires : tie.Need-put-scope-requires Inv-loop μ-loop
-put-scope-requires c κs = (c .before .before .before .byte .ensures .small, c .before .before .word .ensures .small)
+put-scope-requires c κs = (c .before .before .before .byte-number .ensures .small, c .before .before .u16-number .ensures .small)
 
 loop-again : tie.Need-loop-again Inv-loop μ-loop
 loop-again c =
     let after-put-scope : tie.After-put-scope Inv-loop μ-loop = search in
-    let after-word2 : tie.After-word2 Inv-loop μ-loop = search in
-    let after-word : tie.After-word Inv-loop μ-loop = search in
-    let after-byte : tie.After-byte Inv-loop μ-loop = search in
+    let after-u16-number2 : tie.After-u16-number2 Inv-loop μ-loop = search in
+    let after-u16-number : tie.After-u16-number Inv-loop μ-loop = search in
+    let after-byte-number : tie.After-byte-number Inv-loop μ-loop = search in
     let l : tie.At-loop Inv-loop μ-loop = search in
-    let e = scopes-read (l .before .before .before .args .table .now) (l .loop .place) (l .loop .body) (l .loop .left) (omega arith) (after-byte .byte .ensures .is) (after-word .word .ensures .is) (after-word2 .word2 .ensures .is) in
+    let e = scopes-read (l .before .before .before .args .table .now) (l .loop .place) (l .loop .body) (l .loop .left) (omega arith) (after-byte-number .byte-number .ensures .is) (after-u16-number .u16-number .ensures .is) (after-u16-number2 .u16-number2 .ensures .is) in
     record {
       rest = on (on (l .loop .inv .rest) e (after-put-scope .put-scope .ensures)) refl (c .before .before .put-rows .ensures);
       near = omega arith;

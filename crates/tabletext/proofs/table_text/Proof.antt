@@ -10,12 +10,12 @@ returns c =
     let after-put-headers : tie.After-put-headers = search in
     let after-put-byte : tie.After-put-byte = search in
     let after-put-hex : tie.After-put-hex = search in
-    let after-byte2 : tie.After-byte2 = search in
+    let after-byte-number2 : tie.After-byte-number2 = search in
     let after-put-text : tie.After-put-text = search in
-    let after-word : tie.After-word = search in
-    let after-byte : tie.After-byte = search in
+    let after-u16-number : tie.After-u16-number = search in
+    let after-byte-number : tie.After-byte-number = search in
     let start : tie.Start = search in
-    rw (table-lines (start .args .table .now) (after-byte2 .byte2 .ensures .is) (after-byte .byte .ensures .is) (after-word .word .ensures .is))
+    rw (table-lines (start .args .table .now) (after-byte-number2 .byte-number2 .ensures .is) (after-byte-number .byte-number .ensures .is) (after-u16-number .u16-number .ensures .is))
     (after-put-text .put-text .ensures
     ⨟ after-put-hex .put-hex .ensures
     ⨟ after-put-byte .put-byte .ensures
