@@ -46,6 +46,7 @@ SLIPS = [
     ("typeinfo", "if second_length > 0", "if second_length > 1"),
     ("typeinfo", "{ (at + 8, first_length) }", "{ (second.min(s.len() - first_length), first_length) }"),
     ("typeinfo", "(s.len() - 32) / 8", "(s.len() - 31) / 8"),
+    ("typeinfo", "s.get(start + length) != Some(&0)", "s.get(start + length).is_none() && second_length > 0"),
     ("typeinfo", "while all.len() < count", "while all.iter().filter(|e: &&Entry| e.type_code != 0x1EFF).count() < count"),
     ("join", "(one.layout, &one.header) != (other.layout, &other.header)", "one.header != other.header"),
     ("join", "said.len() > 1", "said.len() > 2"),

@@ -215,6 +215,7 @@ def main():
         (folder / f"{title}.blob").write_bytes(blob)
         (folder / f"{title}.input").write_bytes(u32(len(table)) + table + blob)
     (folder / "form.typeinfo").write_bytes(type_info())
+    (folder / "cut.typeinfo").write_bytes(type_info()[:-4])  # a copy that lost its tail, within the last name
     for office, table in OFFICES.items():
         (folder / f"{office}.codes").write_bytes(table)
 

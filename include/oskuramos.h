@@ -92,13 +92,17 @@ enum {
    as stored, and say nothing of a table. The layout is Access 2000 where the stream's first byte is the code table's first byte. */
 enum { OSKURAMOS_UNMAPPED = 0x8000 };
 
-/* The words of a row of TypeInfo. The name is bytes in the code page of the database, of which the stream doesn't speak. */
+/* The words of a row of TypeInfo. The name is bytes in the code page of the database, of which the stream doesn't speak.
+   The last word is 1 where the stream's end ended the name and no NUL: the stream lost its tail, and the name may have been longer. Only the last row can
+   have it. An entry has two names, and the second is used unless it is empty. A stream that was cut right after the first name's NUL gives the first name
+   with 0: that name is whole, and that a second one is lost can't be seen. */
 enum {
     OSKURAMOS_TYPE_INFO_TYPE = 0,
     OSKURAMOS_TYPE_INFO_INDEX = 1,
     OSKURAMOS_TYPE_INFO_NAME_START = 2,
     OSKURAMOS_TYPE_INFO_NAME_LENGTH = 3,
-    OSKURAMOS_TYPE_INFO_WORDS = 4
+    OSKURAMOS_TYPE_INFO_NAME_CUT = 4,
+    OSKURAMOS_TYPE_INFO_WORDS = 5
 };
 
 /* Reads a Blob by a code table into rows: of the controls, and of the properties. The object's own properties stand first, then each control's.

@@ -83,7 +83,7 @@ static void measure(task_t *t) {
     oskuramos_answer a = read_by(&library, t);
     bool counted = a.number == 0 || a.number == 6 || a.number == 7;
     t->refused = !counted;
-    t->controls = counted ? (t->stream.kind == KIND_TYPE_INFO ? 4 : 6) * (size_t)a.first : 0;
+    t->controls = counted ? (t->stream.kind == KIND_TYPE_INFO ? OSKURAMOS_TYPE_INFO_WORDS : OSKURAMOS_CONTROL_WORDS) * (size_t)a.first : 0;
     t->properties = counted ? 6 * (size_t)a.second : 0;
 }
 

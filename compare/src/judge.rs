@@ -181,7 +181,9 @@ fn same_place(stream: &[u8], n: usize, ours: &plain::typeinfo::Entry) -> Verdict
     let behind = form::type_info_step(stream, ours.at).map(|(_, behind)| behind);
     same(&format!("entry {n}: end"), behind, Some(ours.end))?;
     let (first, next) = form::name_step(stream, ours.at + 8);
-    let (second, _) = form::name_step(stream, next);
-    let used = if second.is_empty() { (ours.at + 8, first.len()) } else { (next, second.len()) };
-    same(&format!("entry {n}: place of the name"), used, (ours.start, ours.length))
+    let (second, end) = form::name_step(stream, next);
+    let (start, name, behind) = if second.is_empty() { (ours.at + 8, first, next) } else { (next, second, end) };
+    same(&format!("entry {n}: place of the name"), (start, name.len()), (ours.start, ours.length))?;
+    // jetdb steps over a NUL where there is one
+    same(&format!("entry {n}: cut"), behind == start + name.len(), ours.cut)
 }

@@ -115,7 +115,7 @@ fn print(text: &str) -> Result<bool, String> {
 
 /// The rows of TypeInfo, each with a B line for the bytes of its name.
 fn type_info(judge: &Judge, stream: Vec<u8>) -> Result<String, String> {
-    let case = Case { numbers: [4 * plain::LONGEST as u32, 0], ..Case::type_info("", stream) };
+    let case = Case { numbers: [(plain::typeinfo::WORDS * plain::LONGEST) as u32, 0], ..Case::type_info("", stream) };
     let text = judge.expected(&case)?.text;
     let names = oracle::type_info(&case.bytes).unwrap_or_default();
     let mut names = names.iter().map(|entry| listing::bytes_line(&oracle::name_bytes(&entry.name)));

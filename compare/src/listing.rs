@@ -8,6 +8,8 @@ use crate::plain::{self, value, Answer, Rows};
 pub const BUFFER: usize = 32_768;
 pub const CONTROL_WORDS: usize = 6 * 256;
 pub const PROPERTY_WORDS: usize = 6 * 1024;
+/// Words lent for TypeInfo in a batch file, at most.
+pub const TYPE_INFO_WORDS: usize = plain::typeinfo::WORDS * 256;
 
 /// The code table and the Blob of an input, or the answer that refuses it.
 pub fn parts(input: &[u8]) -> Result<(&[u8], &[u8]), Answer> {
@@ -88,7 +90,7 @@ pub fn dump(rows: &Rows) -> String {
 }
 
 /// The same of TypeInfo, with T lines.
-pub fn dump_type_info((answer, rows): &(Answer, Vec<[u32; 4]>)) -> String {
+pub fn dump_type_info((answer, rows): &(Answer, Vec<crate::plain::typeinfo::Row>)) -> String {
     let mut text = answer_line("A", *answer);
     text.extend(rows.iter().map(|row| row_line('T', row)));
     text

@@ -270,7 +270,7 @@ fn batch_files_lend_what_the_readme_says() {
         assert!(case.bytes.len() <= 32_768);
         assert!(match case.kind {
             Kind::Blob | Kind::Read2000 | Kind::ReadLater => first <= 6 * 256 && second <= 6 * 1024,
-            Kind::TypeInfo => first <= 4 * 256,
+            Kind::TypeInfo => first <= crate::listing::TYPE_INFO_WORDS,
             Kind::Guid | Kind::Label => first <= 64,
             Kind::Join => first <= 32_768 && second <= case.bytes.len(),
             _ => true,
@@ -462,6 +462,8 @@ fn examples_are_listed_as_their_files_say() {
         assert_eq!(found.text.as_bytes(), example(&format!("{name}.list")), "{name}");
         assert_eq!(found.shape, Some(shape), "{name}");
     }
-    let rows = crate::type_info(&judge, example("form.typeinfo")).unwrap();
-    assert_eq!(rows.as_bytes(), example("form.typeinfo.rows"));
+    for name in ["form", "cut"] {
+        let rows = crate::type_info(&judge, example(&format!("{name}.typeinfo"))).unwrap();
+        assert_eq!(rows.as_bytes(), example(&format!("{name}.typeinfo.rows")));
+    }
 }

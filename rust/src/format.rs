@@ -7,7 +7,7 @@ pub const CONTROL_WORDS: usize = 6;
 /// Words of a property's row.
 pub const PROPERTY_WORDS: usize = 6;
 /// Words of a row of TypeInfo.
-pub const TYPE_INFO_WORDS: usize = 4;
+pub const TYPE_INFO_WORDS: usize = 5;
 /// Shorter TypeInfo is refused.
 pub const TYPE_INFO_SHORTEST: usize = 32;
 /// A longer stream is refused.

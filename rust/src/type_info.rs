@@ -48,13 +48,25 @@ pub struct TypeInfoEntry<'a> {
     pub name: &'a [u8],
     /// Where it starts in the stream.
     pub start: usize,
+    /// Whether the stream's end cut the name off: no NUL stands behind it, so it may have been longer. Only the last entry can be cut.
+    ///
+    /// ```
+    /// use oskuramos::TypeInfo;
+    ///
+    /// let stream = std::fs::read("examples/form.typeinfo")?;
+    /// let info = TypeInfo::read(&stream[..stream.len() - 3])?; // a copy that lost its tail
+    /// let last = info.entries.last().ok_or("no entry")?;
+    /// assert_eq!((last.name, last.cut), (&b"K\xFCch"[..], true));
+    /// # Ok::<(), Box<dyn std::error::Error>>(())
+    /// ```
+    pub cut: bool,
 }
 
 impl<'a> TypeInfoEntry<'a> {
     fn of(row: &TypeInfoRow, stream: &'a [u8]) -> Option<TypeInfoEntry<'a>> {
-        let [type_code, index, start, length] = *row;
+        let [type_code, index, start, length, cut] = *row;
         let name = stream.get(start as usize..)?.get(..length as usize)?;
-        Some(TypeInfoEntry { type_code: type_code.try_into().ok()?, index, name, start: start as usize })
+        Some(TypeInfoEntry { type_code: type_code.try_into().ok()?, index, name, start: start as usize, cut: cut != 0 })
     }
 
     /// The name where it is wholly ASCII, which every code page has alike.

@@ -131,10 +131,20 @@ fn type_info(count: u8) -> Vec<u8> {
 }
 
 #[test]
+fn a_name_that_was_cut_is_told() {
+    let stream = type_info(1);
+    let name = |length: usize| TypeInfo::read(&stream[..length]).unwrap().entries[0];
+    assert_eq!([46, 45].map(|n| (name(n).start, name(n).name, name(n).cut)), [(42, &b"Text"[..], true), (42, b"Tex", true)]);
+    // right after the first name's NUL, where a second name isn't missed; before it
+    assert_eq!([42, 41].map(|n| (name(n).start, name(n).name, name(n).cut)), [(40, &b"a"[..], false), (40, b"a", true)]);
+    assert!(!name(47).cut);
+}
+
+#[test]
 fn type_info_and_its_refusals() {
     let mut lent = rows(3);
     assert_eq!(read_type_info(&type_info(1), between(&mut lent)), Ok(1));
-    assert_eq!(lent[GUARD], [0x6D, 3, 42, 4]);
+    assert_eq!(lent[GUARD], [0x6D, 3, 42, 4, 0]);
     assert!(kept(3, &lent, 1));
     assert_eq!(info_refusal(&type_info(1)[..31], 3), Refused::TooShort);
     assert_eq!(info_refusal(&[0; 40], 3), Refused::OtherMagic);

@@ -54,14 +54,16 @@ fn examples_are_listed_alike() {
 
 fn info_line(entry: &TypeInfoEntry) -> String {
     let bytes = String::from_iter(entry.name.iter().map(|b| format!(" {b:02X}")));
-    format!("T {} {} {} {}\nB{bytes}\n", entry.type_code, entry.index, entry.start, entry.name.len())
+    format!("T {} {} {} {} {}\nB{bytes}\n", entry.type_code, entry.index, entry.start, entry.name.len(), entry.cut as u32)
 }
 
 #[test]
 fn type_info_is_read_as_its_rows_say() {
     let root = concat!(env!("CARGO_MANIFEST_DIR"), "/../examples");
-    let stream = fs::read(format!("{root}/form.typeinfo")).unwrap();
-    let info = TypeInfo::read(&stream).unwrap();
-    let lines = String::from_iter(info.entries.iter().map(info_line));
-    assert_eq!(format!("A 0 {} 0 0\n{lines}", info.entries.len()), fs::read_to_string(format!("{root}/form.typeinfo.rows")).unwrap());
+    for name in ["form", "cut"] {
+        let stream = fs::read(format!("{root}/{name}.typeinfo")).unwrap();
+        let info = TypeInfo::read(&stream).unwrap();
+        let lines = String::from_iter(info.entries.iter().map(info_line));
+        assert_eq!(format!("A 0 {} 0 0\n{lines}", info.entries.len()), fs::read_to_string(format!("{root}/{name}.typeinfo.rows")).unwrap());
+    }
 }

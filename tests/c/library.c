@@ -165,21 +165,25 @@ static bool info_answers(const uint8_t *s, size_t s_length, size_t room, uint32_
     return is(a, number, first, 0, 0) && words_kept(&r, 0);
 }
 
-static bool info_read(const uint8_t *s) {
-    static const uint32_t row[4] = {0x6D, 3, 42, 4};
+/* the first bytes of the stream are read as one entry, whose name is this */
+static bool info_read(const uint8_t *s, size_t s_length, uint32_t start, uint32_t length, uint32_t cut) {
+    const uint32_t row[OSKURAMOS_TYPE_INFO_WORDS] = {0x6D, 3, start, length, cut};
     words r;
-    oskuramos_answer a = oskuramos_read_type_info(s, 48, lend_words(&r), ROOM);
-    return is(a, 0, 1, 0, 0) && memcmp(r.word + GUARD, row, sizeof row) == 0 && words_kept(&r, 4);
+    oskuramos_answer a = oskuramos_read_type_info(s, s_length, lend_words(&r), ROOM);
+    return is(a, 0, 1, 0, 0) && memcmp(r.word + GUARD, row, sizeof row) == 0 && words_kept(&r, OSKURAMOS_TYPE_INFO_WORDS);
 }
 
 static void type_info(const uint8_t *large) {
     uint8_t s[48];
     type_info_stream(s, 1);
-    check(info_read(s), "TypeInfo of one entry: each word, and what stands beyond");
+    check(info_read(s, 48, 42, 4, 0), "TypeInfo of one entry: each word, and what stands beyond");
+    check(info_read(s, 45, 42, 3, 1), "1 in the last word: cut within the second name");
+    check(info_read(s, 41, 40, 1, 1), "1 in the last word: the first name's NUL is lost");
+    check(info_read(s, 42, 40, 1, 0), "0 in the last word: cut right after the first name's NUL");
     check(info_answers(s, 31, ROOM, 1, 0), "1 for TypeInfo of 31 bytes");
     check(info_answers(large, OSKURAMOS_LONGEST + 1, ROOM, 5, 0), "5 for TypeInfo of 16,777,217 bytes");
     check(info_answers(large, OSKURAMOS_LONGEST, ROOM, 2, 0), "not 5 for TypeInfo of 16,777,216 bytes");
-    check(info_answers(s, 48, 3, 6, 1), "6 for rows that lack a word");
+    check(info_answers(s, 48, OSKURAMOS_TYPE_INFO_WORDS - 1, 6, 1), "6 for rows that lack a word");
     type_info_stream(s, 3);
     check(info_answers(s, 48, ROOM, 3, 0), "3 for a count of 3 in 48 bytes");
     s[0] = 0xF6;

@@ -10,7 +10,7 @@ pub mod rng;
 pub mod typeinfo;
 pub mod worked;
 
-use crate::listing::{CONTROL_WORDS, PROPERTY_WORDS};
+use crate::listing::{CONTROL_WORDS, PROPERTY_WORDS, TYPE_INFO_WORDS};
 use std::rc::Rc;
 
 /// What a case is for; the numbers are those of the batch file.
@@ -63,7 +63,7 @@ impl Case {
     }
 
     pub fn type_info(family: &'static str, bytes: Vec<u8>) -> Case {
-        Case { family, kind: Kind::TypeInfo, table: None, numbers: [4 * 256, 0], bytes }
+        Case { family, kind: Kind::TypeInfo, table: None, numbers: [TYPE_INFO_WORDS as u32, 0], bytes }
     }
 
     /// A whole input of `formlist`: the table, framed, and the Blob.

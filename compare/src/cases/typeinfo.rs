@@ -4,6 +4,7 @@ use super::build::{type_info_entry, type_info_head};
 use super::random::damage;
 use super::rng::Rng;
 use super::{strings, Case, Sink};
+use crate::plain::typeinfo::WORDS;
 
 /// Every header length, every bit of the first four bytes, and counts around what fits.
 pub fn headers(out: Sink) {
@@ -53,7 +54,7 @@ pub fn random(rng: &mut Rng) -> Case {
     }
     let mut case = Case::type_info("random", s);
     if rng.one_in(4) {
-        case.numbers[0] = rng.below(4 * n + 6) as u32;
+        case.numbers[0] = rng.below(WORDS * n + 6) as u32;
     }
     case
 }

@@ -4,6 +4,7 @@
 //! `typeInfoExit`, `typeInfoAnswer`, `printed` and `listing`. A claim over other values (a law, a part of a `map`) is passed over.
 
 use super::{Case, Kind, Sink};
+use crate::plain::typeinfo::WORDS;
 use std::collections::HashMap;
 
 const FILES: [&str; 7] = [
@@ -182,7 +183,7 @@ impl<'a> File<'a> {
             }
             Word("typeInfoAnswer") => {
                 let [stream, room] = self.atoms(at + 1)?;
-                out(Case::other("worked", Kind::TypeInfo, [4 * room.first()?, 0], bytes(&stream)));
+                out(Case::other("worked", Kind::TypeInfo, [WORDS as u32 * room.first()?, 0], bytes(&stream)));
             }
             Word("printed") => {
                 // (outcome TABLE STREAM ..) stands behind it

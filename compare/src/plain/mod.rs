@@ -73,7 +73,7 @@ pub struct Reading {
     pub controls: Vec<Control>,
 }
 
-/// Rows as they are lent: six words each, or four for TypeInfo.
+/// Rows as they are lent, six words each.
 #[derive(Debug, Clone, PartialEq, Eq)]
 pub struct Rows {
     pub answer: Answer,

@@ -2,6 +2,11 @@
 
 use super::{u16_at, u32_at, Answer, LONGEST};
 
+/// Words of a row.
+pub const WORDS: usize = 5;
+
+pub type Row = [u32; WORDS];
+
 #[derive(Debug, Clone)]
 pub struct Entry {
     /// Where the entry itself starts.
@@ -10,13 +15,15 @@ pub struct Entry {
     pub index: u32,
     pub start: usize,
     pub length: usize,
+    /// Whether the stream's end, and no NUL, ended the name.
+    pub cut: bool,
     /// The place behind the entry.
     pub end: usize,
 }
 
 impl Entry {
-    pub fn row(&self) -> [u32; 4] {
-        [self.type_code as u32, self.index, self.start as u32, self.length as u32]
+    pub fn row(&self) -> Row {
+        [self.type_code as u32, self.index, self.start as u32, self.length as u32, self.cut as u32]
     }
 }
 
@@ -53,7 +60,8 @@ fn entry_at(s: &[u8], at: usize) -> Entry {
     let second_length = name_length(s, second);
     let behind = second + second_length + 1 + if type_code % 256 == 0x77 { 36 } else { 0 };
     let (start, length) = if second_length > 0 { (second, second_length) } else { (at + 8, first_length) };
-    Entry { at, type_code, index: u32_at(s, at + 4).unwrap(), start, length, end: behind.min(s.len()) }
+    let cut = s.get(start + length) != Some(&0);
+    Entry { at, type_code, index: u32_at(s, at + 4).unwrap(), start, length, cut, end: behind.min(s.len()) }
 }
 
 /// The bytes up to a NUL or the stream's end.
@@ -62,13 +70,13 @@ fn name_length(s: &[u8], start: usize) -> usize {
 }
 
 /// The answer with so many words lent, and the rows that are then written.
-pub fn read_type_info(s: &[u8], words: usize) -> (Answer, Vec<[u32; 4]>) {
+pub fn read_type_info(s: &[u8], words: usize) -> (Answer, Vec<Row>) {
     let found = match entries(s) {
         Ok(found) => found,
         Err(number) => return (Answer::refusal(number), Vec::new()),
     };
     let counts = [found.len() as u32, 0, 0];
-    if found.len() > words / 4 {
+    if found.len() > words / WORDS {
         return (Answer { number: 6, counts }, Vec::new());
     }
     (Answer { number: 0, counts }, found.iter().map(Entry::row).collect())

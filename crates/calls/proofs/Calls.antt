@@ -93,6 +93,7 @@ use Rattle.claims.proofs.Joining.{wish9, wish12}
 use Rattle.calls.proofs.JoiningCalls.{join-of, plans-carried}
 use Rattle.claims.proofs.LaterTree.{later-tree}
 use Rattle.claims.proofs.Counts.{counts-hold}
+use Rattle.claims.proofs.CutNames.{wish6}
 use Rattle.claims.proofs.RowChecks.{row-checks}
 use Rattle.claims.proofs.Rooms.{rooms}
 
@@ -305,6 +306,7 @@ read-type-infos f p one = record {
   is-exit = every f _ p _ (λ a. refl);
   demand1 = every f _ p _ (λ a. demand1 .type-infos (a .stream) (a .rows));
   counts = every f _ p _ (λ a. counts-hold .type-infos (a .stream) (a .rows));
+  cut-names = every f _ p _ (λ a. wish6 .cut-names (a .stream) (a .rows));
   room-enough = every f _ p _ (λ a. rooms .enough-infos (a .stream) (a .rows));
   one-result = one;
 }

@@ -41,6 +41,7 @@ use Rattle.claims.specs.Grammar.{Stream, _spells_}
 use Rattle.claims.specs.Stored.{storedOf, spotSays}
 use Rattle.claims.specs.LaterTree as later
 use Rattle.claims.specs.Counts.{Counts, InfoCounts}
+use Rattle.claims.specs.CutNames.{CutNames}
 use Rattle.claims.specs.Rooms as rooms
 use Rattle.claims.specs.RowChecks.{Checks, SeenItems}
 use Rattle.calls.specs.Always.{Always, OneResult, Fn, Every, Gives, Call, handed, seen}
@@ -173,6 +174,8 @@ pub record ReadTypeInfo (f : Fn TypeInfo TypeInfoExit) : Type 2 where
   pub is-exit : Every f (λ a seen. seen ≡ typeInfoExit (a .stream) (a .rows))
   pub demand1 : Every f (λ a seen. TypeInfos (a .stream) (a .rows) seen)
   pub counts : Every f (λ a seen. InfoCounts (a .stream) (a .rows) seen)
+  -- wish 6: which names were cut
+  pub cut-names : Every f (λ a seen. CutNames (a .stream) seen)
   -- wish 14 of TypeInfo
   pub room-enough : Every f (λ a seen. rooms.EnoughInfos (a .stream) (a .rows) seen)
   pub one-result : OneResult (f .function)

@@ -73,11 +73,11 @@ module _ (t s cs ps : List ℕ) (r : Reading) (e : outcome t s (room controlWidt
       }
 
 -- ---- TypeInfo, the same
-info-wide : (is : List Info) → Wide typeInfoWidth (map typeInfoRow is)
+pub info-wide : (is : List Info) → Wide typeInfoWidth (map typeInfoRow is)
 info-wide [] = tt
 info-wide (i ∷ is) = (refl, info-wide is)
 
-info-many : (s : List ℕ) → length (typeInfoRows s) ≡ length (typeInfoOf s)
+pub info-many : (s : List ℕ) → length (typeInfoRows s) ≡ length (typeInfoOf s)
 unfolding typeInfoRows
 info-many s = simp length-map
 
@@ -90,7 +90,7 @@ info-room s rows _ (TypeInfoAnswer.three h k m l) e = absurd (omega arith)
 info-room s rows _ (TypeInfoAnswer.six n h) e = absurd (omega arith)
 info-room s rows _ (TypeInfoAnswer.zero n h) e = (refl, h)
 
-info-counts : (s rows : List ℕ) → typeInfoExit s rows .answer .number ≡ 0 → InfoCounted s rows (typeInfoExit s rows)
+pub info-counts : (s rows : List ℕ) → typeInfoExit s rows .answer .number ≡ 0 → InfoCounted s rows (typeInfoExit s rows)
 unfolding typeInfoExit
 info-counts s rows e =
     let h = info-room s rows (typeInfoAnswer s (room typeInfoWidth rows)) (info-told s rows) e in

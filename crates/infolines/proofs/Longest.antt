@@ -10,18 +10,19 @@ use lib.ListN.{length, take, drop, length-append, length-take}
 use Rattle.rules.specs.Lists.{keep}
 use Rattle.rules.specs.Bytes.{Bytes, u16, u32, part}
 use Rattle.rules.specs.Answer.{answer, refusal, tooShort, otherMagic, tooManyEntries, tooLong, moreControls, longest}
-use Rattle.rules.specs.Digits.{hex}
+use Rattle.rules.specs.Lists.{text}
+use Rattle.rules.specs.Digits.{decimal, hex}
 use Rattle.rules.specs.NameTables.{controlTypeNames}
 use Rattle.rules.specs.TypeInfo.{Named, Info, nulTerminated, firstName, secondName, infoAt, nextInfo, infosAt, isReportedInfo, typeInfoOf, typeInfoRow, typeInfoRows, typeInfoAnswer}
 use Rattle.rules.specs.Listing.{orDash, answerLine, linesFrom}
 use Rattle.rules.specs.declared.Answer.{Answer}
 use Rattle.typeinfo.specs.Entries.{asEntry}
-use Rattle.typeinfo.proofs.NulLaws.{name-within, next-within}
+use Rattle.rules.proofs.TypeInfoLaws.{name-within, next-within}
 use Rattle.typeinfo.proofs.EntryLaws.{inside}
 use Rattle.listing.specs.Bound.{longestIn, longestType, longestAnswer}
 use Rattle.listing.proofs.Longest.{Word32, type-short, decimal-short, hex-length, answer-short}
 use Rattle.infolines.specs.Infos.{infoPrinted, infoMost}
-use Rattle.listing.specs.InfoLine.{isShown, nameByte, nameBytes, infoLine}
+use Rattle.listing.specs.InfoLine.{isShown, nameByte, nameBytes, sizeColumn, infoLine}
 use Rattle.infolines.proofs.Printed.{decide, read, many}
 
 -- ---- a line
@@ -46,6 +47,14 @@ types : longestType ≡ 16
 unfolding longestType longestIn controlTypeNames
 types = refl
 
+size-short : (size cut : ℕ) → Word32 size → length (sizeColumn size cut) ≤ 11
+unfolding sizeColumn
+size-short size cut h = go (eqb cut 0)
+  where
+    go : (b : Bool) → length (cond b (decimal size) (decimal size ++ text "+")) ≤ 11
+    go true = omega (arith, decimal-short size h)
+    go false = simp length-append (omega (arith, decimal-short size h))
+
 line-short : (s : List ℕ) (n : ℕ) (i : Info) → Word32 n → Word32 (i .index) → Word32 (i .name .size) → length (infoLine s n (typeInfoRow i)) ≤ 8 * (8 + i .name .size)
 unfolding infoLine
 line-short s n i hn hi hs =
@@ -57,7 +66,7 @@ line-short s n i hn hi hs =
       hex-length 4 (i .type),
       type-short (i .type),
       decimal-short (i .index) hi,
-      decimal-short (i .name .size) hs,
+      size-short (i .name .size) (i .name .cut) hs,
       name-short s (i .name .start) (i .name .size),
     ))
 

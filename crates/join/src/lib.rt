@@ -1,8 +1,8 @@
 // Two code tables joined: the scopes and the rows of either, each once, in order. Both tables are walked at once: to count, and to find two different rows
 // for one scope and id; then to write.
-use codetable::CODES;
 use codetable::CODE_AT;
 use codetable::CODE_SIZE;
+use codetable::CODES;
 use codetable::HEADER_AT;
 use codetable::HEADER_COUNT_AT;
 use codetable::MOST_SCOPES;

@@ -251,7 +251,13 @@ fn put_head(out: &mut [u8], at: usize, table: &[u8]) -> usize
     let p = put_text(out, at, b"layout ");
     let p = put_hex(out, p, 2, byte_number(table, 0) as u32);
     let p = put_text(out, p, b" header");
-    let p = put_codes(out, p, table, HEADER_AT, byte_number(table, HEADER_COUNT_AT));
+    let p = put_codes(
+        out,
+        p,
+        table,
+        HEADER_AT,
+        byte_number(table, HEADER_COUNT_AT),
+    );
     put_byte(out, p, b'\n')
 }
 

@@ -7,12 +7,13 @@ use native.Mathlib.Omega.{arith}
 use native.Mathlib.Numerals.{add-one}
 use lib.ListN.{length, getD, take}
 use lib.Seq.{take-suc, take-all}
+use borrow.Author.Tests.{eq-eqb, ne-eqb}
 use Rattle.rules.specs.Lists.{text}
-use Rattle.rules.specs.Digits.{hex}
+use Rattle.rules.specs.Digits.{decimal, hex}
 use Rattle.rules.specs.Listing.{orDash}
 use Rattle.text.specs.Writer.{Wrote}
 use Rattle.text.proofs.Chain.{nothing, _⨟_}
-use Rattle.listing.specs.InfoLine.{isShown, nameByte, nameBytes}
+use Rattle.listing.specs.InfoLine.{isShown, nameByte, nameBytes, sizeColumn}
 
 -- ---- one byte
 pub shown : (b : ℕ) → isShown b ≡ true → nameByte b ≡ b ∷ []
@@ -22,6 +23,15 @@ shown b e = rw e
 pub escaped : (b : ℕ) → isShown b ≡ false → nameByte b ≡ (0x5C ∷ []) ++ hex 2 b
 unfolding nameByte
 escaped b e = rw e
+
+-- ---- how many they are
+pub whole-size : (size cut : ℕ) → cut ≡ 0 → sizeColumn size cut ≡ decimal size
+unfolding sizeColumn
+whole-size size cut e = rw (eq-eqb cut 0 e)
+
+pub cut-size : (size cut : ℕ) → ¬ (cut ≡ 0) → sizeColumn size cut ≡ decimal size ++ text "+"
+unfolding sizeColumn
+cut-size size cut e = rw (ne-eqb cut 0 e)
 
 -- ---- one more
 both : (a b : List ℕ) → nameBytes (a ++ b) ≡ nameBytes a ++ nameBytes b

@@ -13,14 +13,14 @@ use Rattle.text.proofs.Chain.{_⨟_}
 use Rattle.rows.specs.Get.{InfoOf}
 use Rattle.rows.specs.declared.InfoRow.{InfoRow}
 use Rattle.fields.specs.Parts.{fields}
-use Rattle.listing.specs.InfoLine.{nameBytes, infoLine}
+use Rattle.listing.specs.InfoLine.{nameBytes, sizeColumn, infoLine}
 
 module _ (stream : List ℕ) (n : ℕ) (row : List ℕ) where
   info-text : infoLine stream n row
       ≡ fields (text "T" ∷ decimal n ∷ hex 4 (word row 0) ∷ [])
       ++ (orDash (nameIn controlTypeNames (word row 0))
       ++ (text " " ++ (decimal (word row 1)
-      ++ (text " " ++ (decimal (word row 3)
+      ++ (text " " ++ (sizeColumn (word row 3) (word row 4)
       ++ (text " " ++ (orDash (nameBytes (part stream (word row 2) (word row 3)))
       ++ text "\n")))))))
   unfolding infoLine
@@ -31,9 +31,9 @@ module _ (stream : List ℕ) (n : ℕ) (row : List ℕ) where
       → Wrote o at (fields (text "T" ∷ decimal n ∷ hex 4 (r .«type_code») ∷ [])) b1 p1
       → Wrote b1 p1 (orDash (nameIn controlTypeNames (r .«type_code»))) b2 p2
       → Wrote b2 p2 (text " ") b3 p3 → Wrote b3 p3 (decimal (r .index)) b4 p4
-      → Wrote b4 p4 (text " ") b5 p5 → Wrote b5 p5 (decimal (r .size)) b6 p6
+      → Wrote b4 p4 (text " ") b5 p5 → Wrote b5 p5 (sizeColumn (r .size) (r .cut)) b6 p6
       → Wrote b6 p6 (text " ") b7 p7 → Wrote b7 p7 (orDash (nameBytes name)) b8 p8
       → Wrote b8 p8 (text "\n") new e
       → Wrote o at (infoLine stream n row) new e
   info-wrote h m w1 w2 w3 w4 w5 w6 w7 w8 w9 =
-      rw info-text (rw (m, h .type-code, h .index, h .start, h .size) at (w1 ⨟ w2 ⨟ w3 ⨟ w4 ⨟ w5 ⨟ w6 ⨟ w7 ⨟ w8 ⨟ w9))
+      rw info-text (rw (m, h .type-code, h .index, h .start, h .size, h .cut) at (w1 ⨟ w2 ⨟ w3 ⨟ w4 ⨟ w5 ⨟ w6 ⨟ w7 ⨟ w8 ⨟ w9))

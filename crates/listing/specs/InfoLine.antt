@@ -24,8 +24,12 @@ nameBytes [] = []
 nameBytes (b ∷ s) = nameByte b ++ nameBytes s
 
 -- ---- the line
--- number, type in hex, type name or `-`, index, bytes of the name, the name or `-`; by the words of the row: type, index, name start, name length
+-- how many bytes the name has; a name that was cut had so many or more
+unfoldable pub sizeColumn : ℕ → ℕ → List ℕ
+sizeColumn size cut = cond (eqb cut 0) (decimal size) (decimal size ++ text "+")
+
+-- number, type in hex, type name or `-`, index, bytes of the name, the name or `-`; by the words of the row: type, index, name start, name length, cut
 unfoldable pub infoLine : List ℕ → ℕ → List ℕ → List ℕ
 infoLine stream n row =
     line (text "T" ∷ decimal n ∷ hex 4 (word row 0) ∷ orDash (nameIn controlTypeNames (word row 0))
-    ∷ decimal (word row 1) ∷ decimal (word row 3) ∷ orDash (nameBytes (part stream (word row 2) (word row 3))) ∷ [])
+    ∷ decimal (word row 1) ∷ sizeColumn (word row 3) (word row 4) ∷ orDash (nameBytes (part stream (word row 2) (word row 3))) ∷ [])

@@ -20,7 +20,7 @@ ghost use Rattle.rules.specs.Rows.{controlWidth, propertyWidth, typeInfoWidth, 
 ghost use Rattle.rules.specs.Listing.{orDash, answerLine, controlLine, propertyLine};
 ghost use Rattle.names.specs.Lookup.{Lent};
 ghost use Rattle.text.specs.Writer.{Wrote};
-ghost use Rattle.listing.specs.InfoLine.{isShown, nameByte, nameBytes, infoLine};
+ghost use Rattle.listing.specs.InfoLine.{isShown, nameByte, nameBytes, sizeColumn, infoLine};
 ghost use Rattle.listing.specs.Shown.{lineOf, widthOf, linesTo};
 
 pub fn answer_line(out: &mut [u8], at: usize, a: Answer) -> usize
@@ -145,6 +145,17 @@ fn put_name(out: &mut [u8], at: usize, s: &[u8]) -> usize
     }
 }
 
+// How many bytes a name has; a name that was cut had so many or more.
+fn put_size(out: &mut [u8], at: usize, size: u32, cut: u32) -> usize
+    ensures { λ r. ⌜ Wrote (now (out .entry)) at (sizeColumn size cut) (now (out .exit)) r ⌝ }
+{
+    let p = put_decimal(out, at, size);
+    if cut == 0 {
+        return p;
+    }
+    put_byte(out, p, b'+')
+}
+
 // The T line of TypeInfo row `n`.
 fn info_line(
     out: &mut [u8],
@@ -165,7 +176,7 @@ fn info_line(
     let p = put_byte(out, p, b' ');
     let p = put_decimal(out, p, row.index);
     let p = put_byte(out, p, b' ');
-    let p = put_decimal(out, p, row.size);
+    let p = put_size(out, p, row.size, row.cut);
     let p = put_byte(out, p, b' ');
     let p = put_name(out, p, name);
     put_end(out, p)

@@ -28,3 +28,4 @@ pub record InfoOf (row : List ℕ) (r : InfoRow) : Type 0 where
   pub index : r .index ≡ word row 1
   pub start : r .start ≡ word row 2
   pub size : r .size ≡ word row 3
+  pub cut : r .cut ≡ word row 4

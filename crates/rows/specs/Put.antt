@@ -14,4 +14,4 @@ abbrev pub controlWords : ControlRow → List ℕ
 controlWords r = r .«type_code» ∷ r .mark ∷ r .start ∷ r .size ∷ r .first ∷ r .count ∷ []
 
 abbrev pub infoWords : InfoRow → List ℕ
-infoWords r = r .«type_code» ∷ r .index ∷ r .start ∷ r .size ∷ []
+infoWords r = r .«type_code» ∷ r .index ∷ r .start ∷ r .size ∷ r .cut ∷ []

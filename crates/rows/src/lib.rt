@@ -27,7 +27,7 @@ pub const CONTROL_WIDTH: usize = 6;
 pub const PROPERTY_WIDTH: usize = 6;
 
 // The same of a TypeInfo row.
-pub const INFO_WIDTH: usize = 4;
+pub const INFO_WIDTH: usize = 5;
 
 // The types of sections.
 const FIRST_SECTION: usize = 0x98;
@@ -55,6 +55,7 @@ pub struct InfoRow {
     pub index: u32,
     pub start: u32,
     pub size: u32,
+    pub cut: u32,
 }
 
 // What was counted from a place of a stream on: controls, their properties, and the place after them.
@@ -152,6 +153,7 @@ pub fn put_info(rows: &mut [u32], at: usize, row: InfoRow)
     rows[k + 1] = row.index;
     rows[k + 2] = row.start;
     rows[k + 3] = row.size;
+    rows[k + 4] = row.cut;
 }
 
 // 0 where the rows end before it.
@@ -203,6 +205,7 @@ pub fn get_info(rows: &[u32], n: u32) -> InfoRow
         index: word_at(rows, k + 1),
         start: word_at(rows, k + 2),
         size: word_at(rows, k + 3),
+        cut: word_at(rows, k + 4),
     }
 }
 

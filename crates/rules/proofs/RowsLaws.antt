@@ -36,7 +36,7 @@ module _ (w : ℕ) (rows : List (List ℕ)) (wide : Wide w rows) (old : List ℕ
   pub behind-written : drop (length rows * w) (written rows old) ≡ drop (length rows * w) old
   behind-written = ap (drop (length rows * w)) written-is ∙ drop-at (concat rows) _ _ (words-in w rows wide)
 
-row-of-words : (w : ℕ) (rows : List (List ℕ)) (rest : List ℕ) → Wide w rows → (i : ℕ) → i < length rows → rowAt w i (concat rows ++ rest) ≡ getD rows i []
+pub row-of-words : (w : ℕ) (rows : List (List ℕ)) (rest : List ℕ) → Wide w rows → (i : ℕ) → i < length rows → rowAt w i (concat rows ++ rest) ≡ getD rows i []
 unfolding concat
 row-of-words w [] rest h i l = absurd (omega arith)
 row-of-words w (r ∷ rs) rest h zero l = rw (append-assoc r (concat rs) rest, zero-mul w) (take-at r (concat rs ++ rest) w (h .0))

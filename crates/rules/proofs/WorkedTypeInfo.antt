@@ -1,5 +1,5 @@
 -- Worked streams of "TypeInfo", by computation. Two blanks part the fields of an entry: type code, two bytes, index, names.
-use Prim.Native.Nat.{ℕ, _<_}
+use Prim.Native.Nat.{ℕ, _-_, _<_}
 use native.Mathlib.Omega.{arith}
 use mathlib.Core.Path.{_≡_, refl}
 use mathlib.Core.Bool.{false}
@@ -27,11 +27,11 @@ info =
     ++ dump "77 02  00 00  03 00 00 00" ++ text "p\0Real\0" ++ replicate 36 0x01  -- a second name; 36 bytes more
     ++ dump "64 0C  00 00  04 03 02 01" ++ text "\0cut"  -- a name that the stream's end cuts
 
-pub a-type-info : typeInfoExit info (replicate 13 old) ≡ record {
+pub a-type-info : typeInfoExit info (replicate 16 old) ≡ record {
   answer = answer 0 3 0 0;
-  rows = 0x126D ∷ 1 ∷ 40 ∷ 2
-      ∷ 0x277 ∷ 3 ∷ 65 ∷ 4
-      ∷ 0xC64 ∷ 0x01020304 ∷ 115 ∷ 3
+  rows = 0x126D ∷ 1 ∷ 40 ∷ 2 ∷ 0
+      ∷ 0x277 ∷ 3 ∷ 65 ∷ 4 ∷ 0
+      ∷ 0xC64 ∷ 0x01020304 ∷ 115 ∷ 3 ∷ 1
       ∷ old ∷ [];
 }
 unfolding bytes-open type-info-open
@@ -51,19 +51,52 @@ types =
     ++ dump "78 00  00 00  08 00 00 00  00  00"  -- 0x78: none
     ++ dump "77 00  00 00  09 00 00 00  00  00" ++ replicate 35 0x41  -- 0x77: of 36 bytes one is missing
 
-pub types-and-names : typeInfoExit types (replicate 32 old) ≡ record {
+pub types-and-names : typeInfoExit types (replicate 40 old) ≡ record {
   answer = answer 0 8 0 0;
-  rows = 0x00FF ∷ 1 ∷ 40 ∷ 1
-      ∷ 0x1E00 ∷ 2 ∷ 51 ∷ 0
-      ∷ 0x1EFE ∷ 3 ∷ 62 ∷ 1
-      ∷ 0x1F00 ∷ 4 ∷ 75 ∷ 1
-      ∷ 0x7702 ∷ 6 ∷ 95 ∷ 0
-      ∷ 0x76 ∷ 7 ∷ 105 ∷ 0
-      ∷ 0x78 ∷ 8 ∷ 115 ∷ 0
-      ∷ 0x77 ∷ 9 ∷ 125 ∷ 0 ∷ [];
+  rows = 0x00FF ∷ 1 ∷ 40 ∷ 1 ∷ 0
+      ∷ 0x1E00 ∷ 2 ∷ 51 ∷ 0 ∷ 0
+      ∷ 0x1EFE ∷ 3 ∷ 62 ∷ 1 ∷ 0
+      ∷ 0x1F00 ∷ 4 ∷ 75 ∷ 1 ∷ 0
+      ∷ 0x7702 ∷ 6 ∷ 95 ∷ 0 ∷ 0
+      ∷ 0x76 ∷ 7 ∷ 105 ∷ 0 ∷ 0
+      ∷ 0x78 ∷ 8 ∷ 115 ∷ 0 ∷ 0
+      ∷ 0x77 ∷ 9 ∷ 125 ∷ 0 ∷ 0 ∷ [];
 }
 unfolding bytes-open type-info-open
 types-and-names = refl
+
+-- ---- names that the stream's end cuts. Wish 6: "1 if the name used ended at the stream's end, 0 if at a NUL"
+-- an entry with the names "ab" and "cd", whole and cut at each place after its index
+abbrev names : List ℕ
+names =
+    dump "F7 EA CD AC" ++ replicate 8 0x00 ++ dump "01 00 00 00" ++ replicate 16 0x00
+    ++ dump "64 0C  00 00  01 00 00 00" ++ text "ab\0cd\0"
+
+-- start, size and cut of the name of its row, where the stream's last n bytes are lost
+abbrev without : ℕ → List ℕ
+without n = drop 2 (typeInfoExit (take (46 - n) names) (replicate 5 old) .rows)
+
+pub names-cut :
+    (without 0 ≡ 43 ∷ 2 ∷ 0 ∷ [])  -- whole: the second name
+    × (without 1 ≡ 43 ∷ 2 ∷ 1 ∷ [])  -- its NUL is lost
+    × (without 2 ≡ 43 ∷ 1 ∷ 1 ∷ [])  -- within the second name
+    × (without 3 ≡ 40 ∷ 2 ∷ 0 ∷ [])  -- right after the first name's NUL: the first name is whole, that there was a second isn't told
+    × (without 4 ≡ 40 ∷ 2 ∷ 1 ∷ [])  -- the first name's NUL is lost
+    × (without 5 ≡ 40 ∷ 1 ∷ 1 ∷ [])  -- within the first name
+    × (without 6 ≡ 40 ∷ 0 ∷ 1 ∷ [])  -- no byte of a name is left: both are empty, and the first has no NUL
+unfolding bytes-open type-info-open
+names-cut = (refl, refl, refl, refl, refl, refl, refl)
+
+-- an entry that isn't reported is cut: the stream lost its tail, and no row says so
+abbrev cutUnreported : List ℕ
+cutUnreported =
+    dump "F7 EA CD AC" ++ replicate 8 0x00 ++ dump "02 00 00 00" ++ replicate 16 0x00
+    ++ dump "64 0C  00 00  01 00 00 00" ++ text "ab\0\0"
+    ++ dump "FF 1E  00 00  02 00 00 00" ++ text "c"
+
+pub cut-unreported : typeInfoExit cutUnreported (replicate 5 old) ≡ record { answer = answer 0 1 0 0; rows = 0x0C64 ∷ 1 ∷ 40 ∷ 2 ∷ 0 ∷ [] }
+unfolding bytes-open type-info-open
+cut-unreported = refl
 
 -- ---- refusals
 -- one byte; 40 of another magic
@@ -91,7 +124,7 @@ headerOnly = dump "F7 EA CD AC" ++ replicate 28 0x00
 abbrev countThird : List ℕ
 countThird = dump "F7 EA CD AC" ++ replicate 8 0x00 ++ dump "00 00 01 00" ++ replicate 16 0x00
 
-pub type-info-no-room : typeInfoExit info (replicate 11 old) ≡ record { answer = answer 6 3 0 0; rows = replicate 11 old }
+pub type-info-no-room : typeInfoExit info (replicate 14 old) ≡ record { answer = answer 6 3 0 0; rows = replicate 14 old }
 unfolding bytes-open type-info-open
 type-info-no-room = refl
 

@@ -5,7 +5,7 @@ use lib.ListN.{length, take, drop}
 use lib.Seq.{sets}
 use Rattle.rules.specs.Lists.{concat}
 
--- how many words a row has: "Control, six words"; "Property, six words"; "TypeInfo, four words"
+-- how many words a row has: "Control, six words"; "Property, six words"; wish 6 of document 02: "a fifth word in the TypeInfo row"
 abbrev pub controlWidth : ℕ
 controlWidth = 6
 
@@ -13,7 +13,7 @@ abbrev pub propertyWidth : ℕ
 propertyWidth = 6
 
 abbrev pub typeInfoWidth : ℕ
-typeInfoWidth = 4
+typeInfoWidth = 5
 
 -- "Row room is the lent length divided by the row's words, rounded down."
 abbrev pub room : ℕ → List ℕ → ℕ

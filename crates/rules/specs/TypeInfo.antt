@@ -11,19 +11,27 @@ use Rattle.rules.specs.Rows.{typeInfoWidth, room, written}
 use Rattle.rules.specs.declared.Answer.{Answer}
 
 -- ---- names
+-- `cut` is 1 where the stream's end ended the name, 0 where a NUL did
 pub record Named : Type 0 where
   pub start : ℕ
   pub size : ℕ
   pub next : ℕ
+  pub cut : ℕ
 
 -- how many bytes stand before the first NUL, or before the end
 unfoldable pub beforeNul : List ℕ → ℕ
 beforeNul [] = 0
 beforeNul (b ∷ s) = cond (eqb b 0) 0 (beforeNul s + 1)
 
--- "NUL-ended names; the stream's end also ends a name": the name at p, and the place behind its NUL
+-- "NUL-ended names; the stream's end also ends a name": the name at p, and the place after its NUL. Wish 6 of document 02: "The step that reads a
+-- NUL-ended name should also say whether the NUL was there"; "1 if the name used ended at the stream's end, 0 if at a NUL"
 unfoldable pub nulTerminated : List ℕ → ℕ → Named
-nulTerminated s p = record { start = p; size = beforeNul (drop p s); next = min (p + beforeNul (drop p s) + 1) (length s) }
+nulTerminated s p = record {
+  start = p;
+  size = beforeNul (drop p s);
+  next = min (p + beforeNul (drop p s) + 1) (length s);
+  cut = cond (ltb (p + beforeNul (drop p s)) (length s)) 0 1;
+}
 
 -- ---- entries
 pub record Info : Type 0 where
@@ -31,7 +39,7 @@ pub record Info : Type 0 where
   pub index : ℕ
   pub name : Named
 
--- "The second name is used unless it is empty, then the first."
+-- "The second name is used unless it is empty, then the first." "When both names are empty the word speaks of the first."
 abbrev pub used : Named → Named → Named
 used first second = cond (eqb (second .size) 0) first second
 
@@ -64,9 +72,9 @@ isReportedInfo i = not (eqb (i .type) 0x1EFF)
 unfoldable pub typeInfoOf : List ℕ → List Info
 typeInfoOf s = keep isReportedInfo (infosAt s 32 (u32 s 12))
 
--- "TypeInfo, four words: type code, index, name start, name length."
+-- "type code, index, name start, name length"; "a fifth word in the TypeInfo row", whether the name was cut
 abbrev pub typeInfoRow : Info → List ℕ
-typeInfoRow i = i .type ∷ i .index ∷ i .name .start ∷ i .name .size ∷ []
+typeInfoRow i = i .type ∷ i .index ∷ i .name .start ∷ i .name .size ∷ i .name .cut ∷ []
 
 unfoldable pub typeInfoRows : List ℕ → List (List ℕ)
 typeInfoRows s = map typeInfoRow (typeInfoOf s)

@@ -1,6 +1,6 @@
 // Where a code table first breaks one of document 01's rules, and which: specs/Rules.antt has them by number.
-use codetable::CODES;
 use codetable::CODE_SIZE;
+use codetable::CODES;
 use codetable::HEADER_AT;
 use codetable::MOST_HEADERS;
 use codetable::MOST_SCOPES;

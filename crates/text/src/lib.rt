@@ -1,7 +1,7 @@
 // Text in a lent buffer. A `put` function writes at a place and returns the place after it; what has no room is left out.
 use rules::Answer;
-use rules::NOT_A_GUID;
 use rules::NO_ROOM_FOR_TEXT;
+use rules::NOT_A_GUID;
 ghost use mathlib.Core.Path.{_≡_};
 ghost use mathlib.Core.List.{[], _∷_};
 ghost use Prim.Native.Nat.{_<_};

@@ -20,7 +20,7 @@ use Rattle.rows.proofs.PutLaws.{put-none, put-append}
 use Rattle.typeinfo.specs.Entries.{asNamed, asEntry, pastTail, reportedAt, oneIf, putIf, RowRoom}
 use Rattle.typeinfo.specs.declared.Named.{Named}
 use Rattle.typeinfo.specs.declared.Entry.{Entry}
-use Rattle.typeinfo.proofs.NulLaws.{name-within, next-within}
+use Rattle.rules.proofs.TypeInfoLaws.{name-within, next-within}
 
 -- ---- the bytes behind the names
 low : (type : ℕ) → type % 256 ≡ bitAnd type 0xFF
@@ -52,19 +52,19 @@ module _ (s : List ℕ) (p type index next : ℕ) (a b : Named)
   behind = is-next ∙ ap₂ (λ t n. pastTail (length s) t n) is-type (ap (λ (n : Named). n .next) second)
 
   with-name : (n : Named) → n ≡ asNamed (infoAt s p .name)
-      → _≡_ {A = Entry} (record { «type_code» = type; index = index; start = n .start; size = n .size; next = next }) (asEntry (infoAt s p) (nextInfo s p))
+      → _≡_ {A = Entry} (record { «type_code» = type; index = index; start = n .start; size = n .size; cut = n .cut; next = next }) (asEntry (infoAt s p) (nextInfo s p))
   unfolding infoAt
-  with-name n e = λ i. record { «type_code» = is-type i; index = is-index i; start = e i .start; size = e i .size; next = behind i }
+  with-name n e = λ i. record { «type_code» = is-type i; index = is-index i; start = e i .start; size = e i .size; cut = e i .cut; next = behind i }
 
   pub uses-first : b .size ≡ 0
-      → _≡_ {A = Entry} (record { «type_code» = type; index = index; start = a .start; size = a .size; next = next }) (asEntry (infoAt s p) (nextInfo s p))
+      → _≡_ {A = Entry} (record { «type_code» = type; index = index; start = a .start; size = a .size; cut = a .cut; next = next }) (asEntry (infoAt s p) (nextInfo s p))
   unfolding infoAt
   uses-first z =
       let e = eq-eqb (secondName s p .size) 0 (ap (λ (n : Named). n .size) (sym second) ∙ z) in
       with-name a (is-first ∙ ap (λ t. asNamed (cond t (firstName s p) (secondName s p))) (sym e))
 
   pub uses-second : (b .size ≡ 0 → ⊥)
-      → _≡_ {A = Entry} (record { «type_code» = type; index = index; start = b .start; size = b .size; next = next }) (asEntry (infoAt s p) (nextInfo s p))
+      → _≡_ {A = Entry} (record { «type_code» = type; index = index; start = b .start; size = b .size; cut = b .cut; next = next }) (asEntry (infoAt s p) (nextInfo s p))
   unfolding infoAt
   uses-second z =
       let e = ne-eqb (secondName s p .size) 0 (λ h. z (ap (λ (n : Named). n .size) second ∙ h)) in
@@ -128,7 +128,7 @@ module _ (rows : List ℕ) (at : ℕ) (e : Entry) where
   unfolding putIf
   put-nothing h = rw (eq-eqb (e .«type_code») 0x1EFF h) (sym (put-none typeInfoWidth rows at))
 
-  pub put-row : (e .«type_code» ≡ 0x1EFF → ⊥) → put typeInfoWidth rows at ((e .«type_code» ∷ e .index ∷ e .start ∷ e .size ∷ []) ∷ []) ≡ put typeInfoWidth rows at (putIf e)
+  pub put-row : (e .«type_code» ≡ 0x1EFF → ⊥) → put typeInfoWidth rows at ((e .«type_code» ∷ e .index ∷ e .start ∷ e .size ∷ e .cut ∷ []) ∷ []) ≡ put typeInfoWidth rows at (putIf e)
   unfolding putIf
   put-row h = rw (ne-eqb (e .«type_code») 0x1EFF h)
 

@@ -2,7 +2,7 @@
 use Prim.Native.Nat.{ℕ, suc, _+_, _-_, _≤_, _<_, min}
 use native.Mathlib.Omega.{arith}
 use native.Mathlib.Numerals.{add-one}
-use mathlib.Core.Path.{_≡_, refl, _∙_}
+use mathlib.Core.Path.{_≡_, refl, sym, _∙_}
 use mathlib.Core.Bool.{Bool, true, false, cond}
 use mathlib.Core.List.{List, [], _∷_}
 use lib.Dec.{eqb}
@@ -10,6 +10,7 @@ use lib.ListN.{length, getD, drop, length-drop}
 use lib.Seq.{drop-cons}
 use borrow.Author.Tests.{eq-eqb, ne-eqb}
 use Rattle.rules.specs.TypeInfo.{beforeNul, nulTerminated}
+use Rattle.rules.proofs.TypeInfoLaws.{name-within, next-within, at-nul, at-end}
 use Rattle.typeinfo.specs.Entries.{asNamed}
 use Rattle.typeinfo.specs.declared.Named.{Named}
 
@@ -30,36 +31,19 @@ no-nul (b ∷ l) e = absurd (omega arith)
 pub nul-end : (s : List ℕ) (i : ℕ) → length s ≤ i → beforeNul (drop i s) ≡ 0
 nul-end s i h = no-nul (drop i s) (length-drop i s ∙ omega arith)
 
--- ---- a name ends within the stream, and so does what is passed over for it
-within-by : (n m : ℕ) (b : Bool) → n ≤ m → cond b 0 (n + 1) ≤ suc m
-within-by n m true h = omega arith
-within-by n m false h = omega arith
-
-within : (l : List ℕ) → beforeNul l ≤ length l
-unfolding beforeNul
-within [] = omega arith
-within (b ∷ l) = within-by (beforeNul l) (length l) (eqb b 0) (within l)
-
-pub name-within : (s : List ℕ) (p : ℕ) → p ≤ length s → p + beforeNul (drop p s) ≤ length s
-name-within s p h = omega (arith, within (drop p s), length-drop p s)
-
-pub next-within : (s : List ℕ) (p : ℕ) → nulTerminated s p .next ≤ length s
-unfolding nulTerminated
-next-within s p = omega arith
-
+-- ---- the name at p, where its bytes end at e
 pub next-of : (s : List ℕ) (p : ℕ) (n : Named) → n ≡ asNamed (nulTerminated s p) → n .next ≤ length s
 next-of s p n e = rw e (next-within s p)
 
--- ---- the name at p, where its bytes end at e
-named : (s : List ℕ) (p size next : ℕ) → size ≡ beforeNul (drop p s) → next ≡ min (p + beforeNul (drop p s) + 1) (length s)
-    → _≡_ {A = Named} (record { start = p; size = size; next = next }) (asNamed (nulTerminated s p))
+named : (s : List ℕ) (p size next cut : ℕ) → size ≡ beforeNul (drop p s) → next ≡ min (p + beforeNul (drop p s) + 1) (length s) → cut ≡ nulTerminated s p .cut
+    → _≡_ {A = Named} (record { start = p; size = size; next = next; cut = cut }) (asNamed (nulTerminated s p))
 unfolding nulTerminated
-named s p size next a b = λ i. record { start = p; size = a i; next = b i }
+named s p size next cut a b c = λ i. record { start = p; size = a i; next = b i; cut = c i }
 
 pub ended-by-nul : (s : List ℕ) (p e : ℕ) → e ≡ p + beforeNul (drop p s) → e < length s
-    → _≡_ {A = Named} (record { start = p; size = e - p; next = e + 1 }) (asNamed (nulTerminated s p))
-ended-by-nul s p e h k = named s p (e - p) (e + 1) (omega arith) (omega arith)
+    → _≡_ {A = Named} (record { start = p; size = e - p; next = e + 1; cut = 0 }) (asNamed (nulTerminated s p))
+ended-by-nul s p e h k = named s p (e - p) (e + 1) 0 (omega arith) (omega arith) (sym (at-nul s p (omega arith) .0))
 
 pub ended-by-end : (s : List ℕ) (p e : ℕ) → e ≡ p + beforeNul (drop p s) → p ≤ length s → length s ≤ e
-    → _≡_ {A = Named} (record { start = p; size = e - p; next = e }) (asNamed (nulTerminated s p))
-ended-by-end s p e h k l = named s p (e - p) e (omega arith) (omega (arith, name-within s p k))
+    → _≡_ {A = Named} (record { start = p; size = e - p; next = e; cut = 1 }) (asNamed (nulTerminated s p))
+ended-by-end s p e h k l = named s p (e - p) e 1 (omega arith) (omega (arith, name-within s p k)) (sym (at-end s p (omega arith) .0))

@@ -18,10 +18,10 @@ use Rattle.typeinfo.specs.declared.Header.{Header}
 use Rattle.typeinfo.specs.declared.Header.the-variants.{Entries, Refused}
 
 abbrev pub asNamed : info.Named → Named
-asNamed n = record { start = n .start; size = n .size; next = n .next }
+asNamed n = record { start = n .start; size = n .size; next = n .next; cut = n .cut }
 
 abbrev pub asEntry : Info → ℕ → Entry
-asEntry i next = record { «type_code» = i .type; index = i .index; start = i .name .start; size = i .name .size; next = next }
+asEntry i next = record { «type_code» = i .type; index = i .index; start = i .name .start; size = i .name .size; cut = i .name .cut; next = next }
 
 -- the place behind an entry whose names end at `next`
 unfoldable pub pastTail : ℕ → ℕ → ℕ → ℕ
@@ -50,7 +50,7 @@ oneIf type = cond (eqb type 0x1EFF) 0 1
 
 -- the entry's row, where it is reported
 unfoldable pub putIf : Entry → List (List ℕ)
-putIf e = cond (eqb (e .«type_code») 0x1EFF) [] ((e .«type_code» ∷ e .index ∷ e .start ∷ e .size ∷ []) ∷ [])
+putIf e = cond (eqb (e .«type_code») 0x1EFF) [] ((e .«type_code» ∷ e .index ∷ e .start ∷ e .size ∷ e .cut ∷ []) ∷ [])
 
 -- there is room for the entry's row, and its words fit
 pub record RowRoom (rows : List ℕ) (at : ℕ) (e : Entry) : Type 0 where

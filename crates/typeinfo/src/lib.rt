@@ -1,4 +1,4 @@
-// The TypeInfo reader: entries are counted first, then written as rows of four words. Names stay bytes of the stream.
+// The TypeInfo reader: entries are counted first, then written as rows. Names stay bytes of the stream.
 use numbers::u16_inside;
 use numbers::u32_at;
 use numbers::u32_inside;
@@ -41,11 +41,12 @@ const ACTIVE_X_TAIL: usize = 36;
 // The type of an entry that isn't reported.
 const UNREPORTED: u16 = 0x1EFF;
 
-// Where a name stands, and the place after its NUL.
+// Where a name stands, and the place after its NUL. `cut` is 1 where the stream's end ended it, 0 where a NUL did.
 pub struct Named {
     pub start: usize,
     pub size: usize,
     pub next: usize,
+    pub cut: u32,
 }
 
 // An entry, and where the next one starts.
@@ -54,6 +55,7 @@ pub struct Entry {
     pub index: u32,
     pub start: usize,
     pub size: usize,
+    pub cut: u32,
     pub next: usize,
 }
 
@@ -94,12 +96,14 @@ fn nul_terminated(s: &[u8], start: usize) -> Named
             start,
             size: end - start,
             next: end + 1,
+            cut: 0,
         };
     }
     Named {
         start,
         size: end - start,
         next: end,
+        cut: 1,
     }
 }
 
@@ -133,6 +137,7 @@ fn type_info_entry(s: &[u8], at: usize) -> Entry
             index,
             start: first.start,
             size: first.size,
+            cut: first.cut,
             next,
         };
     }
@@ -141,6 +146,7 @@ fn type_info_entry(s: &[u8], at: usize) -> Entry
         index,
         start: second.start,
         size: second.size,
+        cut: second.cut,
         next,
     }
 }
@@ -231,6 +237,7 @@ fn put_reported(rows: &mut [u32], at: usize, e: Entry) -> usize
             index: e.index,
             start: e.start as u32,
             size: e.size as u32,
+            cut: e.cut,
         },
     );
     at + 1
@@ -257,7 +264,7 @@ fn write_entries(s: &[u8], count: u32, rows: &mut [u32]) -> usize
     at
 }
 
-// Reads TypeInfo into rows of type code, index, name start and name length.
+// Reads TypeInfo into rows of type code, index, name start, name length, and whether the name was cut.
 pub fn read_type_info(stream: &[u8], rows: &mut [u32]) -> Answer
     ensures { λ r. ⌜ r ≡ typeInfoExit (now (stream .entry)) (now (rows .entry)) .answer ⌝ }
     ensures { λ _. ⌜ now (rows .exit) ≡ typeInfoExit (now (stream .entry)) (now (rows .entry)) .rows ⌝ }

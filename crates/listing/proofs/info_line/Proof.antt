@@ -23,7 +23,7 @@ unfolding head-of name-bytes-of row-of start-of
 returns c =
     let name : tie.After-put-name = search in
     let blank-3 : tie.After-put-byte3 = search in
-    let size : tie.After-put-decimal2 = search in
+    let size : tie.After-put-size = search in
     let blank-2 : tie.After-put-byte2 = search in
     let index : tie.After-put-decimal = search in
     let blank : tie.After-put-byte = search in
@@ -40,7 +40,7 @@ returns c =
     (blank .put-byte .ensures)
     (index .put-decimal .ensures)
     (blank-2 .put-byte2 .ensures)
-    (size .put-decimal2 .ensures)
+    (size .put-size .ensures)
     (blank-3 .put-byte3 .ensures)
     (name .put-name .ensures)
     (c .before .before .put-end .ensures)
