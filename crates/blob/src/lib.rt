@@ -2,6 +2,7 @@
 use rules::Answer;
 use rules::BAD_TABLE;
 use rules::LONGEST;
+use rules::OTHER_LAYOUT;
 use rules::TOO_LONG;
 ghost use mathlib.Core.Path.{_≡_};
 ghost use mathlib.Core.List.{[]};
@@ -15,9 +16,6 @@ ghost use Rattle.rules.specs.Blob.{speaks2000, is2000, readBy, exit, exit2000, 
 ghost use Rattle.rules.specs.NamePart.{namePart, partBytes};
 ghost use Rattle.rows.specs.Judge.{Exits};
 ghost use Rattle.blob.specs.Exit.{exited, partOr, placeOr, partPlace};
-
-// The refusals that come before a reading.
-const OTHER_LAYOUT: u32 = 15;
 
 fn refused(number: u32) -> Answer
     ensures { λ r. ⌜ r ≡ refusal number ⌝ }

@@ -21,7 +21,7 @@ use Rattle.rules.specs.declared.Name.the-variants.{Text, Numbered}
 
 -- ---- scopes
 -- kind 0 form, 1 report, 2 entry
-pub record Place : Type 0 where
+pub record ScopeKey : Type 0 where
   pub kind : ℕ
   pub code : ℕ
 
@@ -30,15 +30,15 @@ unfoldable pub isReport : List ℕ → Bool
 isReport s = eqb (byte s 8) 0x97
 
 -- "the scope of the object's run"
-unfoldable pub objectPlace : List ℕ → Place
-objectPlace s = record { kind = cond (isReport s) 1 0; code = 0 }
+unfoldable pub objectScope : List ℕ → ScopeKey
+objectScope s = record { kind = cond (isReport s) 1 0; code = 0 }
 
 -- "An entry's scope is its type as stored."
-abbrev pub entryPlace : ℕ → Place
-entryPlace type = record { kind = 2; code = type }
+abbrev pub entryScope : ℕ → ScopeKey
+entryScope type = record { kind = 2; code = type }
 
 -- the table's row for an id in a scope, if it has one
-abbrev pub tied : List ℕ → Place → ℕ → Option Tie
+abbrev pub tied : List ℕ → ScopeKey → ℕ → Option Tie
 tied t w id = rowOf t (w .kind) (w .code) id
 
 -- ---- properties
@@ -53,7 +53,7 @@ abbrev pub shown : List ℕ → Prop → Option Tie → Property
 shown s q none = property (bitOr 0x8000 (q .id)) (storedValue (q .id) (bytesOf s q)) q
 shown s q (some r) = property (r .target) (valueAs (r .kind) (q .id) (bytesOf s q)) q
 
-unfoldable pub propertyIn : List ℕ → List ℕ → Place → Prop → Property
+unfoldable pub propertyIn : List ℕ → List ℕ → ScopeKey → Prop → Property
 propertyIn t s w q = shown s q (tied t w (q .id))
 
 -- ---- controls
@@ -77,25 +77,25 @@ unfoldable pub controlOf : List ℕ → List ℕ → Node Prop → Control
 controlOf t s n = record {
   type = typeCode (header t) (isReport s) (n .type);
   name = nameOf s n;
-  properties = map (propertyIn t s (entryPlace (n .type))) (n .props);
+  properties = map (propertyIn t s (entryScope (n .type))) (n .props);
 }
 
 unfoldable pub read2000 : List ℕ → List ℕ → List Prop × Entries Prop → Reading
 read2000 t s x = record {
-  own = map (propertyIn t s (objectPlace s)) (x .0);
+  own = map (propertyIn t s (objectScope s)) (x .0);
   controls = map (controlOf t s) (nodesOf (x .1));
 }
 
 -- ---- which scope and which stored property each property row comes from, by the stream alone
 pub record Spot : Type 0 where
-  pub scope : Place
+  pub scope : ScopeKey
   pub prop : Prop
 
-abbrev pub spotIn : Place → Prop → Spot
+abbrev pub spotIn : ScopeKey → Prop → Spot
 spotIn w q = record { scope = w; prop = q }
 
 abbrev pub nodeSpots : Node Prop → List Spot
-nodeSpots n = map (spotIn (entryPlace (n .type))) (n .props)
+nodeSpots n = map (spotIn (entryScope (n .type))) (n .props)
 
 unfoldable pub spotsOf : List ℕ → List Prop × Entries Prop → List Spot
-spotsOf s x = map (spotIn (objectPlace s)) (x .0) ++ concat (map nodeSpots (nodesOf (x .1)))
+spotsOf s x = map (spotIn (objectScope s)) (x .0) ++ concat (map nodeSpots (nodesOf (x .1)))
