@@ -11,17 +11,17 @@ use Rattle.rules.specs.Tree.{Entry, Entries, isReported, levels}
 use Rattle.rules.specs.Later as later
 use Rattle.rules.specs.Later.{Prop, isInside, lengthAt, endAt, trailerAt, groupAt, childrenAt, nodeAt, nodesAt, scanFrom, objectGroup, treeOf, nodesBy}
 use Rattle.rows.specs.Counting.{propsIn}
-use Rattle.countlater.specs.declared.Item.{Item}
+use Rattle.countlater.specs.declared.Extent.{Extent}
 use Rattle.countlater.specs.declared.Group.{Group}
 use Rattle.countlater.specs.declared.Children.{Children}
 use Rattle.countlater.specs.declared.Head.{Head}
-use Rattle.countlater.specs.declared.Section.{Section}
+use Rattle.countlater.specs.declared.TopNode.{TopNode}
 use Rattle.countlater.specs.declared.Scanned.{Scanned}
 use Rattle.countlater.specs.declared.Counts.{Counts}
 
 -- the property at p, where it ends within the limit
-abbrev pub item : List ℕ → ℕ → ℕ → Item
-item s limit p = cond (isInside s limit p) (Item.Inside (lengthAt s p) (endAt s p) (trailerAt s p)) Item.Outside
+abbrev pub extent : List ℕ → ℕ → ℕ → Extent
+extent s limit p = cond (isInside s limit p) (Extent.Inside (lengthAt s p) (endAt s p) (trailerAt s p)) Extent.Outside
 
 abbrev pub groupBy : ℕ → ℕ → Option ℕ → Group
 groupBy n p none = Group.Unended n p
@@ -56,13 +56,13 @@ abbrev pub oneNode : ℕ → List ℕ → ℕ → Option (Entry Prop × ℕ)
 oneNode d s p = nodeAt s (nodesAt d s) p
 
 -- is a top node left out? Then where the next one starts
-abbrev pub sectionBy : Bool → ℕ → Section
-sectionBy true e = Section.Kept
-sectionBy false e = Section.Left e
+abbrev pub topNodeBy : Bool → ℕ → TopNode
+topNodeBy true e = TopNode.Reported
+topNodeBy false e = TopNode.Skipped e
 
-abbrev pub section : {P : Type 0} → Option (Entry P × ℕ) → Section
-section none = Section.Kept
-section (some x) = sectionBy (isReported (x .0)) (x .1)
+abbrev pub topNode : {P : Type 0} → Option (Entry P × ℕ) → TopNode
+topNode none = TopNode.Reported
+topNode (some x) = topNodeBy (isReported (x .0)) (x .1)
 
 -- the nodes behind the object's group, where they use up the stream
 unfoldable pub wholeTree : List ℕ → ℕ → ℕ → Option (Entries Prop × ℕ)

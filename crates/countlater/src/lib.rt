@@ -1,4 +1,5 @@
 // Counts what a stream of the later layout has: groups, nodes and the scan.
+use matchlater::MATCH_SIZE;
 use matchlater::find_match;
 use numbers::u16_at;
 use numbers::u32_at;
@@ -9,11 +10,35 @@ ghost use Prim.Native.Nat.{_+_, _≤_};
 ghost use lib.ListN.{length};
 ghost use Rattle.rules.specs.Later.{endsGroup, groupAt, childrenAt, nodesAt};
 ghost use Rattle.rows.specs.Counting.{tally1, tally, tallyTop};
-ghost use Rattle.countlater.specs.Count.{item, group, children, head, oneNode, section, wholeTree, ScanCounted, CountedBy, Counted};
+ghost use Rattle.countlater.specs.Count.{extent, group, children, head, oneNode, topNode, wholeTree, ScanCounted, CountedBy, Counted};
+
+// A property's parts, from its start on: id, type, 4 bytes, length, value, trailer. Where its length and its value stand, and the bytes that it has beside its value.
+const LENGTH_AT: usize = 10;
+
+pub const VALUE_AT: usize = 14;
+
+const TRAILER_SIZE: usize = 4;
+
+const PROPERTY_LEAST: usize = 18;
+
+// The trailers that end a group: no children, one child, a count that follows.
+const NO_CHILD: u32 = 253;
+
+const ONE_CHILD: u32 = 254;
+
+const MANY_CHILDREN: u32 = 255;
+
+// Where the object's group starts, and where a node's does, from the node on.
+pub const OBJECT_AT: usize = 14;
+
+pub const GROUP_AT: usize = 6;
+
+// How many levels there may be below a top node.
+const BELOW_TOP: usize = 255;
 
 // ---- properties and groups
-// A property: its value's size, where the next one starts, and its trailer.
-pub enum Item {
+// A property inside its group: its value's size, where the next one starts, and its trailer.
+pub enum Extent {
     Outside,
     Inside(usize, usize, u32),
 }
@@ -35,7 +60,7 @@ pub enum Children {
     Of { count: usize, next: usize },
 }
 
-// What stands before a node's children: how many properties it has, how many children, and where they start.
+// A node's head: how many properties it has, how many children, and where they start.
 pub enum Head {
     Bad,
     Of {
@@ -45,10 +70,10 @@ pub enum Head {
     },
 }
 
-// A top node is reported, or it is passed over.
-pub enum Section {
-    Kept,
-    Left { next: usize },
+// A top node is reported, or it is skipped.
+pub enum TopNode {
+    Reported,
+    Skipped { next: usize },
 }
 
 pub struct Scanned {
@@ -64,27 +89,27 @@ pub struct Counts {
 }
 
 // The property at `at`. What is compared is what is left, since a stored length can be near 2^32.
-pub fn parse_entry(s: &[u8], limit: usize, at: usize) -> Item
-    ensures { λ r. ⌜ r ≡ item (now (s .entry)) limit at ⌝ }
+pub fn parse_entry(s: &[u8], limit: usize, at: usize) -> Extent
+    ensures { λ r. ⌜ r ≡ extent (now (s .entry)) limit at ⌝ }
 {
     if limit < at {
-        return Item::Outside;
+        return Extent::Outside;
     }
-    if limit - at < 18 {
-        return Item::Outside;
+    if limit - at < PROPERTY_LEAST {
+        return Extent::Outside;
     }
-    let size = u32_at(s, at + 10) as usize;
-    if limit - at - 18 < size {
-        return Item::Outside;
+    let size = u32_at(s, at + LENGTH_AT) as usize;
+    if limit - at - PROPERTY_LEAST < size {
+        return Extent::Outside;
     }
-    let trailer = u32_at(s, at + 14 + size);
-    Item::Inside(size, at + 14 + size + 4, trailer)
+    let trailer = u32_at(s, at + VALUE_AT + size);
+    Extent::Inside(size, at + VALUE_AT + size + TRAILER_SIZE, trailer)
 }
 
 pub fn ends_group(trailer: u32) -> bool
     ensures { λ r. ⌜ r ≡ endsGroup trailer ⌝ }
 {
-    253 <= trailer && trailer <= 255
+    NO_CHILD <= trailer && trailer <= MANY_CHILDREN
 }
 
 // Counts the properties of the group at `at`, which reaches to `limit` at most.
@@ -96,10 +121,10 @@ fn parse_group(s: &[u8], limit: usize, at: usize) -> Group
     let mut n: usize = 0;
     loop {
         match parse_entry(s, limit, p) {
-            Item::Outside => {
+            Extent::Outside => {
                 return Group::Unended { count: n, stop: p };
             }
-            Item::Inside(_, next, trailer) => {
+            Extent::Inside(_, next, trailer) => {
                 n = n + 1;
                 p = next;
                 if ends_group(trailer) {
@@ -118,10 +143,10 @@ fn parse_group(s: &[u8], limit: usize, at: usize) -> Group
 pub fn children_at(s: &[u8], trailer: u32, at: usize) -> Children
     ensures { λ r. ⌜ r ≡ children (childrenAt (now (s .entry)) trailer at) ⌝ }
 {
-    if trailer == 253 {
+    if trailer == NO_CHILD {
         return Children::Of { count: 0, next: at };
     }
-    if trailer == 254 {
+    if trailer == ONE_CHILD {
         return Children::Of { count: 1, next: at };
     }
     if s.len() < at {
@@ -148,7 +173,7 @@ fn head_at(s: &[u8], at: usize) -> Head
         count,
         stop,
         trailer,
-    } = parse_group(s, s.len(), at + 6)
+    } = parse_group(s, s.len(), at + GROUP_AT)
     else {
         return Head::Bad;
     };
@@ -219,31 +244,31 @@ fn parse_nodes(s: &[u8], n: usize, at: usize, left: usize) -> Tally
     }
 }
 
-// Is the top node at `at` reported? It is where its type is a section's, or where it has a child.
-pub fn section_at(s: &[u8], at: usize) -> Section
-    ensures { λ r. ⌜ r ≡ section (oneNode 255 (now (s .entry)) at) ⌝ }
+// Is the top node at `at` reported? It is where its type is a topNode's, or where it has a child.
+pub fn top_node_at(s: &[u8], at: usize) -> TopNode
+    ensures { λ r. ⌜ r ≡ topNode (oneNode 255 (now (s .entry)) at) ⌝ }
 {
     if is_section(u16_at(s, at) as usize) {
-        return Section::Kept;
+        return TopNode::Reported;
     }
     match head_at(s, at) {
-        Head::Bad => Section::Kept,
+        Head::Bad => TopNode::Reported,
         Head::Of {
             count: _,
             below: count,
             next,
         } => {
             if 0 < count {
-                Section::Kept
+                TopNode::Reported
             } else {
-                Section::Left { next }
+                TopNode::Skipped { next }
             }
         }
     }
 }
 
 // Counts the reported of the `n` top nodes from `at` on, with all below them.
-fn sections(s: &[u8], n: usize, at: usize) -> Tally
+fn top_nodes(s: &[u8], n: usize, at: usize) -> Tally
     ensures { λ r. ⌜ r ≡ tallyTop (nodesAt 256 (now (s .entry)) n at) ⌝ }
 {
     let mut p = at;
@@ -251,12 +276,12 @@ fn sections(s: &[u8], n: usize, at: usize) -> Tally
     let mut all: usize = 0;
     let mut theirs: usize = 0;
     while 0 < k {
-        match section_at(s, p) {
-            Section::Left { next } => {
+        match top_node_at(s, p) {
+            TopNode::Skipped { next } => {
                 p = next;
                 k = k - 1;
             }
-            Section::Kept => match parse_node(s, p, 255) {
+            TopNode::Reported => match parse_node(s, p, BELOW_TOP) {
                 Tally::Bad => {
                     return Tally::Bad;
                 }
@@ -280,14 +305,14 @@ fn sections(s: &[u8], n: usize, at: usize) -> Tally
     }
 }
 
-// Counts the tree behind the object's group, which ended by `trailer` at `at`. It must use up the stream.
+// Counts the tree after the object's group, which ended by `trailer` at `at`. It must use up the stream.
 fn controls_of_tree(s: &[u8], trailer: u32, at: usize) -> Tally
     ensures { λ r. ⌜ r ≡ tallyTop (wholeTree (now (s .entry)) trailer at) ⌝ }
 {
     let Children::Of { count: n, next: q } = children_at(s, trailer, at) else {
         return Tally::Bad;
     };
-    match sections(s, n, q) {
+    match top_nodes(s, n, q) {
         Tally::Bad => Tally::Bad,
         Tally::Of {
             controls,
@@ -309,7 +334,7 @@ fn controls_of_tree(s: &[u8], trailer: u32, at: usize) -> Tally
 
 // ---- the scan
 // How many properties the group has that reaches from a match to the next one.
-fn section_size(s: &[u8], limit: usize, at: usize) -> usize
+fn group_size(s: &[u8], limit: usize, at: usize) -> usize
     requires { ⌜ limit ≤ length (now s) ⌝ }
     ensures { λ r. ⌜ r ≡ length (groupAt (now (s .entry)) limit at .props) ⌝ }
 {
@@ -332,8 +357,8 @@ fn scan_control_sections(s: &[u8], from: usize) -> Scanned
     let mut all: usize = 0;
     let mut theirs: usize = 0;
     while a < s.len() {
-        let b = find_match(s, a + 6);
-        let n = section_size(s, b, a);
+        let b = find_match(s, a + MATCH_SIZE);
+        let n = group_size(s, b, a);
         if 0 < n {
             all = all + 1;
             theirs = theirs + n;
@@ -368,7 +393,7 @@ pub fn count(s: &[u8]) -> Counts
     requires { ⌜ 14 ≤ length (now s) ⌝ }
     ensures { λ r. ⌜ Counted (now (s .entry)) r ⌝ }
 {
-    match parse_group(s, s.len(), 14) {
+    match parse_group(s, s.len(), OBJECT_AT) {
         Group::Unended { count, stop } => count_scanned(s, count, stop),
         Group::Ended {
             count,

@@ -13,10 +13,10 @@ use Rattle.rules.specs.Tree.{Entry, parent, Entries, end, more, levelsAt, manyA
 use Rattle.rules.specs.Later.{Prop, groupAt, childrenAt, withChildren, nodeAt, nodesAt}
 use Rattle.rules.proofs.ListLaws.{Every, every-if, every-at}
 use Rattle.rows.proofs.LevelLaws.{levels-none, levels-more, isMore}
-use Rattle.countlater.specs.Count.{children, oneNode, section}
+use Rattle.countlater.specs.Count.{children, oneNode, topNode}
 use Rattle.countlater.specs.declared.Children.{Children}
-use Rattle.countlater.specs.declared.Section.{Section}
-use Rattle.countlater.proofs.NodeLaws.{children-of, children-bad, section-kept, section-left}
+use Rattle.countlater.specs.declared.TopNode.{TopNode}
+use Rattle.countlater.proofs.NodeLaws.{children-of, children-bad, top-reported, top-skipped}
 use Rattle.cursor.specs.Walk.{Step, closeBy, entryBy}
 use Rattle.cursor.specs.Stack.{Moved}
 use Rattle.cursor.specs.Cursors.{topAt, PastReady, Past}
@@ -84,13 +84,13 @@ unfolding nodesAt
 top-same s p = node-same s (nodeAt s) 255 p ∙ ap (λ below. entryBy (stepAt s) below p) (λ i m q. nodes-by s 255 m q i)
 
 -- ---- a top node that is reported, or can't be read, and one that is passed over
-module _ (s : List ℕ) (p : ℕ) (r : Section) (re : r ≡ section (oneNode 255 s p)) where
-  pub kept-top : r ≡ Section.Kept → Every (λ e. isReported (e .0) ≡ true) (topAt (stepAt s) p)
-  kept-top rk = rw (← top-same s p) (section-kept (oneNode 255 s p) r re rk)
+module _ (s : List ℕ) (p : ℕ) (r : TopNode) (re : r ≡ topNode (oneNode 255 s p)) where
+  pub kept-top : r ≡ TopNode.Reported → Every (λ e. isReported (e .0) ≡ true) (topAt (stepAt s) p)
+  kept-top rk = rw (← top-same s p) (top-reported (oneNode 255 s p) r re rk)
 
-  pub left-top : (next : ℕ) → r ≡ Section.Left next → (e : Entry Prop) × (topAt (stepAt s) p ≡ some (e, next)) × (isReported e ≡ false)
+  pub left-top : (next : ℕ) → r ≡ TopNode.Skipped next → (e : Entry Prop) × (topAt (stepAt s) p ≡ some (e, next)) × (isReported e ≡ false)
   left-top next rk =
-      let x = section-left (oneNode 255 s p) r next re rk in
+      let x = top-skipped (oneNode 255 s p) r next re rk in
       (x .0, sym (top-same s p) ∙ x .2, x .1)
 
 -- ---- a count fits its word

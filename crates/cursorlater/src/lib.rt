@@ -1,8 +1,8 @@
 // A walk over the nodes of a later stream that fits a tree, by a loop.
 use countlater::Children;
-use countlater::Section;
+use countlater::TopNode;
 use countlater::children_at;
-use countlater::section_at;
+use countlater::top_node_at;
 use cursor::Cursor;
 use cursor::STACK_WORDS;
 use cursor::after_entry;
@@ -23,12 +23,12 @@ pub fn reported(s: &[u8], c: Cursor) -> Cursor
     let mut at = c.at;
     let mut left = c.left;
     while 0 < left {
-        match section_at(s, at) {
-            Section::Left { next } => {
+        match top_node_at(s, at) {
+            TopNode::Skipped { next } => {
                 at = next;
                 left = left - 1;
             }
-            Section::Kept => {
+            TopNode::Reported => {
                 return Cursor {
                     at,
                     level,

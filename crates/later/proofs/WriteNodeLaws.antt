@@ -24,9 +24,9 @@ use Rattle.rows.proofs.ActLaws.{at-place}
 use Rattle.rows.proofs.RemainLaws.{Remain, remain-start, remain-as, ready-first, remain-step, remain-done}
 use Rattle.matchlater.specs.Match.{NextMatch}
 use Rattle.matchlater.proofs.MatchLaws.{scan-same, scan-step, scan-end}
-use Rattle.countlater.specs.Count.{item, groupIn, childrenOf}
-use Rattle.countlater.specs.declared.Item.{Item}
-use Rattle.countlater.proofs.PassedLaws.{Inside, item-inside, item-outside, props-some, props-none}
+use Rattle.countlater.specs.Count.{extent, groupIn, childrenOf}
+use Rattle.countlater.specs.declared.Extent.{Extent}
+use Rattle.countlater.proofs.PassedLaws.{Inside, extent-inside, extent-outside, props-some, props-none}
 use Rattle.countlater.proofs.ScanLaws.{shown-some, shown-none}
 use Rattle.later.specs.Write.{PropertyInside, trailerOr0, propsAt, GroupReady, GroupDone, groupControl, next, stateAt, ControlReady, ControlDone, scannedControl, scanned, ScanReady, ScanDone}
 use Rattle.later.specs.declared.WrittenGroup.{WrittenGroup}
@@ -117,13 +117,13 @@ module _ (s : List ℕ) (limit a : ℕ) (h : limit ≤ length s) (t : isInside s
       ap (λ name. groupControl s 0 name limit a) m
 
 module _ {s : List ℕ} {from : ℕ} {old : State} {a : ℕ} {cs : List ℕ} {ci : ℕ} {ps : List ℕ} {pi : ℕ} (known : Sweeping s from old a (state cs ci ps pi)) (l : a < length s) {b : ℕ}
-    (n : NextMatch s (a + 6) b) {r : Item} (re : r ≡ item s b a) where
+    (n : NextMatch s (a + 6) b) {r : Extent} (re : r ≡ extent s b a) where
   abbrev here : State
   here = state cs ci ps pi
 
-  pub sweeping-same : r ≡ Item.Outside → Sweeping s from old b here
+  pub sweeping-same : r ≡ Extent.Outside → Sweeping s from old b here
   sweeping-same rk =
-      let e = shown-none (groupAt s b a .props) (props-none s b a (n .within) (item-outside s b a r re rk)) in
+      let e = shown-none (groupAt s b a .props) (props-none s b a (n .within) (extent-outside s b a r re rk)) in
       record {
         within = n .within;
         here = n .here;
@@ -133,9 +133,9 @@ module _ {s : List ℕ} {from : ℕ} {old : State} {a : ℕ} {cs : List ℕ} {ci
         properties-same = known .properties-same;
       }
 
-  module _ {z e t : ℕ} (rk : r ≡ Item.Inside z e t) where
+  module _ {z e t : ℕ} (rk : r ≡ Extent.Inside z e t) where
     inside : Inside s b a z e t
-    inside = item-inside s b a r z e t re rk
+    inside = extent-inside s b a r z e t re rk
 
     pub match-inside : PropertyInside s a z
     match-inside = record { small = known .remain .ready .known; within = omega (arith, inside .next, inside .size, inside .within, n .within); is = inside .size }

@@ -1,6 +1,9 @@
 // The later layout's reader: a stream counted, then written as rows.
 use countlater::Children;
-use countlater::Item;
+use countlater::Extent;
+use countlater::GROUP_AT;
+use countlater::OBJECT_AT;
+use countlater::VALUE_AT;
 use countlater::children_at;
 use countlater::count;
 use countlater::ends_group;
@@ -9,6 +12,7 @@ use cursor::Cursor;
 use cursor::STACK_WORDS;
 use cursorlater::past;
 use cursorlater::reported;
+use matchlater::MATCH_SIZE;
 use matchlater::find_match;
 use numbers::u16_at;
 use numbers::u32_at;
@@ -24,7 +28,7 @@ use rules::Name;
 use rules::Property;
 ghost use mathlib.Core.Path.{_≡_};
 ghost use mathlib.Core.Option.{some};
-ghost use Prim.Native.Nat.{_+_, _≤_};
+ghost use Prim.Native.Nat.{_≤_};
 ghost use lib.ListN.{length};
 ghost use Rattle.rules.specs.Answer.{longest};
 ghost use Rattle.rules.specs.Later.{propertyAt, nodesAt};
@@ -33,7 +37,10 @@ ghost use Rattle.rows.specs.Writing.{state};
 ghost use Rattle.rows.specs.Acts.{topNodes};
 ghost use Rattle.rows.specs.Judge.{Written, Exits};
 ghost use Rattle.countlater.specs.Count.{wholeTree};
-ghost use Rattle.later.specs.Write.{nodeName, PropertyInside, GroupReady, GroupDone, ControlReady, ControlDone, NodesReady, NodesDone, treeControl, ScanReady, ScanDone, BlobReady};
+ghost use Rattle.later.specs.Write.{nodeName, PropertyInside, GroupReady, GroupDone, ControlReady, ControlDone, NodesReady, NodesDone, ScanReady, ScanDone, BlobReady};
+
+// Where a property's type stands, from its start on.
+const TYPE_AT: usize = 2;
 
 // The id of a control's name.
 const NAME_ID: u16 = 0x14;
@@ -55,9 +62,9 @@ fn property_at(s: &[u8], at: usize, size: usize) -> Property
     requires { ⌜ PropertyInside (now s) at size ⌝ }
     ensures { λ r. ⌜ r ≡ propertyOf (now (s .entry)) (propertyAt (now (s .entry)) at) ⌝ }
 {
-    let start = at + 14;
+    let start = at + VALUE_AT;
     let end = start + size;
-    let value = entry_value(u32_at(s, at + 2), &s[start..end]);
+    let value = entry_value(u32_at(s, at + TYPE_AT), &s[start..end]);
     Property {
         id: u16_at(s, at) as u32,
         value,
@@ -102,10 +109,10 @@ fn node_name(s: &[u8], at: usize) -> Name
     let mut p = at;
     loop {
         match parse_entry(s, s.len(), p) {
-            Item::Outside => {
+            Extent::Outside => {
                 return Name::Numbered;
             }
-            Item::Inside(size, next, trailer) => {
+            Extent::Inside(size, next, trailer) => {
                 if u16_at(s, p) == NAME_ID {
                     return name_by(property_at(s, p, size));
                 }
@@ -127,14 +134,14 @@ fn write_group(s: &[u8], limit: usize, at: usize, rows: &mut [u32], first: usize
     let mut n = first;
     loop {
         match parse_entry(s, limit, p) {
-            Item::Outside => {
+            Extent::Outside => {
                 return WrittenGroup {
                     count: n - first,
                     stop: p,
                     trailer: 0,
                 };
             }
-            Item::Inside(size, next, trailer) => {
+            Extent::Inside(size, next, trailer) => {
                 let q = property_at(s, p, size);
                 put_property(rows, n, q);
                 n = n + 1;
@@ -202,12 +209,12 @@ fn write_sections(
     let mut j = property;
     while 0 < c.left {
         let place = c.at;
-        let name = node_name(s, place + 6);
+        let name = node_name(s, place + GROUP_AT);
         let w = write_control(
             s,
             s.len(),
             Next {
-                at: place + 6,
+                at: place + GROUP_AT,
                 control: i,
                 property: j,
             },
@@ -242,12 +249,12 @@ fn write_scanned(
     let mut i: usize = 0;
     let mut j = property;
     while a < s.len() {
-        let limit = find_match(s, a + 6);
+        let limit = find_match(s, a + MATCH_SIZE);
         match parse_entry(s, limit, a) {
-            Item::Outside => {
+            Extent::Outside => {
                 a = limit;
             }
-            Item::Inside(size, _, _) => {
+            Extent::Inside(size, _, _) => {
                 let name = text_name(property_at(s, a, size));
                 let w = write_control(
                     s,
@@ -275,7 +282,7 @@ fn write_scanned(
     }
 }
 
-// Writes the tree behind the object's group, which ended by `trailer` at `at`.
+// Writes the tree after the object's group, which ended by `trailer` at `at`.
 fn write_tree(
     s: &[u8],
     trailer: u32,
@@ -304,7 +311,7 @@ fn write_blob(s: &[u8], tree: bool, controls: &mut [u32], properties: &mut [u32]
     requires { ⌜ BlobReady (now s) tree (now controls) (now properties) ⌝ }
     ensures { λ _. ⌜ Written (readLater (now (s .entry))) (now (controls .entry)) (now (properties .entry)) (now (controls .exit)) (now (properties .exit)) ⌝ }
 {
-    let w = write_group(s, s.len(), 14, properties, 0);
+    let w = write_group(s, s.len(), OBJECT_AT, properties, 0);
     if tree {
         write_tree(s, w.trailer, w.stop, controls, properties, w.count);
     } else {
@@ -317,7 +324,7 @@ pub fn read(stream: &[u8], controls: &mut [u32], properties: &mut [u32]) -> Answ
     requires { ⌜ length (now stream) ≤ longest ⌝ }
     ensures { λ r. ⌜ Exits (some (readLater (now (stream .entry)))) (now (controls .entry)) (now (properties .entry)) r (now (controls .exit)) (now (properties .exit)) ⌝ }
 {
-    if stream.len() < 14 {
+    if stream.len() < OBJECT_AT {
         return counted(0, 0, 0, 0);
     }
     let n = count(stream);

@@ -1,7 +1,7 @@
 use native.Mathlib.Omega.{arith}
 use borrow.Author.Needs.{needs}
 use Prim.Native.Nat.{_+_, _-_, _≤_}
-use Rattle.countlater.proofs.PassedLaws.{Passed, passed-start, passed-none, passed-last, passed-more, item-inside}
+use Rattle.countlater.proofs.PassedLaws.{Passed, passed-start, passed-none, passed-last, passed-more, extent-inside}
 use Rattle.countlater.proofs.parse_group.Statement.{statement}
 use Rattle.countlater.proofs.parse_group.Tie as tie
 
@@ -20,9 +20,9 @@ parse-group-spec =
     (λ c κs. search needs) (λ c. search needs)
     (λ c. passed-none _ _ _ _ _ (c .before .before .before .before .before .pre) (c .before .before .before .loop .inv .1) _ (c .before .before .parse-entry .ensures) (c .enum-told .given .1))
     (λ c. search needs)
-    (λ c. omega (arith, item-inside _ _ _ _ _ _ _ (c .before .before .before .parse-entry .ensures) (c .before .next .given .1)))
+    (λ c. omega (arith, extent-inside _ _ _ _ _ _ _ (c .before .before .before .parse-entry .ensures) (c .before .next .given .1)))
     (λ c κs. search needs)
     (λ c. passed-last _ _ _ _ _ (c .before .before .before .before .before .before .before .before .pre) (c .before .before .before .before .before .before .loop .inv .1) _ (c .before .before .before .before .before .parse-entry .ensures) _ _ _ (c .before .before .before .next .given .1) _ (c .before .ends-group .ensures) (c .if1 .taken))
-    (λ c. omega (arith, item-inside _ _ _ _ _ _ _ (c .before .before .before .before .before .parse-entry .ensures) (c .before .before .before .next .given .1)))
-    (λ c. let i = item-inside _ _ _ _ _ _ _ (c .before .before .before .before .before .parse-entry .ensures) (c .before .before .before .next .given .1) in
+    (λ c. omega (arith, extent-inside _ _ _ _ _ _ _ (c .before .before .before .before .before .parse-entry .ensures) (c .before .before .before .next .given .1)))
+    (λ c. let i = extent-inside _ _ _ _ _ _ _ (c .before .before .before .before .before .parse-entry .ensures) (c .before .before .before .next .given .1) in
     (omega (arith, i .room, c .before .before .before .before .before .before .loop .inv .0), passed-more _ _ _ _ _ (c .before .before .before .before .before .before .before .before .pre) (c .before .before .before .before .before .before .loop .inv .1) _ (c .before .before .before .before .before .parse-entry .ensures) _ _ _ (c .before .before .before .next .given .1) _ (c .before .ends-group .ensures) (c .if1 .left))))

@@ -21,11 +21,11 @@ returns c = passed-none _ _ _ (omega arith)
 loop-again : tie.Need-loop-again Inv-loop μ-loop
 loop-again c =
     let b5 = c .before .before .before .before .before in
-    let x = left-top _ _ _ (c .before .before .before .section-at .ensures) _ (c .before .next .given .1) in
+    let x = left-top _ _ _ (c .before .before .before .top-node-at .ensures) _ (c .before .next .given .1) in
     (passing-next (b5 .loop .inv .0) (omega arith) (omega arith) (x .0) _ (x .1) (x .2), omega arith)
 
 returns-2 : tie.Need-returns-2 Inv-loop μ-loop
-returns-2 c = passed-some (c .before .before .before .before .loop .inv .0) (omega arith) (kept-top _ _ _ (c .before .before .section-at .ensures) (c .enum-told .given .1))
+returns-2 c = passed-some (c .before .before .before .before .loop .inv .0) (omega arith) (kept-top _ _ _ (c .before .before .top-node-at .ensures) (c .enum-told .given .1))
 
 returns-3 : tie.Need-returns-3 Inv-loop μ-loop
 returns-3 c = passed-all (c .before .loop .inv .0) (omega arith) (omega arith)

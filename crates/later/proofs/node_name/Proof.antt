@@ -4,7 +4,7 @@ use mathlib.Core.Path.{_≡_, refl, sym, ap, _∙_}
 use Prim.Native.Nat.{_-_}
 use lib.ListN.{length}
 use Rattle.rules.specs.ReadLater.{nameBy}
-use Rattle.countlater.proofs.PassedLaws.{item-inside}
+use Rattle.countlater.proofs.PassedLaws.{extent-inside}
 use Rattle.later.specs.Write.{nodeName}
 use Rattle.later.proofs.WriteGroupLaws.{inside-property, name-none, name-found, name-last, name-more}
 use Rattle.later.proofs.node_name.Statement.{statement}
@@ -51,7 +51,7 @@ loop-less : tie.Need-loop-less Inv-loop μ-loop
 loop-less c =
     let parsed : tie.After-parse-entry Inv-loop μ-loop = search in
     let size : tie.After-size Inv-loop μ-loop = search in
-    omega (arith, item-inside _ _ _ _ _ _ _ (parsed .parse-entry .ensures) (size .size .given .1))
+    omega (arith, extent-inside _ _ _ _ _ _ _ (parsed .parse-entry .ensures) (size .size .given .1))
 
 loop-again : tie.Need-loop-again Inv-loop μ-loop
 loop-again c =

@@ -2,7 +2,7 @@ use native.Mathlib.Omega.{arith}
 use borrow.Author.Needs.{needs}
 use mathlib.Core.Path.{_∙_}
 use Prim.Native.Nat.{_-_}
-use Rattle.countlater.proofs.PassedLaws.{item-inside}
+use Rattle.countlater.proofs.PassedLaws.{extent-inside}
 use Rattle.later.proofs.WriteGroupLaws.{Writing, writing-start, writing-none, inside-property, writing-room, writing-last, writing-more}
 use Rattle.later.proofs.write_group.Statement.{statement}
 use Rattle.later.proofs.write_group.Tie as tie
@@ -62,7 +62,7 @@ loop-less : tie.Need-loop-less Inv-loop μ-loop
 loop-less c =
     let parsed : tie.After-parse-entry Inv-loop μ-loop = search in
     let size : tie.After-size Inv-loop μ-loop = search in
-    omega (arith, item-inside _ _ _ _ _ _ _ (parsed .parse-entry .ensures) (size .size .given .1))
+    omega (arith, extent-inside _ _ _ _ _ _ _ (parsed .parse-entry .ensures) (size .size .given .1))
 
 loop-again : tie.Need-loop-again Inv-loop μ-loop
 loop-again c =

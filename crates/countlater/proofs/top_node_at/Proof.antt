@@ -3,11 +3,11 @@ use borrow.Author.Needs.{needs}
 use mathlib.Core.Path.{sym, ap, _∙_}
 use Rattle.rules.specs.Tree.{isSection}
 use Rattle.countlater.proofs.NodeLaws.{headed, unheaded, shown-none, shown-type, shown-filled, shown-leaf}
-use Rattle.countlater.proofs.section_at.Statement.{statement}
-use Rattle.countlater.proofs.section_at.Tie as tie
+use Rattle.countlater.proofs.top_node_at.Statement.{statement}
+use Rattle.countlater.proofs.top_node_at.Tie as tie
 
-pub section-at-spec : {M : Type 1} → statement M
-section-at-spec =
+pub top-node-at-spec : {M : Type 1} → statement M
+top-node-at-spec =
     tie.close
     (tie.spec
     (λ c κs. search needs) (λ c. search needs) (λ c κs. search needs)

@@ -1,10 +1,10 @@
 use borrow.Author.Needs.{needs}
 use Rattle.countlater.proofs.NodeLaws.{size-open, size-ended}
-use Rattle.countlater.proofs.section_size.Statement.{statement}
-use Rattle.countlater.proofs.section_size.Tie as tie
+use Rattle.countlater.proofs.group_size.Statement.{statement}
+use Rattle.countlater.proofs.group_size.Tie as tie
 
-pub section-size-spec : {M : Type 1} → statement M
-section-size-spec =
+pub group-size-spec : {M : Type 1} → statement M
+group-size-spec =
     tie.close
     (tie.spec
     (λ c κs. search needs) (λ c. search needs) (λ c. search needs)

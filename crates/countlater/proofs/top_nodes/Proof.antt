@@ -6,8 +6,8 @@ use borrow.Author.Tests.{eqb-false}
 use Rattle.rules.specs.Later.{nodeAt, nodesAt}
 use Rattle.rows.proofs.TakenLaws.{Choosing, choosing-start, choosing-all, choosing-left, choosing-bad, choosing-more}
 use Rattle.countlater.proofs.NodeLaws.{node-fits, kept-tally, left-tally, left-behind}
-use Rattle.countlater.proofs.sections.Statement.{statement}
-use Rattle.countlater.proofs.sections.Tie as tie
+use Rattle.countlater.proofs.top_nodes.Statement.{statement}
+use Rattle.countlater.proofs.top_nodes.Tie as tie
 
 abbrev Inv-loop : tie.InvT-loop
 Inv-loop s n at p₀ k₀ all₀ theirs₀ p k all theirs = (at + all + theirs ≤ p) × Choosing (nodeAt s) 256 n at all theirs k p
@@ -15,20 +15,20 @@ Inv-loop s n at p₀ k₀ all₀ theirs₀ p k all theirs = (at + all + theirs �
 abbrev μ-loop : tie.MeasureT-loop
 μ-loop s n at p₀ k₀ all₀ theirs₀ p k all theirs = k
 
-pub sections-spec : {M : Type 1} → statement M
+pub top-nodes-spec : {M : Type 1} → statement M
 unfolding nodesAt
-sections-spec =
+top-nodes-spec =
     tie.close
     (tie.spec
     Inv-loop μ-loop
     (λ c. (omega arith, choosing-start))
     (λ c κs. search needs) (λ c. search needs) (λ c. search needs) (λ c. search needs)
     (λ c. (
-      omega (arith, left-behind _ _ _ _ _ (c .before .before .before .section-at .ensures) (c .before .next .given .1)),
-      choosing-left (c .before .before .before .before .before .loop .inv .1) (eqb-false 256 0 refl) (c .before .before .before .before .loop-test .taken) _ (left-tally _ _ _ _ (c .before .before .before .section-at .ensures) _ (c .before .next .given .1)),
+      omega (arith, left-behind _ _ _ _ _ (c .before .before .before .top-node-at .ensures) (c .before .next .given .1)),
+      choosing-left (c .before .before .before .before .before .loop .inv .1) (eqb-false 256 0 refl) (c .before .before .before .before .loop-test .taken) _ (left-tally _ _ _ _ (c .before .before .before .top-node-at .ensures) _ (c .before .next .given .1)),
     ))
     (λ c. search needs) (λ c κs. search needs) (λ c. search needs)
-    (λ c. choosing-bad (c .before .before .before .before .before .before .before .loop .inv .1) (eqb-false 256 0 refl) (c .before .before .before .before .before .before .loop-test .taken) _ (c .before .before .parse-node .ensures ∙ sym (kept-tally _ _ _ _ (c .before .before .before .before .before .section-at .ensures) (c .before .before .before .enum-told .given .1))) (c .enum-told2 .given .1))
+    (λ c. choosing-bad (c .before .before .before .before .before .before .before .loop .inv .1) (eqb-false 256 0 refl) (c .before .before .before .before .before .before .loop-test .taken) _ (c .before .before .parse-node .ensures ∙ sym (kept-tally _ _ _ _ (c .before .before .before .before .before .top-node-at .ensures) (c .before .before .before .enum-told .given .1))) (c .enum-told2 .given .1))
     (λ c. search needs)
     (λ c. omega (arith, node-fits _ _ _ _ _ _ _ (c .before .before .before .parse-node .ensures) (c .before .controls .given .1)))
     (λ c. omega (arith, node-fits _ _ _ _ _ _ _ (c .before .before .before .parse-node .ensures) (c .before .controls .given .1)))
@@ -36,6 +36,6 @@ sections-spec =
     (λ c. (
       omega (arith, node-fits _ _ _ _ _ _ _ (c .before .before .before .parse-node .ensures) (c .before .controls .given .1)),
       let at-parse-node = c .before .before .before in let at-enum-told = at-parse-node .before in let at-section-at = at-enum-told .before .before in let in-turn = at-section-at .before in let turn = in-turn .before in
-          choosing-more (turn .loop .inv .1) (eqb-false 256 0 refl) (in-turn .loop-test .taken) _ (at-parse-node .parse-node .ensures ∙ sym (kept-tally _ _ _ _ (at-section-at .section-at .ensures) (at-enum-told .enum-told .given .1))) _ _ _ (c .before .controls .given .1),
+          choosing-more (turn .loop .inv .1) (eqb-false 256 0 refl) (in-turn .loop-test .taken) _ (at-parse-node .parse-node .ensures ∙ sym (kept-tally _ _ _ _ (at-section-at .top-node-at .ensures) (at-enum-told .enum-told .given .1))) _ _ _ (c .before .controls .given .1),
     ))
     (λ c. choosing-all (c .before .loop .inv .1) (c .loop-test .left)))
