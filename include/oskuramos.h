@@ -196,23 +196,18 @@ oskuramos_answer oskuramos_label_text(uint32_t n, uint8_t *out, size_t out_lengt
 bool oskuramos_is_utf16(const uint8_t *bytes, size_t bytes_length);
 
 /* ---- names by id */
-enum { OSKURAMOS_NAME_ROOM = 26 };
+/* Bytes that are more than enough for every name of this version. */
+enum { OSKURAMOS_NAME_ROOM = 64 };
 
-/* The name's ASCII bytes with zeros behind them; one of 26 letters has no zero: print it with "%.*s". Where nothing has the id, found is false
-   and the length 0. */
-typedef struct {
-    bool found;
-    uint8_t bytes[OSKURAMOS_NAME_ROOM];
-    size_t length;
-} oskuramos_name;
-
-oskuramos_name oskuramos_text_name(uint16_t id);
-oskuramos_name oskuramos_number_name(uint16_t id);
-oskuramos_name oskuramos_bytes_name(uint16_t id);
-oskuramos_name oskuramos_control_type_name(uint16_t id);
+/* Writes the name's ASCII bytes, without a NUL: print them with "%.*s". Answers 0 with the length written, 0 where nothing has the id; or 9 where
+   the name doesn't fit. Bytes after it keep their values. */
+oskuramos_answer oskuramos_text_name(uint16_t id, uint8_t *out, size_t out_length);
+oskuramos_answer oskuramos_number_name(uint16_t id, uint8_t *out, size_t out_length);
+oskuramos_answer oskuramos_bytes_name(uint16_t id, uint8_t *out, size_t out_length);
+oskuramos_answer oskuramos_control_type_name(uint16_t id, uint8_t *out, size_t out_length);
 
 /* The name of a property by its value's mark and its id: that of the table which the mark uses. */
-oskuramos_name oskuramos_value_name(uint32_t mark, uint16_t id);
+oskuramos_answer oskuramos_value_name(uint32_t mark, uint16_t id, uint8_t *out, size_t out_length);
 
 /* ---- values */
 /* The marks. Low and high are 0 where nothing is said of them. */

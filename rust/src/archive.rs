@@ -3,8 +3,6 @@
 //! A slice is handed over as a pointer with its length behind it, counted in elements, and is lent for the call alone. No function asks more of its
 //! caller: each pointer is to as many elements as its length says, and the borrow checker keeps a slice that is written apart from the others.
 
-use crate::format::NAME_ROOM;
-
 /// The answer number and three counts.
 #[repr(C)]
 pub struct Answer {
@@ -20,14 +18,6 @@ pub struct Value {
     pub mark: u32,
     pub low: u32,
     pub high: u32,
-}
-
-/// A name's bytes with zeros behind them.
-#[repr(C)]
-pub struct Name {
-    pub found: bool,
-    pub bytes: [u8; NAME_ROOM],
-    pub length: usize,
 }
 
 /// A part of the stream (source 0) or of the label (source 1).
@@ -74,11 +64,11 @@ extern "C" {
     fn oskuramos_guid_text(guid: *const u8, guid_length: usize, out: *mut u8, out_length: usize) -> Answer;
     fn oskuramos_label_text(n: u32, out: *mut u8, out_length: usize) -> Answer;
     fn oskuramos_is_utf16(bytes: *const u8, bytes_length: usize) -> bool;
-    fn oskuramos_text_name(id: u16) -> Name;
-    fn oskuramos_number_name(id: u16) -> Name;
-    fn oskuramos_bytes_name(id: u16) -> Name;
-    fn oskuramos_control_type_name(id: u16) -> Name;
-    fn oskuramos_value_name(mark: u32, id: u16) -> Name;
+    fn oskuramos_text_name(id: u16, out: *mut u8, out_length: usize) -> Answer;
+    fn oskuramos_number_name(id: u16, out: *mut u8, out_length: usize) -> Answer;
+    fn oskuramos_bytes_name(id: u16, out: *mut u8, out_length: usize) -> Answer;
+    fn oskuramos_control_type_name(id: u16, out: *mut u8, out_length: usize) -> Answer;
+    fn oskuramos_value_name(mark: u32, id: u16, out: *mut u8, out_length: usize) -> Answer;
     fn oskuramos_entry_value(type_code: u32, bytes: *const u8, bytes_length: usize) -> Value;
     fn oskuramos_stored_value(id: u8, bytes: *const u8, bytes_length: usize) -> Value;
     fn oskuramos_value_as(kind: u8, id: u8, bytes: *const u8, bytes_length: usize) -> Value;
@@ -145,24 +135,24 @@ pub fn is_utf16(bytes: &[u8]) -> bool {
     unsafe { oskuramos_is_utf16(bytes.as_ptr(), bytes.len()) }
 }
 
-pub fn text_name(id: u16) -> Name {
-    unsafe { oskuramos_text_name(id) }
+pub fn text_name(id: u16, out: &mut [u8]) -> Answer {
+    unsafe { oskuramos_text_name(id, out.as_mut_ptr(), out.len()) }
 }
 
-pub fn number_name(id: u16) -> Name {
-    unsafe { oskuramos_number_name(id) }
+pub fn number_name(id: u16, out: &mut [u8]) -> Answer {
+    unsafe { oskuramos_number_name(id, out.as_mut_ptr(), out.len()) }
 }
 
-pub fn bytes_name(id: u16) -> Name {
-    unsafe { oskuramos_bytes_name(id) }
+pub fn bytes_name(id: u16, out: &mut [u8]) -> Answer {
+    unsafe { oskuramos_bytes_name(id, out.as_mut_ptr(), out.len()) }
 }
 
-pub fn control_type_name(id: u16) -> Name {
-    unsafe { oskuramos_control_type_name(id) }
+pub fn control_type_name(id: u16, out: &mut [u8]) -> Answer {
+    unsafe { oskuramos_control_type_name(id, out.as_mut_ptr(), out.len()) }
 }
 
-pub fn value_name(mark: u32, id: u16) -> Name {
-    unsafe { oskuramos_value_name(mark, id) }
+pub fn value_name(mark: u32, id: u16, out: &mut [u8]) -> Answer {
+    unsafe { oskuramos_value_name(mark, id, out.as_mut_ptr(), out.len()) }
 }
 
 pub fn entry_value(type_code: u32, bytes: &[u8]) -> Value {

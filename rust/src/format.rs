@@ -18,8 +18,8 @@ pub const GUID_BYTES: usize = 16;
 pub const GUID_TEXT: usize = 38;
 /// Bytes of the longest label of a numbered control.
 pub const LABEL_LONGEST: usize = 18;
-/// Room for a name by id.
-pub const NAME_ROOM: usize = 26;
+/// Room that is more than enough for every name by id of this version.
+pub const NAME_ROOM: usize = 64;
 /// Bytes of the longest code table that is well formed.
 pub const TABLE_LONGEST: usize = 65_100;
 /// What a raw code that the code table lacks is joined with.

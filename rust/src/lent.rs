@@ -5,7 +5,9 @@
 
 use crate::archive;
 use crate::format::OF_STREAM;
-pub use crate::format::{CONTROL_WORDS, GUID_TEXT, LABEL_LONGEST, LONGEST, PROPERTY_WORDS, STACK, TABLE_LONGEST, TYPE_INFO_WORDS};
+pub use crate::format::{
+    CONTROL_WORDS, GUID_TEXT, LABEL_LONGEST, LONGEST, NAME_ROOM, PROPERTY_WORDS, STACK, TABLE_LONGEST, TYPE_INFO_WORDS,
+};
 use crate::refused::{of_blob, of_type_info, of_written, Counts, Refused};
 
 /// Type code, name mark, name start, name length, first property row, property count.

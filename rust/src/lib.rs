@@ -40,25 +40,25 @@ pub fn well_formed(table: &[u8]) -> bool {
 
 /// The name of a text value's id.
 pub fn text_name(id: u16) -> Option<Name> {
-    Name::found(archive::text_name(id))
+    Name::written(|out| archive::text_name(id, out))
 }
 
 /// The name of a number's id.
 pub fn number_name(id: u16) -> Option<Name> {
-    Name::found(archive::number_name(id))
+    Name::written(|out| archive::number_name(id, out))
 }
 
 /// The name of the id of a GUID or of binary.
 pub fn bytes_name(id: u16) -> Option<Name> {
-    Name::found(archive::bytes_name(id))
+    Name::written(|out| archive::bytes_name(id, out))
 }
 
 /// The name of a control's type.
 pub fn control_type_name(type_code: u16) -> Option<Name> {
-    Name::found(archive::control_type_name(type_code))
+    Name::written(|out| archive::control_type_name(type_code, out))
 }
 
 /// The name of a property, in the table that its value's mark uses.
 pub fn value_name(mark: u32, id: u16) -> Option<Name> {
-    Name::found(archive::value_name(mark, id))
+    Name::written(|out| archive::value_name(mark, id, out))
 }

@@ -1,6 +1,6 @@
 //! Text of the stream, GUIDs, and names by id.
 
-use crate::format::{GUID_BYTES, GUID_TEXT, NAME_ROOM};
+use crate::format::{answer, GUID_BYTES, GUID_TEXT, NAME_ROOM};
 use crate::{archive, lent};
 use std::fmt::{self, Debug, Display, Formatter};
 use std::ops::Deref;
@@ -118,20 +118,41 @@ impl Display for Guid {
 /// assert_eq!(&*name, "Left");
 /// assert_eq!(format!("{name:>6}"), "  Left");
 /// ```
-#[derive(Clone, Copy, PartialEq, Eq, Hash)]
-pub struct Name {
-    bytes: [u8; NAME_ROOM],
-    length: usize,
+#[derive(Clone, PartialEq, Eq, Hash)]
+pub struct Name(Bytes);
+
+/// Only a name that doesn't fit into the room is allocated.
+#[derive(Clone, PartialEq, Eq, Hash)]
+enum Bytes {
+    Short([u8; NAME_ROOM], usize),
+    Long(Vec<u8>),
 }
 
 impl Name {
-    pub(crate) fn found(name: archive::Name) -> Option<Name> {
-        name.found.then_some(Name { bytes: name.bytes, length: name.length })
+    /// What a look-up writes into room enough; nothing where no name has the id.
+    pub(crate) fn written(look_up: impl Fn(&mut [u8]) -> archive::Answer) -> Option<Name> {
+        let mut bytes = [0; NAME_ROOM];
+        let answer = look_up(&mut bytes);
+        if answer.number == answer::READ {
+            return (answer.first > 0).then_some(Name(Bytes::Short(bytes, answer.first as usize)));
+        }
+        let mut bytes = vec![0; 2 * NAME_ROOM];
+        loop {
+            let answer = look_up(&mut bytes);
+            if answer.number == answer::READ {
+                bytes.truncate(answer.first as usize);
+                return Some(Name(Bytes::Long(bytes)));
+            }
+            bytes.resize(2 * bytes.len(), 0);
+        }
     }
 
     /// The name.
     pub fn as_str(&self) -> &str {
-        ascii(&self.bytes[..self.length])
+        match &self.0 {
+            Bytes::Short(bytes, length) => ascii(&bytes[..*length]),
+            Bytes::Long(bytes) => ascii(bytes),
+        }
     }
 }
 

@@ -27,7 +27,7 @@ fn numbers_are_the_headers() {
         ("GUID_LENGTH", lent::GUID_TEXT),
         ("LABEL_LONGEST", lent::LABEL_LONGEST),
         ("TABLE_LONGEST", lent::TABLE_LONGEST),
-        ("NAME_ROOM", number_name(0x13E).unwrap().len()),
+        ("NAME_ROOM", lent::NAME_ROOM),
         ("KIND_NUMBER", Kind::Number as usize),
         ("KIND_TEXT", Kind::Text as usize),
         ("KIND_GUID", Kind::Guid as usize),

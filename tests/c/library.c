@@ -42,11 +42,12 @@ static void worked_example(void) {
 }
 
 /* The lines of document 01's listing that need names, from the rows and the library alone. */
-static void print_name(oskuramos_name n) { printf(" %.*s", n.found ? (int)n.length : 1, n.found ? (const char *)n.bytes : "-"); }
+static void print_name(oskuramos_answer a, const uint8_t *name) { printf(" %.*s", a.first > 0 ? (int)a.first : 1, a.first > 0 ? (const char *)name : "-"); }
 
 static void print_control(uint32_t n, const uint32_t *row) {
     printf("C %u %04X", n, row[0]);
-    print_name(oskuramos_control_type_name((uint16_t)row[0]));
+    uint8_t type[OSKURAMOS_NAME_ROOM];
+    print_name(oskuramos_control_type_name((uint16_t)row[0], type, sizeof type), type);
     oskuramos_part part = oskuramos_control_name(blob, sizeof blob, NULL, 0, row[1], row[2], row[3]);
     if (row[1] == 1) printf(" - %u %u\n", row[4], row[5]);
     else printf(" %u %u %u\n", part.length / 2, row[4], row[5]);
@@ -54,7 +55,8 @@ static void print_control(uint32_t n, const uint32_t *row) {
 
 static void print_property(uint32_t n, const uint32_t *row) {
     printf("P %u %04X", n, row[0]);
-    print_name(oskuramos_value_name(row[1], (uint16_t)row[0]));
+    uint8_t name[OSKURAMOS_NAME_ROOM];
+    print_name(oskuramos_value_name(row[1], (uint16_t)row[0], name, sizeof name), name);
     if (row[1] == OSKURAMOS_SHORT) printf(" short %d\n", (int)(int32_t)row[2]);
     else if (row[1] == OSKURAMOS_TEXT) printf(" text %u\n", row[5] / 2);
     else printf(" mark %u\n", row[1]);
@@ -383,22 +385,31 @@ static void version(void) {
 }
 
 /* ---- names and values */
-static bool named(oskuramos_name n, const char *name) {
+/* A look-up of one argument; that by mark and id of text has its own. */
+typedef oskuramos_answer (*look_up)(uint16_t id, uint8_t *out, size_t out_length);
+
+static oskuramos_answer name_of_mark_8(uint16_t id, uint8_t *out, size_t out_length) { return oskuramos_value_name(8, id, out, out_length); }
+static oskuramos_answer name_of_mark_9(uint16_t id, uint8_t *out, size_t out_length) { return oskuramos_value_name(9, id, out, out_length); }
+
+/* Into room to the byte, and into more. Into a byte less: 9, and nothing is written. */
+static bool named(look_up f, uint16_t id, const char *name) {
+    bytes out;
     size_t size = strlen(name);
-    bool zeros = true;
-    for (size_t i = size; i < sizeof n.bytes; i++) zeros = zeros && n.bytes[i] == 0;
-    return n.found == (size > 0) && n.length == size && memcmp(n.bytes, name, size) == 0 && zeros;
+    bool right = is(f(id, lend_bytes(&out), size), 0, (uint32_t)size, 0, 0) && memcmp(out.byte + GUARD, name, size) == 0 && bytes_kept(&out, size);
+    right = right && is(f(id, lend_bytes(&out), ROOM), 0, (uint32_t)size, 0, 0) && memcmp(out.byte + GUARD, name, size) == 0 && bytes_kept(&out, size);
+    return right && (size == 0 || (is(f(id, lend_bytes(&out), size - 1), 9, 0, 0, 0) && bytes_kept(&out, 0)));
 }
 
 static void names(void) {
-    check(named(oskuramos_text_name(0x1B), "ControlSource"), "a text name");
-    check(named(oskuramos_number_name(0x36), "Left"), "a number name");
-    check(named(oskuramos_number_name(0x13E), "DatasheetGridlinesBehavior"), "a name of 26 bytes");
-    check(named(oskuramos_bytes_name(0x178), "GUID"), "a bytes name");
-    check(named(oskuramos_control_type_name(0x1899), "FormHeader"), "a control type's name");
-    check(named(oskuramos_value_name(8, 0x14), "Name"), "a value's name by its mark");
-    check(named(oskuramos_value_name(9, 0x14), ""), "no name for mark 9");
-    check(named(oskuramos_text_name(0xFFFF), ""), "no name for an id that no row has");
+    check(named(oskuramos_text_name, 0x1B, "ControlSource"), "a text name");
+    check(named(oskuramos_number_name, 0x36, "Left"), "a number name");
+    check(named(oskuramos_number_name, 0x13E, "DatasheetGridlinesBehavior"), "the longest name");
+    check(named(oskuramos_bytes_name, 0x178, "GUID"), "a bytes name");
+    check(named(oskuramos_control_type_name, 0x1899, "FormHeader"), "a control type's name");
+    check(named(name_of_mark_8, 0x14, "Name"), "a value's name by its mark");
+    check(named(name_of_mark_9, 0x14, ""), "no name for mark 9");
+    check(named(oskuramos_text_name, 0xFFFF, ""), "no name for an id that no row has");
+    check(is(oskuramos_text_name(0xFFFF, NULL, 0), 0, 0, 0, 0), "no name needs no room");
 }
 
 static bool valued(oskuramos_value v, uint32_t mark, uint32_t low, uint32_t high) { return v.mark == mark && v.low == low && v.high == high; }

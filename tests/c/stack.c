@@ -63,11 +63,12 @@ static void small_calls(void) {
 }
 
 static void names(void) {
-    for (uint32_t mark = 0; mark < 10; mark++) oskuramos_value_name(mark, 0x14);
-    oskuramos_text_name(0x14);
-    oskuramos_number_name(0x14);
-    oskuramos_bytes_name(0x178);
-    oskuramos_control_type_name(0x64);
+    static uint8_t out[OSKURAMOS_NAME_ROOM];
+    for (uint32_t mark = 0; mark < 10; mark++) oskuramos_value_name(mark, 0x14, out, sizeof out);
+    oskuramos_text_name(0x14, out, sizeof out);
+    oskuramos_number_name(0x14, out, sizeof out);
+    oskuramos_bytes_name(0x178, out, sizeof out);
+    oskuramos_control_type_name(0x64, out, sizeof out);
 }
 
 /* ---- streams */

@@ -10,6 +10,8 @@ use denote.Triple.Clauses.{AtExit}
 use denote.Triple.Entry.{Args, Res}
 use Rattle.rules.specs.Lists.{_>>=_}
 use Rattle.rules.specs.Bytes.{Bytes}
+use Rattle.rules.specs.NameTables.{Table as NameTable}
+use Rattle.rules.specs.Names.{nameExit}
 use Rattle.rules.specs.Texts.{TextExit, guidExit, labelExit}
 use Rattle.rules.specs.TypeInfo.{TypeInfoExit, typeInfoExit}
 use Rattle.rules.specs.Blob.{Exit, exit, exit2000, exitLater}
@@ -70,6 +72,16 @@ use Rattle.oskuramos.proofs.«oskuramos_value_as».Met as exported-value-as-cod
 use Rattle.typeinfo.proofs.read_type_info.Reads as read-type-info-clauses
 use Rattle.text.proofs.guid_text.Reads as guid-text-clauses
 use Rattle.text.proofs.label_text.Reads as label-text-clauses
+use Rattle.names.proofs.text_name.Reads as text-name-clauses
+use Rattle.names.proofs.number_name.Reads as number-name-clauses
+use Rattle.names.proofs.bytes_name.Reads as bytes-name-clauses
+use Rattle.names.proofs.control_type_name.Reads as control-type-name-clauses
+use Rattle.names.proofs.value_name.Reads as value-name-clauses
+use Rattle.oskuramos.proofs.oskuramos_text_name.Reads as exported-text-name-clauses
+use Rattle.oskuramos.proofs.oskuramos_number_name.Reads as exported-number-name-clauses
+use Rattle.oskuramos.proofs.oskuramos_bytes_name.Reads as exported-bytes-name-clauses
+use Rattle.oskuramos.proofs.oskuramos_control_type_name.Reads as exported-control-type-name-clauses
+use Rattle.oskuramos.proofs.oskuramos_value_name.Reads as exported-value-name-clauses
 use Rattle.join.proofs.join.Reads as join-clauses
 use Rattle.blob.proofs.control_name.Reads as control-name-clauses
 use Rattle.numbers.proofs.widen.Reads as widen-clauses
@@ -325,6 +337,10 @@ label-texts f p one = record {
   one-result = one;
 }
 
+names-written : {A : Type 0} (f : Fn A TextExit) (table : A → NameTable) (id : A → ℕ) (out : A → List ℕ) → Proved f (λ a. nameExit (table a) (id a) (out a))
+    → OneResult (f .function) → calls.NameWritten A f table id out
+names-written f table id out p one = record { is-exit = every f _ p _ (λ a. refl); one-result = one }
+
 -- ---- join
 module _ (g : Fn f.Join TextExit) (p : Proved g join-of) (one : OneResult (g .function))
     (one-tells : Tells (g .function) (λ κs a. Bytes (g .handed κs a .one))) (other-tells : Tells (g .function) (λ κs a. Bytes (g .handed κs a .other)))
@@ -420,11 +436,26 @@ of-crates = record {
   room-later = gives (f.crates .room-later) _ (record { met = λ w. room-later-code.met (w .𝓤) (w .H) (w .𝓜) (w .𝓖) (w .𝓡); told = λ κs a r e q. q }) (λ κs a r r′ x y p q. (p ∙ sym q, refl));
   type-info-room = gives (f.crates .type-info-room) _ (record { met = λ w. type-info-room-code.met (w .𝓤) (w .H) (w .𝓜) (w .𝓖) (w .𝓡); told = λ κs a r e q. q }) (λ κs a r r′ x y p q. (p ∙ sym q, refl));
   is-utf16 = gives (f.crates .is-utf16) _ (record { met = λ w. is-utf16-code.met (w .𝓤) (w .H) (w .𝓜) (w .𝓖) (w .𝓡); told = λ κs a r e q. q }) (λ κs a r r′ x y p q. (p ∙ sym q, refl));
-  text-name = gives (f.crates .text-name) _ (record { met = λ w. text-name-code.met (w .𝓤) (w .H) (w .𝓜) (w .𝓖) (w .𝓡); told = λ κs a r e q. q }) (λ κs a r r′ x y p q. (p ∙ sym q, refl));
-  number-name = gives (f.crates .number-name) _ (record { met = λ w. number-name-code.met (w .𝓤) (w .H) (w .𝓜) (w .𝓖) (w .𝓡); told = λ κs a r e q. q }) (λ κs a r r′ x y p q. (p ∙ sym q, refl));
-  bytes-name = gives (f.crates .bytes-name) _ (record { met = λ w. bytes-name-code.met (w .𝓤) (w .H) (w .𝓜) (w .𝓖) (w .𝓡); told = λ κs a r e q. q }) (λ κs a r r′ x y p q. (p ∙ sym q, refl));
-  control-type-name = gives (f.crates .control-type-name) _ (record { met = λ w. control-type-name-code.met (w .𝓤) (w .H) (w .𝓜) (w .𝓖) (w .𝓡); told = λ κs a r e q. q }) (λ κs a r r′ x y p q. (p ∙ sym q, refl));
-  value-name = gives (f.crates .value-name) _ (record { met = λ w. value-name-code.met (w .𝓤) (w .H) (w .𝓜) (w .𝓖) (w .𝓡); told = λ κs a r e q. q }) (λ κs a r r′ x y p q. (p ∙ sym q, refl));
+  text-name = names-written (f.crates .text-name) _ _ _ (record {
+    met = told (f.crates .text-name .function) (λ w κs a r e. text-name-clauses.ensures κs a tt r e w) _ (λ w κs a r e. both-facts (w .𝓤) _ _) (λ w. text-name-code.met (w .𝓤) (w .H) (w .𝓜) (w .𝓖) (w .𝓡));
+    told = λ κs a r e q i. record { answer = q .0 i; out = q .1 i };
+  }) (λ κs a r r′ x y p q. (p .0 ∙ sym (q .0), λ i. (tt, ((p .1 ∙ sym (q .1)) i, tt))));
+  number-name = names-written (f.crates .number-name) _ _ _ (record {
+    met = told (f.crates .number-name .function) (λ w κs a r e. number-name-clauses.ensures κs a tt r e w) _ (λ w κs a r e. both-facts (w .𝓤) _ _) (λ w. number-name-code.met (w .𝓤) (w .H) (w .𝓜) (w .𝓖) (w .𝓡));
+    told = λ κs a r e q i. record { answer = q .0 i; out = q .1 i };
+  }) (λ κs a r r′ x y p q. (p .0 ∙ sym (q .0), λ i. (tt, ((p .1 ∙ sym (q .1)) i, tt))));
+  bytes-name = names-written (f.crates .bytes-name) _ _ _ (record {
+    met = told (f.crates .bytes-name .function) (λ w κs a r e. bytes-name-clauses.ensures κs a tt r e w) _ (λ w κs a r e. both-facts (w .𝓤) _ _) (λ w. bytes-name-code.met (w .𝓤) (w .H) (w .𝓜) (w .𝓖) (w .𝓡));
+    told = λ κs a r e q i. record { answer = q .0 i; out = q .1 i };
+  }) (λ κs a r r′ x y p q. (p .0 ∙ sym (q .0), λ i. (tt, ((p .1 ∙ sym (q .1)) i, tt))));
+  control-type-name = names-written (f.crates .control-type-name) _ _ _ (record {
+    met = told (f.crates .control-type-name .function) (λ w κs a r e. control-type-name-clauses.ensures κs a tt r e w) _ (λ w κs a r e. both-facts (w .𝓤) _ _) (λ w. control-type-name-code.met (w .𝓤) (w .H) (w .𝓜) (w .𝓖) (w .𝓡));
+    told = λ κs a r e q i. record { answer = q .0 i; out = q .1 i };
+  }) (λ κs a r r′ x y p q. (p .0 ∙ sym (q .0), λ i. (tt, ((p .1 ∙ sym (q .1)) i, tt))));
+  value-name = names-written (f.crates .value-name) _ _ _ (record {
+    met = told (f.crates .value-name .function) (λ w κs a r e. value-name-clauses.ensures κs a tt r e w) _ (λ w κs a r e. both-facts (w .𝓤) _ _) (λ w. value-name-code.met (w .𝓤) (w .H) (w .𝓜) (w .𝓖) (w .𝓡));
+    told = λ κs a r e q i. record { answer = q .0 i; out = q .1 i };
+  }) (λ κs a r r′ x y p q. (p .0 ∙ sym (q .0), λ i. (tt, (tt, ((p .1 ∙ sym (q .1)) i, tt)))));
   entry-value = gives (f.crates .entry-value) _ (record { met = λ w. entry-value-code.met (w .𝓤) (w .H) (w .𝓜) (w .𝓖) (w .𝓡); told = λ κs a r e q. q }) (λ κs a r r′ x y p q. (p ∙ sym q, refl));
   stored-value = gives (f.crates .stored-value) _ (record { met = λ w. stored-value-code.met (w .𝓤) (w .H) (w .𝓜) (w .𝓖) (w .𝓡); told = λ κs a r e q. q }) (λ κs a r r′ x y p q. (p ∙ sym q, refl));
   value-as = gives (f.crates .value-as) _ (record { met = λ w. value-as-code.met (w .𝓤) (w .H) (w .𝓜) (w .𝓖) (w .𝓡); told = λ κs a r e q. q }) (λ κs a r r′ x y p q. (p ∙ sym q, refl));
@@ -459,11 +490,26 @@ of-exported = record {
   room-later = gives (f.exported .room-later) _ (record { met = λ w. exported-room-later-code.met (w .𝓤) (w .H) (w .𝓜) (w .𝓖) (w .𝓡); told = λ κs a r e q. ap f.takenRoom q }) (λ κs a r r′ x y p q. (p ∙ sym q, refl));
   type-info-room = gives (f.exported .type-info-room) _ (record { met = λ w. exported-type-info-room-code.met (w .𝓤) (w .H) (w .𝓜) (w .𝓖) (w .𝓡); told = λ κs a r e q. q }) (λ κs a r r′ x y p q. (p ∙ sym q, refl));
   is-utf16 = gives (f.exported .is-utf16) _ (record { met = λ w. exported-is-utf16-code.met (w .𝓤) (w .H) (w .𝓜) (w .𝓖) (w .𝓡); told = λ κs a r e q. q }) (λ κs a r r′ x y p q. (p ∙ sym q, refl));
-  text-name = gives (f.exported .text-name) _ (record { met = λ w. exported-text-name-code.met (w .𝓤) (w .H) (w .𝓜) (w .𝓖) (w .𝓡); told = λ κs a r e q. ap f.takenName q }) (λ κs a r r′ x y p q. (p ∙ sym q, refl));
-  number-name = gives (f.exported .number-name) _ (record { met = λ w. exported-number-name-code.met (w .𝓤) (w .H) (w .𝓜) (w .𝓖) (w .𝓡); told = λ κs a r e q. ap f.takenName q }) (λ κs a r r′ x y p q. (p ∙ sym q, refl));
-  bytes-name = gives (f.exported .bytes-name) _ (record { met = λ w. exported-bytes-name-code.met (w .𝓤) (w .H) (w .𝓜) (w .𝓖) (w .𝓡); told = λ κs a r e q. ap f.takenName q }) (λ κs a r r′ x y p q. (p ∙ sym q, refl));
-  control-type-name = gives (f.exported .control-type-name) _ (record { met = λ w. exported-control-type-name-code.met (w .𝓤) (w .H) (w .𝓜) (w .𝓖) (w .𝓡); told = λ κs a r e q. ap f.takenName q }) (λ κs a r r′ x y p q. (p ∙ sym q, refl));
-  value-name = gives (f.exported .value-name) _ (record { met = λ w. exported-value-name-code.met (w .𝓤) (w .H) (w .𝓜) (w .𝓖) (w .𝓡); told = λ κs a r e q. ap f.takenName q }) (λ κs a r r′ x y p q. (p ∙ sym q, refl));
+  text-name = names-written (f.exported .text-name) _ _ _ (record {
+    met = told (f.exported .text-name .function) (λ w κs a r e. exported-text-name-clauses.ensures κs a tt r e w) _ (λ w κs a r e. both-facts (w .𝓤) _ _) (λ w. exported-text-name-code.met (w .𝓤) (w .H) (w .𝓜) (w .𝓖) (w .𝓡));
+    told = λ κs a r e q i. record { answer = f.takenAnswer (q .0 i); out = q .1 i };
+  }) (λ κs a r r′ x y p q. (p .0 ∙ sym (q .0), λ i. (tt, ((p .1 ∙ sym (q .1)) i, tt))));
+  number-name = names-written (f.exported .number-name) _ _ _ (record {
+    met = told (f.exported .number-name .function) (λ w κs a r e. exported-number-name-clauses.ensures κs a tt r e w) _ (λ w κs a r e. both-facts (w .𝓤) _ _) (λ w. exported-number-name-code.met (w .𝓤) (w .H) (w .𝓜) (w .𝓖) (w .𝓡));
+    told = λ κs a r e q i. record { answer = f.takenAnswer (q .0 i); out = q .1 i };
+  }) (λ κs a r r′ x y p q. (p .0 ∙ sym (q .0), λ i. (tt, ((p .1 ∙ sym (q .1)) i, tt))));
+  bytes-name = names-written (f.exported .bytes-name) _ _ _ (record {
+    met = told (f.exported .bytes-name .function) (λ w κs a r e. exported-bytes-name-clauses.ensures κs a tt r e w) _ (λ w κs a r e. both-facts (w .𝓤) _ _) (λ w. exported-bytes-name-code.met (w .𝓤) (w .H) (w .𝓜) (w .𝓖) (w .𝓡));
+    told = λ κs a r e q i. record { answer = f.takenAnswer (q .0 i); out = q .1 i };
+  }) (λ κs a r r′ x y p q. (p .0 ∙ sym (q .0), λ i. (tt, ((p .1 ∙ sym (q .1)) i, tt))));
+  control-type-name = names-written (f.exported .control-type-name) _ _ _ (record {
+    met = told (f.exported .control-type-name .function) (λ w κs a r e. exported-control-type-name-clauses.ensures κs a tt r e w) _ (λ w κs a r e. both-facts (w .𝓤) _ _) (λ w. exported-control-type-name-code.met (w .𝓤) (w .H) (w .𝓜) (w .𝓖) (w .𝓡));
+    told = λ κs a r e q i. record { answer = f.takenAnswer (q .0 i); out = q .1 i };
+  }) (λ κs a r r′ x y p q. (p .0 ∙ sym (q .0), λ i. (tt, ((p .1 ∙ sym (q .1)) i, tt))));
+  value-name = names-written (f.exported .value-name) _ _ _ (record {
+    met = told (f.exported .value-name .function) (λ w κs a r e. exported-value-name-clauses.ensures κs a tt r e w) _ (λ w κs a r e. both-facts (w .𝓤) _ _) (λ w. exported-value-name-code.met (w .𝓤) (w .H) (w .𝓜) (w .𝓖) (w .𝓡));
+    told = λ κs a r e q i. record { answer = f.takenAnswer (q .0 i); out = q .1 i };
+  }) (λ κs a r r′ x y p q. (p .0 ∙ sym (q .0), λ i. (tt, (tt, ((p .1 ∙ sym (q .1)) i, tt)))));
   entry-value = gives (f.exported .entry-value) _ (record { met = λ w. exported-entry-value-code.met (w .𝓤) (w .H) (w .𝓜) (w .𝓖) (w .𝓡); told = λ κs a r e q. ap f.takenValue q }) (λ κs a r r′ x y p q. (p ∙ sym q, refl));
   stored-value = gives (f.exported .stored-value) _ (record { met = λ w. exported-stored-value-code.met (w .𝓤) (w .H) (w .𝓜) (w .𝓖) (w .𝓡); told = λ κs a r e q. ap f.takenValue q }) (λ κs a r r′ x y p q. (p ∙ sym q, refl));
   value-as = gives (f.exported .value-as) _ (record { met = λ w. exported-value-as-code.met (w .𝓤) (w .H) (w .𝓜) (w .𝓖) (w .𝓡); told = λ κs a r e q. ap f.takenValue q }) (λ κs a r r′ x y p q. (p ∙ sym q, refl));

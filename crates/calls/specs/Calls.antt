@@ -18,8 +18,8 @@ use Rattle.rules.specs.Utf16.{isUtf16}
 use Rattle.rules.specs.Value.{integerValue, entryValue, storedValue, valueAs, widened}
 use Rattle.rules.specs.Rows.{controlWidth, propertyWidth, room}
 use Rattle.rules.specs.Texts.{TextExit, guidExit, labelExit}
-use Rattle.rules.specs.NameTables.{textNames, numberNames, bytesNames, controlTypeNames}
-use Rattle.rules.specs.Names.{nameIn, namesFor}
+use Rattle.rules.specs.NameTables.{Table as NameTable, textNames, numberNames, bytesNames, controlTypeNames}
+use Rattle.rules.specs.Names.{namesFor, nameExit}
 use Rattle.rules.specs.TypeInfo.{TypeInfoExit, typeInfoExit}
 use Rattle.rules.specs.CodeTable.{layout, wellFormed}
 use Rattle.rules.specs.Join.{joinExit, result}
@@ -28,7 +28,6 @@ use Rattle.rules.specs.Room.{room2000, roomLater, roomFor, typeInfoRoom}
 use Rattle.rules.specs.Blob.{Exit, is2000, exit, exit2000, exitLater, spots}
 use Rattle.numbers.specs.Int.{intOf}
 use Rattle.numbers.specs.Wide.{wordsOf, bitsOf}
-use Rattle.names.specs.Lookup.{named}
 use Rattle.blob.specs.Exit.{partPlace}
 use Rattle.oskuramos.specs.Handed.{handedPart}
 use Rattle.claims.specs.Answers.{GuidAnswer, LabelAnswer}
@@ -52,6 +51,8 @@ use Rattle.calls.specs.Functions.{
   TypeInfo,
   Guid,
   Label,
+  NameOf,
+  ValueName,
   Join,
   ControlName,
   Interface,
@@ -192,6 +193,11 @@ pub record LabelText (f : Fn Label TextExit) : Type 2 where
   pub demand1 : Every f (λ a seen. Texts (LabelAnswer (a .n) (a .out)) (a .out) seen)
   pub one-result : OneResult (f .function)
 
+-- ---- text_name(id, out) and the like, value_name(mark, id, out): "Every name handed out stays the same". The bytes are those of the definition's table
+pub record NameWritten (A : Type 0) (f : Fn A TextExit) (table : A → NameTable) (id : A → ℕ) (out : A → List ℕ) : Type 2 where
+  pub is-exit : Every f (λ a seen. seen ≡ nameExit (table a) (id a) (out a))
+  pub one-result : OneResult (f .function)
+
 -- ---- join(one, other, out): wishes 9 and 12 (Joining)
 -- of two calls: the same two tables, in the other order
 pub record Turned (a b : Join) : Type 0 where
@@ -254,11 +260,11 @@ pub record Promised (i : Interface) : Type 2 where
   pub room-later : Gives (i .room-later) (λ length. roomLater length)
   pub type-info-room : Gives (i .type-info-room) (λ length. typeInfoRoom length)
   pub is-utf16 : Gives (i .is-utf16) (λ bytes. isUtf16 bytes)
-  pub text-name : Gives (i .text-name) (λ id. named (nameIn textNames id))
-  pub number-name : Gives (i .number-name) (λ id. named (nameIn numberNames id))
-  pub bytes-name : Gives (i .bytes-name) (λ id. named (nameIn bytesNames id))
-  pub control-type-name : Gives (i .control-type-name) (λ id. named (nameIn controlTypeNames id))
-  pub value-name : Gives (i .value-name) (λ a. named (nameIn (namesFor (a .mark)) (a .id)))
+  pub text-name : NameWritten NameOf (i .text-name) (λ a. textNames) (λ a. a .id) (λ a. a .out)
+  pub number-name : NameWritten NameOf (i .number-name) (λ a. numberNames) (λ a. a .id) (λ a. a .out)
+  pub bytes-name : NameWritten NameOf (i .bytes-name) (λ a. bytesNames) (λ a. a .id) (λ a. a .out)
+  pub control-type-name : NameWritten NameOf (i .control-type-name) (λ a. controlTypeNames) (λ a. a .id) (λ a. a .out)
+  pub value-name : NameWritten ValueName (i .value-name) (λ a. namesFor (a .mark)) (λ a. a .id) (λ a. a .out)
   pub entry-value : Gives (i .entry-value) (λ a. entryValue (a .type) (a .bytes))
   pub stored-value : Gives (i .stored-value) (λ a. storedValue (a .id) (a .bytes))
   pub value-as : Gives (i .value-as) (λ a. valueAs (a .kind) (a .id) (a .bytes))

@@ -14,11 +14,9 @@ use Rattle.rules.specs.TypeInfo.{TypeInfoExit}
 use Rattle.rules.specs.Blob.{Exit}
 use Rattle.numbers.specs.declared.Int.{Int}
 use Rattle.numbers.specs.declared.Wide.{Wide}
-use Rattle.names.specs.declared.Name.{Name}
 use Rattle.blob.specs.Exit.{Place}
 use Rattle.oskuramos.specs.declared.Answer as c-answer
 use Rattle.oskuramos.specs.declared.Value as c-value
-use Rattle.oskuramos.specs.declared.Name as c-name
 use Rattle.oskuramos.specs.declared.Room as c-room
 use Rattle.oskuramos.specs.declared.Part.{Part}
 use Rattle.propvalue.proofs.entry_value as entry_value
@@ -151,13 +149,22 @@ control-name a = record {
   label-place = a .1 .0 .ptr;
 }
 
--- (mark, id)
+-- (id, out)
+pub record NameOf : Type 0 where
+  pub id : ℕ
+  pub out : List ℕ
+
+abbrev name-of : ℕ × (Slice × End) → NameOf
+name-of a = record { id = a .0; out = now (a .1 .0) }
+
+-- (mark, id, out)
 pub record ValueName : Type 0 where
   pub mark : ℕ
   pub id : ℕ
+  pub out : List ℕ
 
-abbrev value-name : ℕ × (ℕ × End) → ValueName
-value-name a = record { mark = a .0; id = a .1 .0 }
+abbrev value-name : ℕ × (ℕ × (Slice × End)) → ValueName
+value-name a = record { mark = a .0; id = a .1 .0; out = now (a .1 .1 .0) }
 
 -- (type, bytes)
 pub record Entry : Type 0 where
@@ -208,6 +215,12 @@ guid-exit r e = record { answer = r; out = guid e .out }
 abbrev label-exit : Answer → ℕ × (Slice × End) → TextExit
 label-exit r e = record { answer = r; out = label e .out }
 
+abbrev name-exit : Answer → ℕ × (Slice × End) → TextExit
+name-exit r e = record { answer = r; out = name-of e .out }
+
+abbrev value-name-exit : Answer → ℕ × (ℕ × (Slice × End)) → TextExit
+value-name-exit r e = record { answer = r; out = value-name e .out }
+
 abbrev join-exit : Answer → Slice × (Slice × (Slice × End)) → TextExit
 join-exit r e = record { answer = r; out = tables e .out }
 
@@ -217,9 +230,6 @@ takenAnswer a = record { number = a .number; first = a .first; second = a .secon
 
 abbrev pub takenValue : c-value.Value → Value
 takenValue v = record { mark = v .mark; low = v .low; high = v .high }
-
-abbrev pub takenName : c-name.Name → Name
-takenName n = record { found = n .found; bytes = n .bytes; len = n .length }
 
 abbrev pub takenRoom : c-room.Room → Room
 takenRoom r = record { controls = r .controls; properties = r .properties }
@@ -239,11 +249,11 @@ pub record Interface : Type 2 where
   pub label-text : Fn Label TextExit
   pub join : Fn Join TextExit
   pub is-utf16 : Fn (List ℕ) Bool
-  pub text-name : Fn ℕ Name
-  pub number-name : Fn ℕ Name
-  pub bytes-name : Fn ℕ Name
-  pub control-type-name : Fn ℕ Name
-  pub value-name : Fn ValueName Name
+  pub text-name : Fn NameOf TextExit
+  pub number-name : Fn NameOf TextExit
+  pub bytes-name : Fn NameOf TextExit
+  pub control-type-name : Fn NameOf TextExit
+  pub value-name : Fn ValueName TextExit
   pub entry-value : Fn Entry Value
   pub stored-value : Fn Stored Value
   pub value-as : Fn Tied Value
@@ -318,28 +328,28 @@ crates = record {
   };
   text-name = record {
     function = record { ended = text_name.ended; routine = text_name.Symbol.routine; says = text_name.Reads.Learnt };
-    handed = λ κs a. number a;
-    seen = λ κs r e. r;
+    handed = λ κs a. name-of a;
+    seen = λ κs r e. name-exit r e;
   };
   number-name = record {
     function = record { ended = number_name.ended; routine = number_name.Symbol.routine; says = number_name.Reads.Learnt };
-    handed = λ κs a. number a;
-    seen = λ κs r e. r;
+    handed = λ κs a. name-of a;
+    seen = λ κs r e. name-exit r e;
   };
   bytes-name = record {
     function = record { ended = bytes_name.ended; routine = bytes_name.Symbol.routine; says = bytes_name.Reads.Learnt };
-    handed = λ κs a. number a;
-    seen = λ κs r e. r;
+    handed = λ κs a. name-of a;
+    seen = λ κs r e. name-exit r e;
   };
   control-type-name = record {
     function = record { ended = control_type_name.ended; routine = control_type_name.Symbol.routine; says = control_type_name.Reads.Learnt };
-    handed = λ κs a. number a;
-    seen = λ κs r e. r;
+    handed = λ κs a. name-of a;
+    seen = λ κs r e. name-exit r e;
   };
   value-name = record {
     function = record { ended = value_name.ended; routine = value_name.Symbol.routine; says = value_name.Reads.Learnt };
     handed = λ κs a. value-name a;
-    seen = λ κs r e. r;
+    seen = λ κs r e. value-name-exit r e;
   };
   entry-value = record {
     function = record { ended = entry_value.ended; routine = entry_value.Symbol.routine; says = entry_value.Reads.Learnt };
@@ -428,28 +438,28 @@ exported = record {
   };
   text-name = record {
     function = record { ended = oskuramos_text_name.ended; routine = oskuramos_text_name.Symbol.routine; says = oskuramos_text_name.Reads.Learnt };
-    handed = λ κs a. number a;
-    seen = λ κs r e. takenName r;
+    handed = λ κs a. name-of a;
+    seen = λ κs r e. name-exit (takenAnswer r) e;
   };
   number-name = record {
     function = record { ended = oskuramos_number_name.ended; routine = oskuramos_number_name.Symbol.routine; says = oskuramos_number_name.Reads.Learnt };
-    handed = λ κs a. number a;
-    seen = λ κs r e. takenName r;
+    handed = λ κs a. name-of a;
+    seen = λ κs r e. name-exit (takenAnswer r) e;
   };
   bytes-name = record {
     function = record { ended = oskuramos_bytes_name.ended; routine = oskuramos_bytes_name.Symbol.routine; says = oskuramos_bytes_name.Reads.Learnt };
-    handed = λ κs a. number a;
-    seen = λ κs r e. takenName r;
+    handed = λ κs a. name-of a;
+    seen = λ κs r e. name-exit (takenAnswer r) e;
   };
   control-type-name = record {
     function = record { ended = oskuramos_control_type_name.ended; routine = oskuramos_control_type_name.Symbol.routine; says = oskuramos_control_type_name.Reads.Learnt };
-    handed = λ κs a. number a;
-    seen = λ κs r e. takenName r;
+    handed = λ κs a. name-of a;
+    seen = λ κs r e. name-exit (takenAnswer r) e;
   };
   value-name = record {
     function = record { ended = oskuramos_value_name.ended; routine = oskuramos_value_name.Symbol.routine; says = oskuramos_value_name.Reads.Learnt };
     handed = λ κs a. value-name a;
-    seen = λ κs r e. takenName r;
+    seen = λ κs r e. value-name-exit (takenAnswer r) e;
   };
   entry-value = record {
     function = record { ended = oskuramos_entry_value.ended; routine = oskuramos_entry_value.Symbol.routine; says = oskuramos_entry_value.Reads.Learnt };

@@ -4,4 +4,4 @@ pub mod Bracket
 pub mod Directory
 pub mod Marks
 pub mod InOrder
-pub mod ByValue
+pub mod Short

@@ -3,13 +3,11 @@ use Prim.Native.Nat.{ℕ, suc, _-_, _≤_}
 use mathlib.Core.Path.{_≡_}
 use mathlib.Core.Bool.{cond}
 use mathlib.Core.List.{List, [], _∷_}
-use lib.Dec.{T, eqb, ltb}
+use lib.Dec.{T, eqb}
 use lib.ListN.{length, take, drop, getD}
 use Rattle.rules.specs.Lists.{ascends, text}
 use Rattle.rules.specs.NameTables.{Table}
-use Rattle.rules.specs.Names.{filled}
 use Rattle.nametables.specs.Directory.{allNames, idsOf, indexOf, lettersOf}
-use Rattle.names.specs.declared.Name.{Name}
 
 -- what is lent is the directory
 pub record Lent (index letters : List ℕ) : Type 0 where
@@ -35,6 +33,6 @@ unfoldable pub placeIn : List ℕ → ℕ → ℕ
 placeIn [] id = 0
 placeIn (x ∷ ids) id = cond (eqb x id) 0 (suc (placeIn ids id))
 
--- a name by value; what has no name is empty
-abbrev pub named : List ℕ → Name
-named name = record { found = ltb 0 (length name); bytes = filled name; len = length name }
+-- a length of 32 bits
+abbrev pub longestName : ℕ
+longestName = 4294967295

@@ -1,5 +1,5 @@
 // The names of values and of control types, by their ids.
-
+use rules::Answer;
 ghost use mathlib.Core.Path.{_≡_};
 ghost use mathlib.Core.List.{[]};
 ghost use Prim.Native.Nat.{_<_, _≤_};
@@ -7,9 +7,13 @@ ghost use lib.Dec.{T};
 ghost use lib.ListN.{length};
 ghost use Rattle.rules.specs.Lists.{ascends};
 ghost use Rattle.rules.specs.NameTables.{textNames, numberNames, bytesNames, controlTypeNames};
-ghost use Rattle.rules.specs.Names.{nameIn, namesFor};
+ghost use Rattle.rules.specs.Names.{nameIn, namesFor, nameExit};
+ghost use Rattle.rules.specs.Texts.{textExit};
 ghost use Rattle.nametables.specs.Directory.{allNames};
-ghost use Rattle.names.specs.Lookup.{Lent, Stand, rowsIn, nameAt, placeIn, named};
+ghost use Rattle.names.specs.Lookup.{Lent, Stand, rowsIn, nameAt, placeIn, longestName};
+
+// The answer where a name doesn't fit.
+const NO_ROOM: u32 = 9;
 
 // ---- names that are parts of a lent directory
 // The place of `id` in `ids`, by halving, or their number where it has none.
@@ -98,58 +102,56 @@ pub fn value_name_in<'a>(index: &[u32], letters: &'a [u8], mark: u32, id: u16) -
     }
 }
 
-// ---- names by value
-// A name's bytes, zeros after them, and how many there are. Nothing has the id where `found` is false.
-pub struct Name {
-    pub found: bool,
-    pub bytes: [u8; 26],
-    pub len: usize,
-}
-
-fn by_value(name: &[u8]) -> Name
-    requires { ⌜ length (now name) ≤ 26 ⌝ }
-    ensures { λ r. ⌜ r ≡ named (now (name .entry)) ⌝ }
+// ---- names written into a lent buffer
+// Names of more bytes than 32 bits count aren't in the tables.
+fn write_name(name: &[u8], out: &mut [u8]) -> Answer
+    requires { ⌜ length (now name) ≤ longestName ⌝ }
+    ensures { λ r. ⌜ r ≡ textExit (now (name .entry)) (now (out .entry)) .answer ⌝ }
+    ensures { λ _. ⌜ now (out .exit) ≡ textExit (now (name .entry)) (now (out .entry)) .out ⌝ }
 {
-    let mut row = [0; 26];
-    let size = bytes::copy(name, &mut row);
-    Name {
-        found: 0 < size,
-        bytes: row,
-        len: size,
+    if out.len() < name.len() {
+        return text::refused(NO_ROOM);
     }
+    text::put_text(out, 0, name);
+    text::wrote(name.len() as u32)
 }
 
-pub fn control_type_name(id: u16) -> Name
-    ensures { λ r. ⌜ r ≡ named (nameIn controlTypeNames id) ⌝ }
+pub fn control_type_name(id: u16, out: &mut [u8]) -> Answer
+    ensures { λ r. ⌜ r ≡ nameExit controlTypeNames id (now (out .entry)) .answer ⌝ }
+    ensures { λ _. ⌜ now (out .exit) ≡ nameExit controlTypeNames id (now (out .entry)) .out ⌝ }
 {
     let index = nametables::index();
     let letters = nametables::letters();
-    by_value(type_name_in(&index, &letters, id))
+    write_name(type_name_in(&index, &letters, id), out)
 }
 
 // The name of a value by its mark and id.
-pub fn value_name(mark: u32, id: u16) -> Name
-    ensures { λ r. ⌜ r ≡ named (nameIn (namesFor mark) id) ⌝ }
+pub fn value_name(mark: u32, id: u16, out: &mut [u8]) -> Answer
+    ensures { λ r. ⌜ r ≡ nameExit (namesFor mark) id (now (out .entry)) .answer ⌝ }
+    ensures { λ _. ⌜ now (out .exit) ≡ nameExit (namesFor mark) id (now (out .entry)) .out ⌝ }
 {
     let index = nametables::index();
     let letters = nametables::letters();
-    by_value(value_name_in(&index, &letters, mark, id))
+    write_name(value_name_in(&index, &letters, mark, id), out)
 }
 
-pub fn text_name(id: u16) -> Name
-    ensures { λ r. ⌜ r ≡ named (nameIn textNames id) ⌝ }
+pub fn text_name(id: u16, out: &mut [u8]) -> Answer
+    ensures { λ r. ⌜ r ≡ nameExit textNames id (now (out .entry)) .answer ⌝ }
+    ensures { λ _. ⌜ now (out .exit) ≡ nameExit textNames id (now (out .entry)) .out ⌝ }
 {
-    value_name(6, id)
+    value_name(6, id, out)
 }
 
-pub fn number_name(id: u16) -> Name
-    ensures { λ r. ⌜ r ≡ named (nameIn numberNames id) ⌝ }
+pub fn number_name(id: u16, out: &mut [u8]) -> Answer
+    ensures { λ r. ⌜ r ≡ nameExit numberNames id (now (out .entry)) .answer ⌝ }
+    ensures { λ _. ⌜ now (out .exit) ≡ nameExit numberNames id (now (out .entry)) .out ⌝ }
 {
-    value_name(0, id)
+    value_name(0, id, out)
 }
 
-pub fn bytes_name(id: u16) -> Name
-    ensures { λ r. ⌜ r ≡ named (nameIn bytesNames id) ⌝ }
+pub fn bytes_name(id: u16, out: &mut [u8]) -> Answer
+    ensures { λ r. ⌜ r ≡ nameExit bytesNames id (now (out .entry)) .answer ⌝ }
+    ensures { λ _. ⌜ now (out .exit) ≡ nameExit bytesNames id (now (out .entry)) .out ⌝ }
 {
-    value_name(5, id)
+    value_name(5, id, out)
 }

@@ -6,10 +6,8 @@ use Rattle.rules.specs.NamePart as name
 use Rattle.rules.specs.declared.Answer as rules
 use Rattle.rules.specs.declared.Value as rules-value
 use Rattle.rules.specs.declared.Room as rules-room
-use Rattle.names.specs.declared.Name as names
 use Rattle.oskuramos.specs.declared.Answer.{Answer}
 use Rattle.oskuramos.specs.declared.Value.{Value}
-use Rattle.oskuramos.specs.declared.Name.{Name}
 use Rattle.oskuramos.specs.declared.Part.{Part}
 use Rattle.oskuramos.specs.declared.Room.{Room}
 
@@ -18,9 +16,6 @@ handedAnswer a = record { number = a .number; first = a .first; second = a .seco
 
 abbrev pub handedValue : rules-value.Value → Value
 handedValue v = record { mark = v .mark; low = v .low; high = v .high }
-
-abbrev pub handedName : names.Name → Name
-handedName n = record { found = n .found; bytes = n .bytes; length = n .len }
 
 abbrev pub handedRoom : rules-room.Room → Room
 handedRoom r = record { controls = r .controls; properties = r .properties }

@@ -5,14 +5,13 @@ ghost use Rattle.rules.specs.CodeTable.{wellFormed};
 ghost use Rattle.rules.specs.Join.{joinExit};
 ghost use Rattle.rules.specs.NamePart.{namePart};
 ghost use Rattle.rules.specs.NameTables.{textNames, numberNames, bytesNames, controlTypeNames};
-ghost use Rattle.rules.specs.Names.{nameIn, namesFor};
+ghost use Rattle.rules.specs.Names.{namesFor, nameExit};
 ghost use Rattle.rules.specs.Room.{room2000, roomLater, roomFor, typeInfoRoom};
 ghost use Rattle.rules.specs.Texts.{guidExit, labelExit};
 ghost use Rattle.rules.specs.TypeInfo.{typeInfoExit};
 ghost use Rattle.rules.specs.Utf16.{isUtf16};
 ghost use Rattle.rules.specs.Value.{entryValue, storedValue, valueAs};
-ghost use Rattle.names.specs.Lookup.{named};
-ghost use Rattle.oskuramos.specs.Handed.{handedAnswer, handedValue, handedName, handedPart, handedRoom, partOr};
+ghost use Rattle.oskuramos.specs.Handed.{handedAnswer, handedValue, handedPart, handedRoom, partOr};
 
 // ---- structs laid out as C's
 // Document 01's answer number with its three counts.
@@ -30,14 +29,6 @@ pub struct Value {
     pub mark: u32,
     pub low: u32,
     pub high: u32,
-}
-
-// A name's bytes, zeros after them, and how many there are. Nothing has the id where `found` is false.
-#[repr(C)]
-pub struct Name {
-    pub found: bool,
-    pub bytes: [u8; 26],
-    pub length: usize,
 }
 
 // A part of the stream (source 0) or of the label (source 1).
@@ -73,17 +64,6 @@ fn handed_value(v: rules::Value) -> Value
         mark: v.mark,
         low: v.low,
         high: v.high,
-    }
-}
-
-fn handed_name(n: names::Name) -> Name
-    ensures { λ r. ⌜ r ≡ handedName n ⌝ }
-{
-    let bytes = n.bytes;
-    Name {
-        found: n.found,
-        bytes,
-        length: n.len,
     }
 }
 
@@ -255,40 +235,45 @@ pub extern "C" fn oskuramos_is_utf16(bytes: &[u8]) -> bool
     utf16::is_utf16(bytes)
 }
 
-// ---- names by id
+// ---- names by id, written into the buffer that is lent
 #[no_mangle]
-pub extern "C" fn oskuramos_text_name(id: u16) -> Name
-    ensures { λ r. ⌜ r ≡ handedName (named (nameIn textNames id)) ⌝ }
+pub extern "C" fn oskuramos_text_name(id: u16, out: &mut [u8]) -> Answer
+    ensures { λ r. ⌜ r ≡ handedAnswer (nameExit textNames id (now (out .entry)) .answer) ⌝ }
+    ensures { λ _. ⌜ now (out .exit) ≡ nameExit textNames id (now (out .entry)) .out ⌝ }
 {
-    handed_name(names::text_name(id))
+    handed_answer(names::text_name(id, out))
 }
 
 #[no_mangle]
-pub extern "C" fn oskuramos_number_name(id: u16) -> Name
-    ensures { λ r. ⌜ r ≡ handedName (named (nameIn numberNames id)) ⌝ }
+pub extern "C" fn oskuramos_number_name(id: u16, out: &mut [u8]) -> Answer
+    ensures { λ r. ⌜ r ≡ handedAnswer (nameExit numberNames id (now (out .entry)) .answer) ⌝ }
+    ensures { λ _. ⌜ now (out .exit) ≡ nameExit numberNames id (now (out .entry)) .out ⌝ }
 {
-    handed_name(names::number_name(id))
+    handed_answer(names::number_name(id, out))
 }
 
 #[no_mangle]
-pub extern "C" fn oskuramos_bytes_name(id: u16) -> Name
-    ensures { λ r. ⌜ r ≡ handedName (named (nameIn bytesNames id)) ⌝ }
+pub extern "C" fn oskuramos_bytes_name(id: u16, out: &mut [u8]) -> Answer
+    ensures { λ r. ⌜ r ≡ handedAnswer (nameExit bytesNames id (now (out .entry)) .answer) ⌝ }
+    ensures { λ _. ⌜ now (out .exit) ≡ nameExit bytesNames id (now (out .entry)) .out ⌝ }
 {
-    handed_name(names::bytes_name(id))
+    handed_answer(names::bytes_name(id, out))
 }
 
 #[no_mangle]
-pub extern "C" fn oskuramos_control_type_name(id: u16) -> Name
-    ensures { λ r. ⌜ r ≡ handedName (named (nameIn controlTypeNames id)) ⌝ }
+pub extern "C" fn oskuramos_control_type_name(id: u16, out: &mut [u8]) -> Answer
+    ensures { λ r. ⌜ r ≡ handedAnswer (nameExit controlTypeNames id (now (out .entry)) .answer) ⌝ }
+    ensures { λ _. ⌜ now (out .exit) ≡ nameExit controlTypeNames id (now (out .entry)) .out ⌝ }
 {
-    handed_name(names::control_type_name(id))
+    handed_answer(names::control_type_name(id, out))
 }
 
 #[no_mangle]
-pub extern "C" fn oskuramos_value_name(mark: u32, id: u16) -> Name
-    ensures { λ r. ⌜ r ≡ handedName (named (nameIn (namesFor mark) id)) ⌝ }
+pub extern "C" fn oskuramos_value_name(mark: u32, id: u16, out: &mut [u8]) -> Answer
+    ensures { λ r. ⌜ r ≡ handedAnswer (nameExit (namesFor mark) id (now (out .entry)) .answer) ⌝ }
+    ensures { λ _. ⌜ now (out .exit) ≡ nameExit (namesFor mark) id (now (out .entry)) .out ⌝ }
 {
-    handed_name(names::value_name(mark, id))
+    handed_answer(names::value_name(mark, id, out))
 }
 
 // ---- values

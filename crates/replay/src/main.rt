@@ -142,9 +142,28 @@ fn replay_join(bytes: &[u8], lent: u32, size: u32, out: &mut [u8]) {
     print_kept(behind(room, answer.first as usize), UNTOUCHED, out);
 }
 
-fn print_name(name: names::Name, out: &mut [u8]) {
-    let bytes = name.bytes;
-    print_bytes(front(&bytes, name.len), out);
+fn print_text_name(id: u16, out: &mut [u8]) {
+    let mut room = [0u8; 256];
+    let answer = names::text_name(id, &mut room);
+    print_bytes(front(&room, answer.first as usize), out);
+}
+
+fn print_number_name(id: u16, out: &mut [u8]) {
+    let mut room = [0u8; 256];
+    let answer = names::number_name(id, &mut room);
+    print_bytes(front(&room, answer.first as usize), out);
+}
+
+fn print_bytes_name(id: u16, out: &mut [u8]) {
+    let mut room = [0u8; 256];
+    let answer = names::bytes_name(id, &mut room);
+    print_bytes(front(&room, answer.first as usize), out);
+}
+
+fn print_control_type_name(id: u16, out: &mut [u8]) {
+    let mut room = [0u8; 256];
+    let answer = names::control_type_name(id, &mut room);
+    print_bytes(front(&room, answer.first as usize), out);
 }
 
 // No table has an id of more than 16 bits.
@@ -153,10 +172,10 @@ fn replay_names(id: u32, out: &mut [u8]) {
         return;
     }
     let id = id as u16;
-    print_name(names::text_name(id), out);
-    print_name(names::number_name(id), out);
-    print_name(names::bytes_name(id), out);
-    print_name(names::control_type_name(id), out);
+    print_text_name(id, out);
+    print_number_name(id, out);
+    print_bytes_name(id, out);
+    print_control_type_name(id, out);
 }
 
 fn replay_listing(input: &[u8], out: &mut [u8]) {

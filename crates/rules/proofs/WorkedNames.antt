@@ -3,11 +3,13 @@ use Prim.Native.Nat.{ℕ, _+_, _*_, _%_}
 use mathlib.Core.Path.{_≡_, refl}
 use mathlib.Core.Bool.{true}
 use mathlib.Core.List.{List, [], _∷_, _++_, map}
-use lib.Dec.{eqb}
+use lib.Dec.{ltb}
 use lib.ListN.{length, replicate}
 use Rattle.rules.specs.Lists.{concat, all, ascends, text}
 use Rattle.rules.specs.NameTables.{Table, textNames, numberNames, bytesNames, controlTypeNames}
-use Rattle.rules.specs.Names.{nameIn, filled, namesFor}
+use Rattle.rules.specs.Names.{nameIn, nameExit, namesFor}
+use Rattle.rules.specs.Answer.{answer, refusal}
+use Rattle.rules.specs.Texts.{textExit}
 use Rattle.rules.proofs.OpenBytes.{bytes-open}
 use Rattle.rules.proofs.OpenNames.{names-open}
 
@@ -27,10 +29,10 @@ pub names :
 unfolding bytes-open names-open
 names = (refl, refl, refl, refl, refl, refl, refl, refl, refl, refl, refl)
 
--- every name fills 26 bytes with its zeros, and the ids of every table ascend
-pub rows-of-26 : map (all (λ row. eqb (length (filled (text (row .1)))) 26)) (textNames ∷ numberNames ∷ bytesNames ∷ controlTypeNames ∷ []) ≡ replicate 4 true
+-- no name is empty, so that no bytes say that there is none; and the ids of every table ascend
+pub none-empty : map (all (λ row. ltb 0 (length (text (row .1))))) (textNames ∷ numberNames ∷ bytesNames ∷ controlTypeNames ∷ []) ≡ replicate 4 true
 unfolding bytes-open names-open
-rows-of-26 = refl
+none-empty = refl
 
 pub ids-ascend : map (λ names. ascends 0 (map (λ row. row .0) names)) (textNames ∷ numberNames ∷ bytesNames ∷ controlTypeNames ∷ []) ≡ replicate 4 true
 unfolding bytes-open names-open
@@ -67,6 +69,10 @@ pub names-by-mark : map namesFor (0 ∷ 1 ∷ 2 ∷ 3 ∷ 4 ∷ 5 ∷ 6 ∷ 7 �
 unfolding bytes-open namesFor
 names-by-mark = refl
 
--- a name as its row has it
-pub filled-row : filled (text "Tag") ≡ text "Tag" ++ replicate 23 0
-filled-row = refl
+-- ---- written into a buffer: what comes after it stays; 9 where it doesn't fit; no bytes where there is none
+pub written :
+    (nameExit numberNames 0x36 (1 ∷ 2 ∷ 3 ∷ 4 ∷ 5 ∷ []) ≡ record { answer = answer 0 4 0 0; out = text "Left" ++ (5 ∷ []) })
+    × (nameExit numberNames 0x36 (1 ∷ 2 ∷ 3 ∷ []) ≡ record { answer = refusal 9; out = 1 ∷ 2 ∷ 3 ∷ [] })
+    × (nameExit bytesNames 0x36 (1 ∷ []) ≡ record { answer = answer 0 0 0 0; out = 1 ∷ [] })
+unfolding bytes-open names-open nameExit textExit
+written = (refl, refl, refl)

@@ -1,4 +1,5 @@
 -- The four name tables. "The four name tables are constants": an id and its name in each row, strictly ascending by id.
+-- Written by data/names/make out of the lists beside it.
 use Prim.Native.Nat.{ℕ}
 use Prim.Native.String.{String}
 use mathlib.Core.List.{List, [], _∷_}

@@ -1,12 +1,12 @@
--- Names by id. "each name a row of 26 bytes, zero filled"
-use Prim.Native.Nat.{ℕ, _-_}
+-- Names by id.
+use Prim.Native.Nat.{ℕ}
 use mathlib.Core.Bool.{Bool, cond, _||_}
-use mathlib.Core.List.{List, [], _++_}
+use mathlib.Core.List.{List, []}
 use mathlib.Core.Option.{Option, none, some}
 use Prim.Native.String.{String}
 use lib.Dec.{leb, eqb}
-use lib.ListN.{length, replicate}
 use Rattle.rules.specs.Lists.{find, text}
+use Rattle.rules.specs.Texts.{TextExit, textExit}
 use Rattle.rules.specs.NameTables.{Table, textNames, numberNames, bytesNames}
 
 abbrev pub hasId : ℕ → ℕ × String → Bool
@@ -20,9 +20,9 @@ nameText (some row) = text (row .1)
 unfoldable pub nameIn : Table → ℕ → List ℕ
 nameIn table id = nameText (find (hasId id) table)
 
--- a name as its row has it
-abbrev pub filled : List ℕ → List ℕ
-filled name = name ++ replicate (26 - length name) 0
+-- "Every name handed out stays the same." It is written as any text; what has no name has no bytes
+unfoldable pub nameExit : Table → ℕ → List ℕ → TextExit
+nameExit table id out = textExit (nameIn table id) out
 
 -- "Number marks 0 to 4 use NUMBER_NAMES, 6 and 8 TEXT_NAMES, 5 and 7 BYTES_NAMES." No other mark has names
 unfoldable pub namesFor : ℕ → Table

@@ -1,23 +1,31 @@
 use mathlib.Core.Path.{ap, _∙_}
-use Prim.Native.Nat.{_≤_}
-use lib.ListN.{length}
-use native.Mathlib.Omega.{arith}
+use mathlib.Core.List.{List}
+use Prim.Native.Nat.{ℕ}
 use borrow.Author.Needs.{needs}
-use Rattle.names.specs.Lookup.{named}
-use Rattle.names.proofs.ByValue.{type-short}
+use Rattle.rules.specs.Texts.{TextExit, textExit}
+use Rattle.rules.specs.Names.{nameExit}
+use Rattle.names.proofs.Short.{type-short}
 use Rattle.names.proofs.control_type_name.Statement.{statement}
 use Rattle.names.proofs.control_type_name.Tie as tie
 
-by-value-requires : tie.Need-by-value-requires
-by-value-requires c κs = let first : tie.Start = search in rw (c .type-name-in .ensures) (type-short (first .args .id))
+write-name-requires : tie.Need-write-name-requires
+write-name-requires c κs =
+    let first : tie.Start = search in
+    let named : tie.After-type-name-in = search in
+    rw (named .type-name-in .ensures) (type-short (first .args .id))
 
 returns : tie.Need-returns
-returns c = c .by-value .ensures ∙ ap named (c .before .type-name-in .ensures)
+unfolding nameExit
+returns c =
+    let written : tie.After-write-name = search in
+    let named : tie.After-type-name-in = search in
+    rw (named .type-name-in .ensures) at (written .write-name .ensures)
 
 pub control-type-name-spec : {M : Type 1} → statement M
 control-type-name-spec =
     tie.close
     (tie.spec
     (λ c κs. search needs) (λ c κs. search needs) (λ c. search needs) (λ c. search needs) (λ c κs. search needs)
-    by-value-requires
+    write-name-requires
+    (λ c. search needs)
     returns)
