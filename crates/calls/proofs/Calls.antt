@@ -108,6 +108,7 @@ use Rattle.claims.proofs.Counts.{counts-hold}
 use Rattle.claims.proofs.CutNames.{wish6}
 use Rattle.claims.proofs.RowChecks.{row-checks}
 use Rattle.claims.proofs.Rooms.{rooms}
+use Rattle.claims.proofs.ScanNames.{wish10}
 
 -- ---- a function whose contract is an equation with a definition
 record Proved {A B : Type 0} (f : Fn A B) (definition : A → B) : Type 2 where
@@ -163,6 +164,7 @@ module _ (f : Fn Blob Exit) (p : Proved f exit-of) (one : OneResult (f .function
     demand3-later = λ c d h n. both-told f exit p c d (Same _ _) (demand3 .later-same _ _ _ _ _ (h .successor) (h .same-room) n) (h .same-stream);
     counts = every f exit-of p _ (λ a. counts-hold .blobs (a .table) (a .stream) (a .controls) (a .properties));
     later-judges = every-bytes f exit-of p (λ (a : Blob). a .stream) tells _ (λ a small. later-tree .judges (a .table) (a .stream) (a .controls) (a .properties) small);
+    scan-named = every-bytes f exit-of p (λ (a : Blob). a .stream) tells _ (λ a small. wish10 .text-named (a .table) (a .stream) (a .controls) (a .properties) small);
     stored = every-bytes f exit-of p (λ (a : Blob). a .stream) tells _ (λ a small. row-checks .stored (a .stream) small);
     items = every-bytes f exit-of p (λ (a : Blob). a .stream) tells _ (λ a small. row-checks .items (a .table) (a .stream) (a .controls) (a .properties) small);
     row-checks = every f exit-of p _ (λ a. row-checks .checks (a .table) (a .stream) (a .controls) (a .properties));

@@ -42,6 +42,7 @@ use Rattle.claims.specs.LaterTree as later
 use Rattle.claims.specs.Counts.{Counts, InfoCounts}
 use Rattle.claims.specs.CutNames.{CutNames}
 use Rattle.claims.specs.Rooms as rooms
+use Rattle.claims.specs.ScanNames.{ScanNamed}
 use Rattle.claims.specs.RowChecks.{Checks, SeenItems}
 use Rattle.calls.specs.Always.{Always, OneResult, Fn, Every, Gives, Call, handed, seen}
 use Rattle.calls.specs.JoiningCalls.{PlansCarried}
@@ -109,6 +110,8 @@ pub record ReadBlob (f : Fn Blob Exit) : Type 2 where
   pub counts : Every f (λ a seen. Counts (a .table) (a .stream) (a .controls) (a .properties) seen)
   -- what is seen of a later stream: its tree, or the scan
   pub later-judges : Every f (λ a seen. later.Given (a .table) (a .stream) → later.Judges (a .stream) (a .controls) (a .properties) seen)
+  -- every control of a scanned stream has a Text name first (wish 10)
+  pub scan-named : Every f (λ a seen. later.Given (a .table) (a .stream) → ScanNamed (a .stream) seen)
   -- what a caller can check of the rows
   pub row-checks : Every f (λ a seen. seen .answer .number ≡ 0 → Checks (a .table) (a .stream) seen)
   -- the stored properties that these speak of (and demand 3) are those that the bytes of an Access 2000 stream spell, each in its scope

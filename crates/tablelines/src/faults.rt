@@ -40,4 +40,3 @@ pub const TARGET_HIGH: u32 = 16;
 pub const LONG_TEXT: u32 = 18;
 
 pub const NO_ROOM: u32 = 19;
-
