@@ -94,8 +94,8 @@ enum { OSKURAMOS_UNMAPPED = 0x8000 };
 
 /* The words of a row of TypeInfo. The name is bytes in the code page of the database, of which the stream doesn't speak.
    The last word is 1 where the stream's end ended the name and no NUL: the stream lost its tail, and the name may have been longer. Only the last row can
-   have it. An entry has two names, and the second is used unless it is empty. A stream that was cut right after the first name's NUL gives the first name
-   with 0: that name is whole, and that a second one is lost can't be seen. */
+   have it. 0 in every row doesn't say that the stream is whole. An entry has two names, and the second is used unless it is empty: a stream that was cut
+   right after the first name's NUL gives the first name with 0, since that name is whole, and that a second one is lost can't be seen. */
 enum {
     OSKURAMOS_TYPE_INFO_TYPE = 0,
     OSKURAMOS_TYPE_INFO_INDEX = 1,
