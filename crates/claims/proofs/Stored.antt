@@ -14,7 +14,7 @@ use Rattle.rules.specs.Tree.{Entry, plain, parent, Entries, end, more, Node, re
 use Rattle.rules.specs.Tree as tree
 use Rattle.rules.specs.Access2000.{Prop, streamOf}
 use Rattle.rules.specs.Read2000 as read2000
-use Rattle.rules.specs.Read2000.{ScopeKey, objectScope, entryScope, spotIn, nodeSpots, spotsOf}
+use Rattle.rules.specs.Read2000.{ScopeKey, objectKey, entryKey, spotIn, nodeSpots, spotsOf}
 use Rattle.rules.specs.Blob.{is2000, readingOf, fit, answerOf, exit, spotsIn, spots}
 use Rattle.rules.specs.declared.Name.the-variants.{Text, Numbered}
 use Rattle.rules.proofs.ListLaws.{map-append, none-some}
@@ -73,17 +73,17 @@ module _ (s : List ℕ) where
   nodes-say : (ns : List (Node Prop)) → map (spotSays s) (concat (map nodeSpots ns)) ≡ concat (map storedIn (map shownAs ns))
   unfolding concat
   nodes-say [] = refl
-  nodes-say (n ∷ ns) = map-append (spotSays s) (nodeSpots n) (concat (map nodeSpots ns)) ∙ ap₂ _++_ (run-says (entryScope (n .type)) (n .props)) (nodes-say ns)
+  nodes-say (n ∷ ns) = map-append (spotSays s) (nodeSpots n) (concat (map nodeSpots ns)) ∙ ap₂ _++_ (run-says (entryKey (n .type)) (n .props)) (nodes-say ns)
 
-  object-same : scopeOf (objectScope s) ≡ objectScope s
-  unfolding objectScope read2000.isReport
+  object-same : scopeOf (objectKey s) ≡ objectScope s
+  unfolding objectKey read2000.isReport
   object-same = refl
 
   spots-say : (x : List Prop × Entries Prop) → map (spotSays s) (spotsOf s x) ≡ storedOf s (contents.stream s x)
   unfolding spotsOf
   spots-say x =
-      map-append (spotSays s) (map (spotIn (objectScope s)) (x .0)) (concat (map nodeSpots (nodesOf (x .1))))
-      ∙ ap₂ _++_ (run-says (objectScope s) (x .0) ∙ ap (λ w. map (inScope w) (contents.run s (x .0))) object-same)
+      map-append (spotSays s) (map (spotIn (objectKey s)) (x .0)) (concat (map nodeSpots (nodesOf (x .1))))
+      ∙ ap₂ _++_ (run-says (objectKey s) (x .0) ∙ ap (λ w. map (inScope w) (contents.run s (x .0))) object-same)
       (nodes-say (nodesOf (x .1)) ∙ ap (λ ns. concat (map storedIn ns)) (nodes-same x))
 
   -- ---- controls
@@ -115,7 +115,7 @@ module _ (s : List ℕ) where
     control-shows : (n : Node Prop) → controlShows s (read2000.controlOf table s n) ≡ controlSays table s (shownAs n)
     unfolding read2000.controlOf read2000.nameOf read2000.typeCode read2000.isReport
     control-shows n =
-        let many : length (map (read2000.propertyIn table s (entryScope (n .type))) (n .props)) ≡ length (contents.run s (n .props)) = simp length-map (sym (run-many (n .props))) in
+        let many : length (map (read2000.propertyIn table s (entryKey (n .type))) (n .props)) ≡ length (contents.run s (n .props)) = simp length-map (sym (run-many (n .props))) in
         λ i. (typeSays table s (n .type), name-shows (n .type) (n .props) i, many i)
 
     controls-show : (ns : List (Node Prop)) → map (controlShows s) (map (read2000.controlOf table s) ns) ≡ map (controlSays table s) (map shownAs ns)

@@ -13,7 +13,7 @@ use Rattle.rules.specs.Bytes.{byteAt, halfAt}
 use Rattle.rules.specs.Tree.{Entry, plain, parent, Entries, end, more, reported, nodesOf}
 use Rattle.rules.specs.Access2000.{Prop, propertyAt, goesOn, runOf, runAt, headAt, closeAt, entryAt, entriesAt, streamOf}
 use Rattle.rules.specs.Reading.{properties}
-use Rattle.rules.specs.Read2000.{objectScope, read2000, spotIn, nodeSpots, spotsOf}
+use Rattle.rules.specs.Read2000.{objectKey, read2000, spotIn, nodeSpots, spotsOf}
 use Rattle.rules.proofs.ListLaws.{Every, every-if, every-then, every-when}
 use Rattle.rules.proofs.Access2000Laws.{Within, property-within}
 use Rattle.rules.proofs.Read2000Laws.{properties-many, controls-many}
@@ -131,9 +131,9 @@ module _ (s : List ℕ) where
   unfolding spotsOf
   counts-2000 t x =
       let n = nodes-many (x .1) in
-      let l : length (map (spotIn (objectScope s)) (x .0)) ≡ length (x .0) = simp length-map in
+      let l : length (map (spotIn (objectKey s)) (x .0)) ≡ length (x .0) = simp length-map in
       let k = each-long nodeSpots (λ n. simp length-map) (nodesOf (x .1)) in
-      (controls-many t s x ∙ n .0, properties-many t s x ∙ length-append (map (spotIn (objectScope s)) (x .0)) (concat (map nodeSpots (nodesOf (x .1)))) ∙ omega arith)
+      (controls-many t s x ∙ n .0, properties-many t s x ∙ length-append (map (spotIn (objectKey s)) (x .0)) (concat (map nodeSpots (nodesOf (x .1)))) ∙ omega arith)
 
   pub record Fits2000 (controls props : ℕ) : Type 0 where
     pub least : 3 * controls + props + 11 ≤ length s

@@ -12,7 +12,7 @@ use Rattle.rules.specs.Answer.{refusal, longest, noReading}
 use Rattle.rules.specs.Tree.{Entries, reported, nodesOf, levels}
 use Rattle.rules.specs.Access2000.{Prop, runAt, headAt, entriesAt, streamOf}
 use Rattle.rules.specs.Rows.{controlWidth, propertyWidth, room}
-use Rattle.rules.specs.Read2000.{objectScope, propertyIn, controlOf, read2000}
+use Rattle.rules.specs.Read2000.{objectKey, propertyIn, controlOf, read2000}
 use Rattle.rules.specs.declared.Answer.{Answer}
 use Rattle.rules.proofs.ListLaws.{none-some, Every, every-if, every-when, every-at}
 use Rattle.rows.specs.Counting.{size, props, propsIn}
@@ -73,7 +73,7 @@ module _ (t s : List ℕ) (x : List Prop × Entries Prop) where
   pub counts : Counts (read2000 t s x) (size (reported (x .1))) (length (x .0) + props (reported (x .1))) (length (x .0))
   unfolding read2000 nodesOf
   counts =
-      let k = made-counts (propertyIn t s (objectScope s)) (controlOf t s) (same-properties t s) (x .0) (nodesOf (x .1)) in
+      let k = made-counts (propertyIn t s (objectKey s)) (controlOf t s) (same-properties t s) (x .0) (nodesOf (x .1)) in
       rw (counting.nodes (reported (x .1)), counting.in-all (reported (x .1))) at k
 
   -- a stream is longer than all that is counted of it
@@ -107,7 +107,7 @@ module _ {t s controls rows : List ℕ} (h : StreamReady t s controls rows) wher
   parts = every-at (StreamParts s) (streamOf s) (is .tree) (stream-parts s) (is .reads)
 
   -- the object's scope, and the rows of it
-  module _ {kind : ℕ} (ke : kind ≡ objectScope s .kind) {body : Body} (be : Finds t kind 0 body) where
+  module _ {kind : ℕ} (ke : kind ≡ objectKey s .kind) {body : Body} (be : Finds t kind 0 body) where
     pub own-ready : RunReady t body s 10 rows 0 0xFF
     own-ready = record {
       small = h .small;
@@ -121,9 +121,9 @@ module _ {t s controls rows : List ℕ} (h : StreamReady t s controls rows) wher
       own-run = run-written (parts .run) (done .rows-are)
 
       own-rows : rows′ ≡ writeProperties (read2000 t s (is .tree) .own) rows 0
-      unfolding read2000 objectScope
+      unfolding read2000 objectKey
       own-rows =
-          let f : shownIn (bodyRows t body) s ≡ propertyIn t s (objectScope s) = shown-same t s kind 0 body (h .formed) be ∙ ap (λ k. propertyIn t s (record { kind = k; code = 0 })) ke in
+          let f : shownIn (bodyRows t body) s ≡ propertyIn t s (objectKey s) = shown-same t s kind 0 body (h .formed) be ∙ ap (λ k. propertyIn t s (record { kind = k; code = 0 })) ke in
           own-run .rows ∙ ap (λ g. writeProperties (map g (is .tree .0)) rows 0) f
 
       -- what stands after the object's run
@@ -167,7 +167,7 @@ module _ {t s controls rows : List ℕ} (h : StreamReady t s controls rows) wher
               record {
                 ready = record {
                   known = record { formed = h .formed; listed = listed; small = h .small };
-                  fits = rw (list-is, q) (made-fit (propertyIn t s (objectScope s)) (controlOf t s) (same-properties t s) (x .0) (nodesOf (x .1)) controls rows rows′ (is .fits) l m);
+                  fits = rw (list-is, q) (made-fit (propertyIn t s (objectKey s)) (controlOf t s) (same-properties t s) (x .0) (nodesOf (x .1)) controls rows rows′ (is .fits) l m);
                 };
                 first = refl;
               }
@@ -178,7 +178,7 @@ module _ {t s controls rows : List ℕ} (h : StreamReady t s controls rows) wher
               let x = is .tree in
               let q : own .row ≡ length (x .0) = own-run .row-is ∙ omega arith in
               let z = w ∙ ap (λ o. act t s (topNodes o) (stateAt controls rows′ start)) list-is ∙ (λ i. act t s (some (nodesOf (x .1), length s)) (state controls 0 (own-rows i) (q i))) in
-              rw (is .reads) (made-written (propertyIn t s (objectScope s)) (controlOf t s) (same-properties t s) (x .0) (nodesOf (x .1)) controls rows controls′ rows″ (r .control) (r .property) (r .at) (length s) z)
+              rw (is .reads) (made-written (propertyIn t s (objectKey s)) (controlOf t s) (same-properties t s) (x .0) (nodesOf (x .1)) controls rows controls′ rows″ (r .control) (r .property) (r .at) (length s) z)
 
 -- ---- the answer
 -- what is known of a stream that was counted

@@ -16,7 +16,7 @@ unfolding manyAt levelsAt reported preorder nodesOf old.lengthAt old.extentAt ol
 trees-open = 0
 
 unfoldable pub readings-open : ℕ
-unfolding properties controlRow controlRowsFrom controlRows propertyRows read2000.isReport read2000.objectScope read2000.propertyIn read2000.typeCode read2000.nameOf read2000.controlOf read2000.read2000 read2000.spotsOf readLater.propertyOf readLater.nameOf readLater.scannedName readLater.controlOf readLater.readLater is2000 readingOf outcome exit outcome2000 exit2000 outcomeLater exitLater spots
+unfolding properties controlRow controlRowsFrom controlRows propertyRows read2000.isReport read2000.objectKey read2000.propertyIn read2000.typeCode read2000.nameOf read2000.controlOf read2000.read2000 read2000.spotsOf readLater.propertyOf readLater.nameOf readLater.scannedName readLater.controlOf readLater.readLater is2000 readingOf outcome exit outcome2000 exit2000 outcomeLater exitLater spots
 readings-open = 0
 
 unfoldable pub blob-open : ℕ

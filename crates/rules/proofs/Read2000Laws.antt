@@ -10,7 +10,7 @@ use Rattle.rules.specs.CodeTable.{header}
 use Rattle.rules.specs.Tree.{Entries, Node, nodesOf}
 use Rattle.rules.specs.Access2000.{Prop}
 use Rattle.rules.specs.Reading.{Control, Reading, properties, propertiesOf, controlRow, controlRowsFrom, controlRows}
-use Rattle.rules.specs.Read2000.{objectScope, entryScope, propertyIn, controlOf, read2000, Spot, spotIn, nodeSpots, spotsOf}
+use Rattle.rules.specs.Read2000.{objectKey, entryKey, propertyIn, controlOf, read2000, Spot, spotIn, nodeSpots, spotsOf}
 use Rattle.rules.specs.Blob.{counted}
 use Rattle.rules.specs.declared.Property.{Property}
 use Rattle.rules.proofs.ListLaws.{map-append, map-map}
@@ -23,14 +23,14 @@ controls-from : (t s : List ℕ) (ns : List (Node Prop)) → concat (map propert
 unfolding controlOf shownAt concat
 controls-from t s [] = refl
 controls-from t s (n ∷ ns) =
-    ap₂ (λ (a b : List Property). a ++ b) (sym (map-map (shownAt t s) (spotIn (entryScope (n .type))) (n .props))) (controls-from t s ns)
+    ap₂ (λ (a b : List Property). a ++ b) (sym (map-map (shownAt t s) (spotIn (entryKey (n .type))) (n .props))) (controls-from t s ns)
     ∙ sym (map-append (shownAt t s) (nodeSpots n) (concat (map nodeSpots ns)))
 
 pub properties-from : (t s : List ℕ) (x : List Prop × Entries Prop) → properties (read2000 t s x) ≡ map (shownAt t s) (spotsOf s x)
 unfolding properties read2000 spotsOf shownAt
 properties-from t s x =
-    ap₂ (λ (a b : List Property). a ++ b) (sym (map-map (shownAt t s) (spotIn (objectScope s)) (x .0))) (controls-from t s (nodesOf (x .1)))
-    ∙ sym (map-append (shownAt t s) (map (spotIn (objectScope s)) (x .0)) (concat (map nodeSpots (nodesOf (x .1)))))
+    ap₂ (λ (a b : List Property). a ++ b) (sym (map-map (shownAt t s) (spotIn (objectKey s)) (x .0))) (controls-from t s (nodesOf (x .1)))
+    ∙ sym (map-append (shownAt t s) (map (spotIn (objectKey s)) (x .0)) (concat (map nodeSpots (nodesOf (x .1)))))
 
 -- ---- what asks nothing of the table's rows
 -- the counts are the stream's, whatever the table

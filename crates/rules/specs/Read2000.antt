@@ -30,12 +30,12 @@ unfoldable pub isReport : List ℕ → Bool
 isReport s = eqb (byte s 8) 0x97
 
 -- "the scope of the object's run"
-unfoldable pub objectScope : List ℕ → ScopeKey
-objectScope s = record { kind = cond (isReport s) 1 0; code = 0 }
+unfoldable pub objectKey : List ℕ → ScopeKey
+objectKey s = record { kind = cond (isReport s) 1 0; code = 0 }
 
 -- "An entry's scope is its type as stored."
-abbrev pub entryScope : ℕ → ScopeKey
-entryScope type = record { kind = 2; code = type }
+abbrev pub entryKey : ℕ → ScopeKey
+entryKey type = record { kind = 2; code = type }
 
 -- the table's row for an id in a scope, if it has one
 abbrev pub tied : List ℕ → ScopeKey → ℕ → Option Tie
@@ -77,12 +77,12 @@ unfoldable pub controlOf : List ℕ → List ℕ → Node Prop → Control
 controlOf t s n = record {
   type = typeCode (header t) (isReport s) (n .type);
   name = nameOf s n;
-  properties = map (propertyIn t s (entryScope (n .type))) (n .props);
+  properties = map (propertyIn t s (entryKey (n .type))) (n .props);
 }
 
 unfoldable pub read2000 : List ℕ → List ℕ → List Prop × Entries Prop → Reading
 read2000 t s x = record {
-  own = map (propertyIn t s (objectScope s)) (x .0);
+  own = map (propertyIn t s (objectKey s)) (x .0);
   controls = map (controlOf t s) (nodesOf (x .1));
 }
 
@@ -95,7 +95,7 @@ abbrev pub spotIn : ScopeKey → Prop → Spot
 spotIn w q = record { scope = w; prop = q }
 
 abbrev pub nodeSpots : Node Prop → List Spot
-nodeSpots n = map (spotIn (entryScope (n .type))) (n .props)
+nodeSpots n = map (spotIn (entryKey (n .type))) (n .props)
 
 unfoldable pub spotsOf : List ℕ → List Prop × Entries Prop → List Spot
-spotsOf s x = map (spotIn (objectScope s)) (x .0) ++ concat (map nodeSpots (nodesOf (x .1)))
+spotsOf s x = map (spotIn (objectKey s)) (x .0) ++ concat (map nodeSpots (nodesOf (x .1)))
