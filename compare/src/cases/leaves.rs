@@ -33,9 +33,12 @@ pub fn names(rng: &mut Rng, out: Sink) {
     ids.extend((0..200).map(|_| rng.next() as u16));
     ids.sort();
     ids.dedup();
-    for id in ids {
-        out(Case::other("names", Kind::Names, [id as u32, 0], Vec::new()));
-    }
+    ids.into_iter().map(name).for_each(out);
+}
+
+/// What the four tables have for an id.
+pub fn name(id: u16) -> Case {
+    Case::other("names", Kind::Names, [id as u32, 0], Vec::new())
 }
 
 /// Each mark with parts inside, at the edge, outside, and with sums past 32 bits.
