@@ -18,18 +18,21 @@ slice-aggregate-result c = search needs
 
 returns : tie.Need-returns
 returns c =
-    let a = c .before .before .before .before .args in
+    let start : tie.Start = search in
+    let a = start .args in
     let m = either (a .mark) (c .before .match .keys1) in
     (c .part-or .ensures .0 ∙ by-stream (a .stream .now) (a .label .now) (a .start) (a .length) (a .mark) m, c .part-or .ensures .1 ∙ at-stream (a .stream .now) (a .label .now) (a .start) (a .length) (a .stream .ptr) (a .label .ptr) (a .mark) m)
 
 returns-2 : tie.Need-returns-2
 returns-2 c =
-    let a = c .before .before .before .before .args in
+    let start : tie.Start = search in
+    let a = start .args in
     (c .part-or2 .ensures .0 ∙ by-label (a .stream .now) (a .label .now) (a .start) (a .length) (a .mark) (omega arith), c .part-or2 .ensures .1 ∙ at-label (a .stream .now) (a .label .now) (a .start) (a .length) (a .stream .ptr) (a .label .ptr) (a .mark) (omega arith))
 
 returns-3 : tie.Need-returns-3
 returns-3 c =
-    let a = c .before .before .before .before .args in
+    let start : tie.Start = search in
+    let a = start .args in
     let m = c .before .match .rest in
     (by-none (a .stream .now) (a .label .now) (a .start) (a .length) (a .mark) (λ e. m .0 .1 (inl e)) (λ e. m .0 .1 (inr e)) (m .1), at-none (a .stream .now) (a .label .now) (a .start) (a .length) (a .stream .ptr) (a .label .ptr) (a .mark) (λ e. m .0 .1 (inl e)) (λ e. m .0 .1 (inr e)) (m .1))
 

@@ -21,7 +21,8 @@ layout-requires c κs = search needs
 returns-2 : tie.Need-returns-2
 unfolding is2000
 returns-2 c =
-    let a = c .before .before .before .before .before .args in
+    let start : tie.Start = search in
+    let a = start .args in
     sym (rw (lt-ltb 0 (length (a .stream .now)) (omega arith), ← (c .layout .ensures)))
 
 pub is-2000-spec : {M : Type 1} → statement M

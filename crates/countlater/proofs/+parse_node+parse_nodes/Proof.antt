@@ -1,5 +1,6 @@
 use Prim.Native.Nat.{ℕ, _+_, _≤_, _<_}
 use native.Mathlib.Omega.{arith}
+use mathlib.Core.List.{List}
 use borrow.Author.Needs.{needs}
 use Rattle.rules.specs.Later.{nodeAt, nodesAt}
 use Rattle.rows.proofs.TakenLaws.{Counting, counting-start, counting-all, counting-deep, counting-bad, counting-more}
@@ -41,11 +42,31 @@ parse-node-calls t = (head-at-reads.Asked, head-at-reads.Learnt, parse-nodes-bel
 abbrev parse-nodes-calls : ℕ → parse-nodes-lts.Claims
 parse-nodes-calls t = (parse-node-below t, parse-node.Post)
 
+-- the places that are far from where they are cited: a node's head read, and told; in the loop, at its start, at its test, and where a level is left
+abbrev Head-read : ℕ → Type 0
+Head-read t = parse-node-lts.After-head-at (parse-node-calls t) (parse-node-at t) parse-node.Post
+
+abbrev Head-told : ℕ → Type 0
+Head-told t = parse-node-lts.After-count (parse-node-calls t) (parse-node-at t) parse-node.Post
+
+record Kept (s : List ℕ) (n at left p k all theirs : ℕ) : Type 0 where
+  few : at + all + theirs ≤ p
+  counts : Counting (nodeAt s) left n at all theirs k p
+
 abbrev Inv-loop : parse-nodes-lts.InvT-loop
-Inv-loop s n at left p₀ k₀ all₀ theirs₀ p k all theirs = (at + all + theirs ≤ p) × Counting (nodeAt s) left n at all theirs k p
+Inv-loop s n at left p₀ k₀ all₀ theirs₀ p k all theirs = Kept s n at left p k all theirs
 
 abbrev μ-loop : parse-nodes-lts.MeasureT-loop
 μ-loop s n at left p₀ k₀ all₀ theirs₀ p k all theirs = k
+
+abbrev At-loop : ℕ → Type 0
+At-loop t = parse-nodes-lts.At-loop (parse-nodes-calls t) (parse-nodes-at t) parse-nodes.Post Inv-loop μ-loop
+
+abbrev In-loop : ℕ → Type 0
+In-loop t = parse-nodes-lts.In-loop (parse-nodes-calls t) (parse-nodes-at t) parse-nodes.Post Inv-loop μ-loop
+
+abbrev Level-left : ℕ → Type 0
+Level-left t = parse-nodes-lts.Else1 (parse-nodes-calls t) (parse-nodes-at t) parse-nodes.Post Inv-loop μ-loop
 
 pub +parse-node+parse-nodes-spec : {M : Type 1} → statement M
 unfolding nodesAt
@@ -53,21 +74,21 @@ unfolding nodesAt
     (λ c κs. search needs) (λ c. search needs) (λ c. search needs)
     (λ c. counted-none _ _ _ (unheaded _ _ _ (c .before .before .head-at .ensures) (c .enum-told .given .1)))
     (λ c κs. omega arith) (λ c. search needs) (λ c. search needs)
-    (λ c. let h = headed _ _ _ _ _ _ (c .before .before .before .before .before .before .before .head-at .ensures) (c .before .before .before .before .before .count .given .1) in omega (arith, node-room _ _ _ _ _ _ h _ (c .before .before .before .parse-nodes .ensures) _ _ _ (c .before .controls .given .1)))
-    (λ c. let h = headed _ _ _ _ _ _ (c .before .before .before .before .before .before .before .head-at .ensures) (c .before .before .before .before .before .count .given .1) in omega (arith, node-room _ _ _ _ _ _ h _ (c .before .before .before .parse-nodes .ensures) _ _ _ (c .before .controls .given .1)))
-    (λ c. counted-bad _ _ _ _ _ _ (headed _ _ _ _ _ _ (c .before .before .before .before .before .before .head-at .ensures) (c .before .before .before .before .count .given .1)) _ (c .before .before .parse-nodes .ensures) (c .enum-told2 .given .1))
-    (λ c. counted-of _ _ _ _ _ _ (headed _ _ _ _ _ _ (c .before .before .before .before .before .before .before .head-at .ensures) (c .before .before .before .before .before .count .given .1)) _ (c .before .before .before .parse-nodes .ensures) _ _ _ (c .before .controls .given .1)))
+    (λ c. let told : Head-told t = search in let head : Head-read t = search in let h = headed _ _ _ _ _ _ (head .head-at .ensures) (told .count .given .1) in omega (arith, node-room _ _ _ _ _ _ h _ (c .before .before .before .parse-nodes .ensures) _ _ _ (c .before .controls .given .1)))
+    (λ c. let told : Head-told t = search in let head : Head-read t = search in let h = headed _ _ _ _ _ _ (head .head-at .ensures) (told .count .given .1) in omega (arith, node-room _ _ _ _ _ _ h _ (c .before .before .before .parse-nodes .ensures) _ _ _ (c .before .controls .given .1)))
+    (λ c. let told : Head-told t = search in let head : Head-read t = search in counted-bad _ _ _ _ _ _ (headed _ _ _ _ _ _ (head .head-at .ensures) (told .count .given .1)) _ (c .before .before .parse-nodes .ensures) (c .enum-told2 .given .1))
+    (λ c. let told : Head-told t = search in let head : Head-read t = search in counted-of _ _ _ _ _ _ (headed _ _ _ _ _ _ (head .head-at .ensures) (told .count .given .1)) _ (c .before .before .before .parse-nodes .ensures) _ _ _ (c .before .controls .given .1)))
     λ t. parse-nodes-lts.spec (parse-nodes-calls t) (parse-nodes-at t) parse-nodes.Post Inv-loop μ-loop
-    (λ c. (omega arith, counting-start))
-    (λ c. counting-deep (c .before .before .loop .inv .1) (c .if1 .taken) (c .before .loop-test .taken))
+    (λ c. record { few = omega arith; counts = counting-start })
+    (λ c. counting-deep (c .before .before .loop .inv .counts) (c .if1 .taken) (c .before .loop-test .taken))
     (λ c. search needs) (λ c κs. omega arith) (λ c. search needs)
-    (λ c. counting-bad (c .before .before .before .before .before .loop .inv .1) (c .before .before .before .if1 .left) (c .before .before .before .before .loop-test .taken) _ (c .before .before .parse-node .ensures) (c .enum-told .given .1))
+    (λ c. let test : In-loop t = search in let start : At-loop t = search in counting-bad (start .loop .inv .counts) (c .before .before .before .if1 .left) (test .loop-test .taken) _ (c .before .before .parse-node .ensures) (c .enum-told .given .1))
     (λ c. search needs)
     (λ c. omega (arith, node-fits _ _ _ _ _ _ _ (c .before .before .before .parse-node .ensures) (c .before .controls .given .1)))
     (λ c. omega (arith, node-fits _ _ _ _ _ _ _ (c .before .before .before .parse-node .ensures) (c .before .controls .given .1)))
     (λ c. search needs) (λ c. search needs)
-    (λ c. (
-      omega (arith, node-fits _ _ _ _ _ _ _ (c .before .before .before .parse-node .ensures) (c .before .controls .given .1)),
-      counting-more (c .before .before .before .before .before .before .loop .inv .1) (c .before .before .before .before .if1 .left) (c .before .before .before .before .before .loop-test .taken) _ (c .before .before .before .parse-node .ensures) _ _ _ (c .before .controls .given .1),
-    ))
-    (λ c. counting-all (c .before .loop .inv .1) (c .loop-test .left))
+    (λ c. let level : Level-left t = search in let test : In-loop t = search in let start : At-loop t = search in record {
+      few = omega (arith, node-fits _ _ _ _ _ _ _ (c .before .before .before .parse-node .ensures) (c .before .controls .given .1));
+      counts = counting-more (start .loop .inv .counts) (level .if1 .left) (test .loop-test .taken) _ (c .before .before .before .parse-node .ensures) _ _ _ (c .before .controls .given .1);
+    })
+    (λ c. counting-all (c .before .loop .inv .counts) (c .loop-test .left))

@@ -14,8 +14,8 @@ children-at-spec =
     (tie.spec
     (λ c. simp (eq-eqb _ _ (c .if1 .taken)))
     (λ c. simp (ne-eqb _ _ (c .before .if1 .left), eq-eqb _ _ (c .if2 .taken)))
-    (λ c. let a = c .before .before .before .before .args in simp (ne-eqb _ _ (c .before .before .if1 .left), ne-eqb _ _ (c .before .if2 .left), lt-leb (a .at + 2) (length (a .s .now)) (omega arith)))
+    (λ c. let start : tie.Start = search in let a = start .args in simp (ne-eqb _ _ (c .before .before .if1 .left), ne-eqb _ _ (c .before .if2 .left), lt-leb (a .at + 2) (length (a .s .now)) (omega arith)))
     (λ c. search needs)
-    (λ c. let a = c .before .before .before .before .before .args in simp (ne-eqb _ _ (c .before .before .before .if1 .left), ne-eqb _ _ (c .before .before .if2 .left), lt-leb (a .at + 2) (length (a .s .now)) (omega arith)))
+    (λ c. let start : tie.Start = search in let a = start .args in simp (ne-eqb _ _ (c .before .before .before .if1 .left), ne-eqb _ _ (c .before .before .if2 .left), lt-leb (a .at + 2) (length (a .s .now)) (omega arith)))
     (λ c κs. search needs) (λ c. search needs) (λ c. search needs)
-    (λ c. let a = c .before .before .before .before .before .before .args in simp (ne-eqb _ _ (c .before .before .before .before .if1 .left), ne-eqb _ _ (c .before .before .before .if2 .left), le-leb (a .at + 2) (length (a .s .now)) (omega arith), c .u16-at .ensures)))
+    (λ c. let else1 : tie.Else1 = search in let start : tie.Start = search in let a = start .args in simp (ne-eqb _ _ (else1 .if1 .left), ne-eqb _ _ (c .before .before .before .if2 .left), le-leb (a .at + 2) (length (a .s .now)) (omega arith), c .u16-at .ensures)))

@@ -12,5 +12,5 @@ head-at-spec =
     (λ c. search needs) (λ c κs. search needs) (λ c. search needs) (λ c. search needs)
     (λ c. head-open _ _ _ (c .before .before .parse-group .ensures) _ _ (c .enum-told .given .1))
     (λ c κs. search needs) (λ c. search needs) (λ c. search needs)
-    (λ c. head-bad _ _ _ (c .before .before .before .before .before .before .parse-group .ensures) _ _ _ (c .before .before .before .before .count .given .1) _ (c .before .before .children-at .ensures) (c .enum-told2 .given .1))
-    (λ c. head-of _ _ _ (c .before .before .before .before .before .before .before .parse-group .ensures) _ _ _ (c .before .before .before .before .before .count .given .1) _ (c .before .before .before .children-at .ensures) _ _ (c .before .below .given .1)))
+    (λ c. let after-count : tie.After-count = search in let after-parse-group : tie.After-parse-group = search in head-bad _ _ _ (after-parse-group .parse-group .ensures) _ _ _ (after-count .count .given .1) _ (c .before .before .children-at .ensures) (c .enum-told2 .given .1))
+    (λ c. let after-count : tie.After-count = search in let after-parse-group : tie.After-parse-group = search in head-of _ _ _ (after-parse-group .parse-group .ensures) _ _ _ (after-count .count .given .1) _ (c .before .before .before .children-at .ensures) _ _ (c .before .below .given .1)))

@@ -1,12 +1,17 @@
 use native.Mathlib.Omega.{arith}
 use borrow.Author.Needs.{needs}
-use Prim.Native.Nat.{_+_, _-_, _≤_}
+use Prim.Native.Nat.{ℕ, _+_, _-_, _≤_}
+use mathlib.Core.List.{List}
 use Rattle.countlater.proofs.PassedLaws.{Passed, passed-start, passed-none, passed-last, passed-more, extent-inside}
 use Rattle.countlater.proofs.parse_group.Statement.{statement}
 use Rattle.countlater.proofs.parse_group.Tie as tie
 
+record Kept (s : List ℕ) (limit at p n : ℕ) : Type 0 where
+  few : at + n ≤ p
+  passed : Passed s limit at n p
+
 abbrev Inv-loop : tie.InvT-loop
-Inv-loop s limit at p₀ n₀ p n = (at + n ≤ p) × Passed s limit at n p
+Inv-loop s limit at p₀ n₀ p n = Kept s limit at p n
 
 abbrev μ-loop : tie.MeasureT-loop
 μ-loop s limit at p₀ n₀ p n = limit - p
@@ -16,13 +21,13 @@ parse-group-spec =
     tie.close
     (tie.spec
     Inv-loop μ-loop
-    (λ c. (omega arith, passed-start _ _ _))
+    (λ c. record { few = omega arith; passed = passed-start _ _ _ })
     (λ c κs. search needs) (λ c. search needs)
-    (λ c. passed-none _ _ _ _ _ (c .before .before .before .before .before .pre) (c .before .before .before .loop .inv .1) _ (c .before .before .parse-entry .ensures) (c .enum-told .given .1))
+    (λ c. let start : tie.Start Inv-loop μ-loop = search in passed-none _ _ _ _ _ (start .pre) (c .before .before .before .loop .inv .passed) _ (c .before .before .parse-entry .ensures) (c .enum-told .given .1))
     (λ c. search needs)
     (λ c. omega (arith, extent-inside _ _ _ _ _ _ _ (c .before .before .before .parse-entry .ensures) (c .before .next .given .1)))
     (λ c κs. search needs)
-    (λ c. passed-last _ _ _ _ _ (c .before .before .before .before .before .before .before .before .pre) (c .before .before .before .before .before .before .loop .inv .1) _ (c .before .before .before .before .before .parse-entry .ensures) _ _ _ (c .before .before .before .next .given .1) _ (c .before .ends-group .ensures) (c .if1 .taken))
-    (λ c. omega (arith, extent-inside _ _ _ _ _ _ _ (c .before .before .before .before .before .parse-entry .ensures) (c .before .before .before .next .given .1)))
-    (λ c. let i = extent-inside _ _ _ _ _ _ _ (c .before .before .before .before .before .parse-entry .ensures) (c .before .before .before .next .given .1) in
-    (omega (arith, i .room, c .before .before .before .before .before .before .loop .inv .0), passed-more _ _ _ _ _ (c .before .before .before .before .before .before .before .before .pre) (c .before .before .before .before .before .before .loop .inv .1) _ (c .before .before .before .before .before .parse-entry .ensures) _ _ _ (c .before .before .before .next .given .1) _ (c .before .ends-group .ensures) (c .if1 .left))))
+    (λ c. let after-parse-entry : tie.After-parse-entry Inv-loop μ-loop = search in let at-loop : tie.At-loop Inv-loop μ-loop = search in let start : tie.Start Inv-loop μ-loop = search in passed-last _ _ _ _ _ (start .pre) (at-loop .loop .inv .passed) _ (after-parse-entry .parse-entry .ensures) _ _ _ (c .before .before .before .next .given .1) _ (c .before .ends-group .ensures) (c .if1 .taken))
+    (λ c. let after-parse-entry : tie.After-parse-entry Inv-loop μ-loop = search in omega (arith, extent-inside _ _ _ _ _ _ _ (after-parse-entry .parse-entry .ensures) (c .before .before .before .next .given .1)))
+    (λ c. let after-parse-entry : tie.After-parse-entry Inv-loop μ-loop = search in let at-loop : tie.At-loop Inv-loop μ-loop = search in let start : tie.Start Inv-loop μ-loop = search in let i = extent-inside _ _ _ _ _ _ _ (after-parse-entry .parse-entry .ensures) (c .before .before .before .next .given .1) in
+    record { few = omega (arith, i .room, at-loop .loop .inv .few); passed = passed-more _ _ _ _ _ (start .pre) (at-loop .loop .inv .passed) _ (after-parse-entry .parse-entry .ensures) _ _ _ (c .before .before .before .next .given .1) _ (c .before .ends-group .ensures) (c .if1 .left) }))

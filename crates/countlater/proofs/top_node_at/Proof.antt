@@ -14,5 +14,5 @@ top-node-at-spec =
     (λ c. shown-type _ _ _ (ap isSection (sym (c .before .before .u16-at .ensures)) ∙ sym (c .before .is-section .ensures) ∙ c .if1 .taken))
     (λ c κs. search needs) (λ c. search needs) (λ c. search needs)
     (λ c. shown-none _ _ _ (unheaded _ _ _ (c .before .before .head-at .ensures) (c .enum-told .given .1)))
-    (λ c. shown-filled _ _ _ _ _ _ (headed _ _ _ _ _ _ (c .before .before .before .before .head-at .ensures) (c .before .before .count .given .1)) (omega arith))
-    (λ c. shown-leaf _ _ _ _ _ _ (headed _ _ _ _ _ _ (c .before .before .before .before .head-at .ensures) (c .before .before .count .given .1)) (omega arith) (ap isSection (sym (c .before .before .before .before .before .before .before .u16-at .ensures)) ∙ sym (c .before .before .before .before .before .before .is-section .ensures) ∙ c .before .before .before .before .before .if1 .left)))
+    (λ c. let after-head-at : tie.After-head-at = search in shown-filled _ _ _ _ _ _ (headed _ _ _ _ _ _ (after-head-at .head-at .ensures) (c .before .before .count .given .1)) (omega arith))
+    (λ c. let after-head-at : tie.After-head-at = search in let else1 : tie.Else1 = search in let after-is-section : tie.After-is-section = search in let after-u16-at : tie.After-u16-at = search in shown-leaf _ _ _ _ _ _ (headed _ _ _ _ _ _ (after-head-at .head-at .ensures) (c .before .before .count .given .1)) (omega arith) (ap isSection (sym (after-u16-at .u16-at .ensures)) ∙ sym (after-is-section .is-section .ensures) ∙ else1 .if1 .left)))

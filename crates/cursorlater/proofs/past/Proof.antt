@@ -5,13 +5,20 @@ use Rattle.cursorlater.proofs.past.Statement.{statement}
 use Rattle.cursorlater.proofs.past.Tie as tie
 
 cast-after-entry : tie.Need-cast-after-entry
-cast-after-entry c = omega (arith, count-small _ _ _ _ (c .before .before .before .before .children-at .ensures) (λ i. c .before .before .before .before .before .shared-slice-known .given i .fits) _ _ (c .before .before .count .given .1))
+cast-after-entry c =
+    let after-children-at : tie.After-children-at = search in
+    let after-shared-slice-known : tie.After-shared-slice-known = search in
+    omega (arith, count-small _ _ _ _ (after-children-at .children-at .ensures) (λ i. after-shared-slice-known .shared-slice-known .given i .fits) _ _ (c .before .before .count .given .1))
 
 returns : tie.Need-returns
-returns c = absurd (past-bad _ _ _ _ (c .before .before .children-at .ensures) (c .enum-told .given .1) _ _ (c .before .before .before .before .pre))
+returns c =
+    let start : tie.Start = search in
+    absurd (past-bad _ _ _ _ (c .before .before .children-at .ensures) (c .enum-told .given .1) _ _ (start .pre))
 
 returns-2 : tie.Need-returns-2
-returns-2 c = past-of _ _ _ _ (c .before .before .before .before .before .children-at .ensures) _ _ (c .before .before .before .count .given .1) _ _ _ _ _ (c .after-entry .ensures)
+returns-2 c =
+    let after-children-at : tie.After-children-at = search in
+    past-of _ _ _ _ (after-children-at .children-at .ensures) _ _ (c .before .before .before .count .given .1) _ _ _ _ _ (c .after-entry .ensures)
 
 pub past-spec : {M : Type 1} → statement M
 past-spec =
@@ -21,6 +28,6 @@ past-spec =
     (λ c. search needs)
     (λ c. search needs)
     cast-after-entry
-    (λ c κs. c .before .before .before .before .before .before .pre .before)
+    (λ c κs. let start : tie.Start = search in start .pre .before)
     returns
     returns-2)

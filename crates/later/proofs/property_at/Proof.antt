@@ -10,4 +10,4 @@ property-at-spec =
     (λ c. search needs) (λ c. search needs) (λ c. search needs) (λ c κs. search needs)
     (λ c. search needs) (λ c. search needs) (λ c. search needs) (λ c κs. search needs)
     (λ c κs. search needs) (λ c. search needs) (λ c. search needs) (λ c. search needs)
-    (λ c. property-is _ _ (c .before .before .before .before .before .pre .is) (c .before .before .before .u32-at .ensures) (c .u16-at .ensures) (c .before .entry-value .ensures)))
+    (λ c. let start : tie.Start = search in property-is _ _ (start .pre .is) (c .before .before .before .u32-at .ensures) (c .u16-at .ensures) (c .before .entry-value .ensures)))

@@ -19,7 +19,7 @@ same-length-2 c = search needs
 returns : tie.Need-returns
 returns c =
     let after-read-2000 : tie.After-read-2000 = search in
-    let s = apart _ _ _ _ (after-read-2000 .read-2000 .ensures) in
+    let s = apart (after-read-2000 .read-2000 .ensures) in
     (c .handed-answer .ensures ∙ s .0, s .1)
 
 pub oskuramos-read-2000-spec : {M : Type 1} → statement M

@@ -19,7 +19,7 @@ same-length-2 c = search needs
 returns : tie.Need-returns
 returns c =
     let after-read-later : tie.After-read-later = search in
-    let s = apart _ _ _ _ (after-read-later .read-later .ensures) in
+    let s = apart (after-read-later .read-later .ensures) in
     (c .handed-answer .ensures ∙ s .0, s .1)
 
 pub oskuramos-read-later-spec : {M : Type 1} → statement M

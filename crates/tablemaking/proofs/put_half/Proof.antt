@@ -5,7 +5,9 @@ use Rattle.tablemaking.proofs.put_half.Statement.{statement}
 use Rattle.tablemaking.proofs.put_half.Tie as tie
 
 returns : tie.Need-returns
-returns c = c .before .before .before .before .before .before .put-byte .ensures ⨟ c .before .before .put-byte2 .ensures
+returns c =
+    let after-put-byte : tie.After-put-byte = search in
+    after-put-byte .put-byte .ensures ⨟ c .before .before .put-byte2 .ensures
 
 pub put-half-spec : {M : Type 1} → statement M
 put-half-spec =

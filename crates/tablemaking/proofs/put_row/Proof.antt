@@ -5,7 +5,10 @@ use Rattle.tablemaking.proofs.put_row.Statement.{statement}
 use Rattle.tablemaking.proofs.put_row.Tie as tie
 
 returns : tie.Need-returns
-returns c = c .before .before .before .before .before .before .before .before .before .before .put-byte .ensures ⨟ c .before .before .before .before .before .before .put-half .ensures ⨟ c .before .before .put-byte2 .ensures
+returns c =
+    let after-put-half : tie.After-put-half = search in
+    let after-put-byte : tie.After-put-byte = search in
+    after-put-byte .put-byte .ensures ⨟ after-put-half .put-half .ensures ⨟ c .before .before .put-byte2 .ensures
 
 pub put-row-spec : {M : Type 1} → statement M
 put-row-spec =

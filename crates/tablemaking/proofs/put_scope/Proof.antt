@@ -5,7 +5,10 @@ use Rattle.tablemaking.proofs.put_scope.Statement.{statement}
 use Rattle.tablemaking.proofs.put_scope.Tie as tie
 
 returns : tie.Need-returns
-returns c = c .before .before .before .before .before .before .before .before .before .before .put-byte .ensures ⨟ c .before .before .before .before .before .before .put-half .ensures ⨟ c .before .before .put-half2 .ensures
+returns c =
+    let after-put-half : tie.After-put-half = search in
+    let after-put-byte : tie.After-put-byte = search in
+    after-put-byte .put-byte .ensures ⨟ after-put-half .put-half .ensures ⨟ c .before .before .put-half2 .ensures
 
 pub put-scope-spec : {M : Type 1} → statement M
 put-scope-spec =
