@@ -2,6 +2,9 @@
 use rules::Answer;
 use rules::BAD_TABLE;
 use rules::LONGEST;
+use rules::NAME_LOOSE;
+use rules::NAME_NUMBERED;
+use rules::NAME_TEXT;
 use rules::OTHER_LAYOUT;
 use rules::TOO_LONG;
 ghost use mathlib.Core.Path.{_≡_};
@@ -93,8 +96,8 @@ pub fn control_name<'a>(
     ensures place { λ r. ⌜ r .ptr ≡ partPlace (stream .entry .ptr) (label .entry .ptr) (namePart (now (stream .entry)) (now (label .entry)) mark start length) ⌝ }
 {
     match mark {
-        0 | 2 => part_or(stream, start as usize, length as usize, stream),
-        1 => part_or(label, 0, length as usize, stream),
+        NAME_TEXT | NAME_LOOSE => part_or(stream, start as usize, length as usize, stream),
+        NAME_NUMBERED => part_or(label, 0, length as usize, stream),
         _ => &stream[..0],
     }
 }
