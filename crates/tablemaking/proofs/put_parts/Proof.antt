@@ -4,7 +4,7 @@ use mathlib.Core.Bool.{Bool}
 use mathlib.Core.List.{List}
 use lib.ListN.{length, drop}
 use Rattle.text.proofs.Chain.{same}
-use Rattle.tabletext.proofs.Remains.{Remains, all-remains, on, done}
+use Rattle.text.proofs.Remains.{Remains, all-remains, on, done}
 use Rattle.tablelines.specs.Items.{itemsOf}
 use Rattle.tablemaking.specs.Made.{partsSaid}
 use Rattle.tablemaking.proofs.Judging.{no-items}

@@ -3,7 +3,7 @@ use mathlib.Core.Path.{ap, subst, _∙_}
 use mathlib.Core.List.{List}
 use lib.ListN.{length, drop}
 use Rattle.text.proofs.Chain.{same}
-use Rattle.tabletext.proofs.Remains.{Remains, all-remains, on, done}
+use Rattle.text.proofs.Remains.{Remains, all-remains, on, done}
 use Rattle.tablelines.specs.Items.{itemsOf}
 use Rattle.tablelines.specs.declared.Item.{Item}
 use Rattle.tablemaking.specs.Made.{scopesSaid, FewRows}

@@ -5,7 +5,7 @@ use borrow.Author.Needs.{needs}
 use Rattle.text.proofs.Chain.{same}
 use Rattle.rules.specs.CodeTable.{codesAt}
 use Rattle.tabletext.specs.Text.{headerLines}
-use Rattle.tabletext.proofs.Remains.{Remains, all-remains, on, done}
+use Rattle.text.proofs.Remains.{Remains, all-remains, on, done}
 use Rattle.tabletext.proofs.Lines.{headers-read, headers-done}
 use Rattle.tabletext.proofs.put_headers.Statement.{statement}
 use Rattle.tabletext.proofs.put_headers.Tie as tie

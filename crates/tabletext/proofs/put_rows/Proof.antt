@@ -5,7 +5,7 @@ use borrow.Author.Needs.{needs}
 use Rattle.text.proofs.Chain.{same}
 use Rattle.rules.specs.CodeTable.{tiesAt}
 use Rattle.tabletext.specs.Text.{rowLines}
-use Rattle.tabletext.proofs.Remains.{Remains, all-remains, on, done}
+use Rattle.text.proofs.Remains.{Remains, all-remains, on, done}
 use Rattle.tabletext.proofs.Lines.{rows-read, rows-done}
 use Rattle.tabletext.proofs.put_rows.Statement.{statement}
 use Rattle.tabletext.proofs.put_rows.Tie as tie

@@ -6,7 +6,7 @@ use borrow.Author.Needs.{needs}
 use Rattle.text.proofs.Chain.{same}
 use Rattle.rules.specs.CodeTable.{scopesAt}
 use Rattle.tabletext.specs.Text.{scopeLines}
-use Rattle.tabletext.proofs.Remains.{Remains, all-remains, on, done}
+use Rattle.text.proofs.Remains.{Remains, all-remains, on, done}
 use Rattle.tabletext.proofs.Lines.{scopes-read, scopes-done}
 use Rattle.tabletext.proofs.put_scopes.Statement.{statement}
 use Rattle.tabletext.proofs.put_scopes.Tie as tie
