@@ -8,42 +8,21 @@ use native.Mathlib.Omega.{arith}
 use lib.Dec.{eqb}
 use borrow.Author.Tests.{le-leb, eq-eqb, ne-eqb, eqb-true}
 use Rattle.rules.specs.Lists.{find, ascends}
-use Rattle.rules.proofs.ListLaws.{ascends-head, ascends-least, there-found}
+use Rattle.rules.proofs.ListLaws.{ascends-head, ascends-least}
+use Rattle.joinlaws.proofs.MergeLaws.{ascends-cons, ascends-from, at-none}
 use Rattle.coderows.specs.Look.{findBy}
 
 module _ {A : Type 0} (f : A → ℕ) where
-  pub ascends-cons : (least : ℕ) (y : A) (ys : List A) → least ≤ f y → ascends (f y + 1) (map f ys) ≡ true → ascends least (map f (y ∷ ys)) ≡ true
-  unfolding ascends
-  ascends-cons least y ys h e = rw (le-leb least (f y) h) e
-
-  pub ascends-from : (least least′ : ℕ) (xs : List A) → least′ ≤ least → ascends least (map f xs) ≡ true → ascends least′ (map f xs) ≡ true
-  unfolding ascends
-  ascends-from least least′ [] h e = refl
-  ascends-from least least′ (x ∷ xs) h e =
-      let a = ascends-head f least x xs e in
-      ascends-cons least′ x xs (omega arith) (a .1)
-
   pub front-ascends : (least : ℕ) (xs ys : List A) → ascends least (map f (xs ++ ys)) ≡ true → ascends least (map f xs) ≡ true
   unfolding ascends
   front-ascends least [] ys e = refl
   front-ascends least (x ∷ xs) ys e =
       let a = ascends-head f least x (xs ++ ys) e in
-      ascends-cons least x xs (a .0) (front-ascends (f x + 1) xs ys (a .1))
+      ascends-cons f least x xs (a .0) (front-ascends (f x + 1) xs ys (a .1))
 
   pub back-ascends : (least : ℕ) (xs ys : List A) → ascends least (map f (xs ++ ys)) ≡ true → ascends 0 (map f ys) ≡ true
-  back-ascends least [] ys e = ascends-from least 0 ys (omega arith) e
+  back-ascends least [] ys e = ascends-from f least 0 ys (omega arith) e
   back-ascends least (x ∷ xs) ys e = back-ascends (f x + 1) xs ys (ascends-head f least x (xs ++ ys) e .1)
-
-  -- what is there is found by its number
-  pub by-number : (least : ℕ) (xs : List A) (x : A) → ascends least (map f xs) ≡ true → List·Memᴰ x xs → findBy f (f x) xs ≡ some x
-  by-number least xs x e m = there-found f (λ y. eqb (f y) (f x)) least xs x (λ y q. eqb-true (f y) (f x) q) (eq-eqb (f x) (f x) refl) e m
-
-  pub find-none : (least k : ℕ) (ys : List A) → ascends least (map f ys) ≡ true → k < least → findBy f k ys ≡ none
-  unfolding find
-  find-none least k [] e h = refl
-  find-none least k (y ∷ ys) e h =
-      let a = ascends-head f least y ys e in
-      rw (ne-eqb (f y) k (λ q. omega arith)) (find-none (f y + 1) k ys (a .1) (omega arith))
 
   -- what is above y stands after it
   pub find-back : (least k : ℕ) (xs : List A) (y : A) (ys : List A) → ascends least (map f (xs ++ y ∷ ys)) ≡ true → f y < k → findBy f k (xs ++ y ∷ ys) ≡ findBy f k ys
@@ -58,6 +37,6 @@ module _ {A : Type 0} (f : A → ℕ) where
   pub find-front : (least k : ℕ) (xs : List A) (y : A) (ys : List A) → ascends least (map f (xs ++ y ∷ ys)) ≡ true → k < f y → findBy f k (xs ++ y ∷ ys) ≡ findBy f k xs
   unfolding find
   find-front least k [] y ys e h =
-      rw (ne-eqb (f y) k (λ q. omega arith)) (find-none (f y + 1) k ys (ascends-head f least y ys e .1) (omega arith))
+      rw (ne-eqb (f y) k (λ q. omega arith)) (at-none f (f y + 1) k ys (ascends-head f least y ys e .1) (omega arith))
   find-front least k (x ∷ xs) y ys e h =
       ap (cond (eqb (f x) k) (some x)) (find-front (f x + 1) k xs y ys (ascends-head f least x (xs ++ y ∷ ys) e .1) h)

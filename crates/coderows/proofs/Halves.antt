@@ -9,7 +9,8 @@ use native.Mathlib.Omega.{arith}
 use Rattle.rules.specs.Lists.{find, ascends}
 use Rattle.coderows.specs.Look.{itemsAt, findBy}
 use Rattle.rules.proofs.ListLaws.{ascends-head}
-use Rattle.coderows.proofs.Ascending.{ascends-from, front-ascends, back-ascends, by-number, find-back, find-front}
+use Rattle.joinlaws.proofs.MergeLaws.{ascends-from, there-at}
+use Rattle.coderows.proofs.Ascending.{front-ascends, back-ascends, find-back, find-front}
 
 next-at : (w at m : ℕ) → at + w + w * m ≡ at + w * suc m
 next-at w at m = rw (mul-suc w m) (omega arith)
@@ -34,7 +35,7 @@ module _ {A : Type 0} (g : ℕ → A) (f : A → ℕ) (w at left half mid : ℕ)
     half-found : findBy f (f (g mid)) (itemsAt g w at left) ≡ some (g mid)
     half-found =
         rw halves
-        (by-number f 0 (itemsAt g w at half ++ g mid ∷ itemsAt g w (mid + w) (left - half - 1)) (g mid) split (Memᴰ·append-right (itemsAt g w at half) (List·Memᴰ·head refl)))
+        (there-at f 0 (itemsAt g w at half ++ g mid ∷ itemsAt g w (mid + w) (left - half - 1)) (g mid) split (Memᴰ·append-right (itemsAt g w at half) (List·Memᴰ·head refl)))
 
     half-up : (wanted : ℕ) → f (g mid) < wanted → findBy f wanted (itemsAt g w at left) ≡ findBy f wanted (itemsAt g w (mid + w) (left - half - 1))
     half-up wanted h = rw halves (find-back f 0 wanted (itemsAt g w at half) (g mid) (itemsAt g w (mid + w) (left - half - 1)) split h)

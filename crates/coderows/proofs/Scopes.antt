@@ -15,6 +15,7 @@ use Rattle.coderows.specs.declared.FoundScope.{FoundScope}
 use Rattle.coderows.specs.declared.FoundScope.the-variants.{At, Missing}
 use Rattle.coderows.specs.Look.{Formed, findBy, itemsAt, indexes, keyAt, countAt, countsTo, asFound, KeysAscend, rowsFrom, noRows, bodyRows}
 use Rattle.rules.proofs.CodeTableLaws.{formed}
+use Rattle.joinlaws.proofs.JoinedLaws.{u16-small}
 
 same-key : (k c kind code : ℕ) → c < 65536 → code < 65536 → (eqb k kind && eqb c code) ≡ eqb (keyOf k c) (keyOf kind code)
 same-key k c kind code p q = go (eqb k kind) refl (eqb c code) refl
@@ -31,10 +32,6 @@ same-key k c kind code p q = go (eqb k kind) refl (eqb c code) refl
     go false d b e =
         let x = eqb-false k kind d in
         sym (ne-eqb (keyOf k c) (keyOf kind code) (λ z. x (omega arith)))
-
-u16-small : (t : List ℕ) (at : ℕ) → Bytes t → u16 t at < 65536
-unfolding u16
-u16-small t at B = omega (arith, B at, B (at + 1))
 
 module _ (t : List ℕ) (B : Bytes t) (kind code : ℕ) (fits : code < 65536) where
   by-key : (at body n : ℕ) → find (isScope kind code) (scopesAt t at body n) ≡ findBy key (keyOf kind code) (scopesAt t at body n)

@@ -3,7 +3,7 @@ use Prim.Native.Nat.{ℕ, zero, suc, _+_, _-_, _*_, _≤_, _<_}
 use mathlib.Core.Path.{_≡_, refl, ap, _∙_}
 use mathlib.Core.Logic.{_⊎_, inl, inr}
 use mathlib.Core.List.{List, _∷_, map}
-use mathlib.Core.Bool.{Bool, true, false, _&&_, _||_}
+use mathlib.Core.Bool.{Bool, true, false, _&&_, _||_, and-true, and-false, or-true}
 use native.Mathlib.Nat.{not-suc-le-zero}
 use native.Mathlib.Numerals.{sub-one}
 use native.Mathlib.Omega.{arith}
@@ -13,19 +13,8 @@ use borrow.Author.Tests.{lt-ltb, le-ltb, le-leb, lt-leb, leb-true, leb-false, eq
 use Rattle.rules.specs.Lists.{all, has, ascends}
 use Rattle.rules.specs.Bytes.{byte, u16}
 use Rattle.rules.specs.CodeTable.{Tie, Scope, idOf, key, keyOf, codesAt, tieAt, tiesAt, scopesAt, tieOk, tiesOk, scopeOk, rowCount, scopesFit, wellFormed}
+use Rattle.joinlaws.proofs.TableBytesLaws.{length-tiesAt}
 use Rattle.codetable.specs.Reads.{tiesFrom, scopesFrom}
-
-and-true : (a : Bool) → (a && true) ≡ a
-and-true true = refl
-and-true false = refl
-
-and-false : (a : Bool) → (a && false) ≡ false
-and-false true = refl
-and-false false = refl
-
-or-true : (a : Bool) → (a || true) ≡ true
-or-true true = refl
-or-true false = refl
 
 -- ---- codes
 pub codes-next : (t : List ℕ) (at left : ℕ) → 0 < left → codesAt t at left ≡ u16 t at ∷ codesAt t (at + 2) (left - 1)
@@ -124,11 +113,6 @@ unfolding tiesFrom tiesAt ascends all
 ties-done t at zero least h = and-true (ltb least 0xFE && true) ∙ and-true (ltb least 0xFE)
 ties-done t at (suc k) least h = absurd (not-suc-le-zero h)
 
-length-ties : (t : List ℕ) (at n : ℕ) → length (tiesAt t at n) ≡ n
-unfolding tiesAt
-length-ties t at zero = refl
-length-ties t at (suc n) = ap suc (length-ties t (at + 4) n)
-
 -- ---- scopes
 pub scopes-at-zero : (t : List ℕ) (at body n : ℕ) → scopesFrom t 0 at body n ≡ scopesFit t at body n
 unfolding scopesFrom scopesFit
@@ -173,7 +157,7 @@ module _ {t : List ℕ} {at left k c n : ℕ} (R : ScopeRead t at left k c n) (b
   scopes-past h =
       rw (
         scopes-split,
-        ne-eqb (body + 4 * (length (tiesAt t body n) + rowCount rest)) (length t) (λ e. omega (arith, length-ties t body n)),
+        ne-eqb (body + 4 * (length (tiesAt t body n) + rowCount rest)) (length t) (λ e. omega (arith, length-tiesAt t body n)),
         and-false,
       )
 
@@ -186,7 +170,7 @@ module _ {t : List ℕ} {at left k c n : ℕ} (R : ScopeRead t at left k c n) (b
   scopes-step hl hk hc hr =
       rw (scopes-split, le-leb least (keyOf k c) hl, le-leb k 2 hk, hc, hr)
       (ap (λ (e : ℕ). ascends (keyOf k c + 1) (map key rest) && all scopeOk rest && eqb e (length t))
-      (omega (arith, length-ties t body n)))
+      (omega (arith, length-tiesAt t body n)))
 
 pub code-ok : (k c : ℕ) → (k ≡ 2) ⊎ (c ≡ 0) → (eqb k 2 || eqb c 0) ≡ true
 code-ok k c (inl h) = rw (eq-eqb k 2 h)

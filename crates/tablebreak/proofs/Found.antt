@@ -1,6 +1,6 @@
 -- A table in which nothing is found is well formed.
 use mathlib.Core.Path.{_≡_, refl, sym, ap, _∙_}
-use mathlib.Core.Bool.{Bool, true, false, _&&_, _||_, cond}
+use mathlib.Core.Bool.{Bool, true, false, _&&_, _||_, cond, or-true}
 use mathlib.Core.List.{List, _∷_, map}
 use Prim.Native.Nat.{ℕ, zero, suc, _+_, _*_, _-_, _/_, _%_, _≤_}
 use native.Mathlib.Omega.{arith}
@@ -10,19 +10,14 @@ use lib.ListN.{length}
 use Rattle.rules.specs.Lists.{all, ascends}
 use Rattle.rules.specs.Bytes.{byte, u16}
 use Rattle.rules.specs.CodeTable.{idOf, key, keyOf, headerCount, scopeCount, contentsAt, bodiesAt, header, scopes, codesAt, tiesAt, scopesAt, tieOk, tiesOk, scopeOk, rowCount, scopesFit, wellFormed}
+use Rattle.joinlaws.proofs.MergeLaws.{failed}
 use Rattle.tablebreak.specs.declared.Break.{Break}
 use Rattle.tablebreak.specs.Rules.{manyHeaders, manyScopes, scopeKind, scopeCode, scopeOrder, idOrder, idHigh, targetHigh, rowKind, tooLong, longest, broken, unbroken, placed, orElse, headerBreak, orderRule, scopeRule, scopeBreak, rowRule, rowBreak, rowsBreak, endOf, short, bodyBreak, searched, breakOf}
 use Rattle.tablebreak.proofs.Turns.{well, over, otherwise}
 
-or-true : (a : Bool) → (a || true) ≡ true
-or-true true = refl
-or-true false = refl
-
 -- ---- nothing is found
--- by a test that found nothing, and by the next
-passed : (v : Bool) (a b : Break) → (a .rule ≡ 0 → ⊥) → cond v a b .rule ≡ 0 → (v ≡ false) × (b .rule ≡ 0)
-passed true a b n e = absurd (n e)
-passed false a b n e = (refl, e)
+abbrev NoRule : Break → Type 0
+NoRule b = b .rule ≡ 0
 
 both-by : (v : Bool) (a b : Break) → eqb (a .rule) 0 ≡ v → cond v b a .rule ≡ 0 → (a .rule ≡ 0) × (b .rule ≡ 0)
 both-by true a b q e = (eqb-true (a .rule) 0 q, e)
@@ -37,7 +32,7 @@ headers-ok : (t : List ℕ) (at least n : ℕ) → headerBreak t at least n .rul
 unfolding headerBreak codesAt ascends
 headers-ok t at least zero e = refl
 headers-ok t at least (suc n) e =
-    let p = passed (ltb (u16 t at) least) _ (headerBreak t (at + 2) (u16 t at + 1) n) (λ z. omega arith) e in
+    let p = failed NoRule (ltb (u16 t at) least) _ (headerBreak t (at + 2) (u16 t at + 1) n) (λ z. omega arith) e in
     rw (le-leb least (u16 t at) (ltb-false (u16 t at) least (p .0))) (headers-ok t (at + 2) (u16 t at + 1) n (p .1))
 
 -- ---- rows
@@ -47,10 +42,10 @@ row-ok at i x y least e =
     let k = cond (ltb 4 y) (broken rowKind (at + 3) y 0) unbroken in
     let m = cond (ltb 0x7FFF x) (broken targetHigh (at + 1) x 0) k in
     let h = cond (ltb 0xFC i) (broken idHigh at i 0) m in
-    let p = passed (ltb i least) (broken idOrder at i (least - 1)) h (λ z. omega arith) e in
-    let q = passed (ltb 0xFC i) (broken idHigh at i 0) m (λ z. omega arith) (p .1) in
-    let r = passed (ltb 0x7FFF x) (broken targetHigh (at + 1) x 0) k (λ z. omega arith) (q .1) in
-    let s = passed (ltb 4 y) (broken rowKind (at + 3) y 0) unbroken (λ z. omega arith) (r .1) in
+    let p = failed NoRule (ltb i least) (broken idOrder at i (least - 1)) h (λ z. omega arith) e in
+    let q = failed NoRule (ltb 0xFC i) (broken idHigh at i 0) m (λ z. omega arith) (p .1) in
+    let r = failed NoRule (ltb 0x7FFF x) (broken targetHigh (at + 1) x 0) k (λ z. omega arith) (q .1) in
+    let s = failed NoRule (ltb 4 y) (broken rowKind (at + 3) y 0) unbroken (λ z. omega arith) (r .1) in
     (ltb-false i least (p .0), ltb-false 0xFC i (q .0), ltb-false 0x7FFF x (r .0), ltb-false 4 y (s .0))
 
 rows-ok : (t : List ℕ) (at least s k c number n : ℕ) → rowBreak t at least s k c number n .rule ≡ 0
@@ -72,7 +67,7 @@ rows-ok t at least s k c number (suc n) e =
 order-ok : (at key least : ℕ) → orderRule at key least .rule ≡ 0 → least ≤ key
 unfolding orderRule
 order-ok at key least e =
-    ltb-false key least (passed (ltb key least) (broken scopeOrder at ((least - 1) / 65536) ((least - 1) % 65536)) unbroken (λ z. omega arith) e .0)
+    ltb-false key least (failed NoRule (ltb key least) (broken scopeOrder at ((least - 1) / 65536) ((least - 1) % 65536)) unbroken (λ z. omega arith) e .0)
 
 code-by : (k c : ℕ) → k ≤ 2 → (p q : Bool) → ltb k 2 ≡ p → ltb 0 c ≡ q → (p && q) ≡ false → (eqb k 2 || eqb c 0) ≡ true
 code-by k c h true true ep eq e = let z : _≡_ {A = ℕ} 0 1 = cc in absurd (omega arith)
@@ -84,8 +79,8 @@ unfolding scopeRule
 scope-ok at k c least e =
     let o = orderRule at (keyOf k c) least in
     let m = cond (ltb k 2 && ltb 0 c) (broken scopeCode (at + 1) c 0) o in
-    let p = passed (ltb 2 k) (broken scopeKind at k 0) m (λ z. omega arith) e in
-    let q = passed (ltb k 2 && ltb 0 c) (broken scopeCode (at + 1) c 0) o (λ z. omega arith) (p .1) in
+    let p = failed NoRule (ltb 2 k) (broken scopeKind at k 0) m (λ z. omega arith) e in
+    let q = failed NoRule (ltb k 2 && ltb 0 c) (broken scopeCode (at + 1) c 0) o (λ z. omega arith) (p .1) in
     let h = ltb-false 2 k (p .0) in
     (h, code-by k c h (ltb k 2) (ltb 0 c) refl refl (q .0), order-ok at (keyOf k c) least (q .1))
 
@@ -110,8 +105,8 @@ unfolding bodyBreak
 body-ok t e =
     let rows = rowsBreak t (contentsAt t) (bodiesAt t) 1 (scopeCount t) in
     let long = cond (ltb (endOf t) (length t)) (broken tooLong (endOf t) (length t - endOf t) 0) rows in
-    let p = passed (ltb (length t) (endOf t)) (short t (endOf t)) long (λ z. omega arith) e in
-    let q = passed (ltb (endOf t) (length t)) (broken tooLong (endOf t) (length t - endOf t) 0) rows (λ z. omega arith) (p .1) in
+    let p = failed NoRule (ltb (length t) (endOf t)) (short t (endOf t)) long (λ z. omega arith) e in
+    let q = failed NoRule (ltb (endOf t) (length t)) (broken tooLong (endOf t) (length t - endOf t) 0) rows (λ z. omega arith) (p .1) in
     (omega (arith, ltb-false (length t) (endOf t) (p .0), ltb-false (endOf t) (length t) (q .0)), q .1)
 
 found : (t : List ℕ) → searched t .rule ≡ 0 → wellFormed t ≡ true
@@ -121,10 +116,10 @@ found t e =
     let third = cond (ltb (length t) (bodiesAt t)) (short t (bodiesAt t)) last in
     let second = cond (ltb 64 (scopeCount t)) (broken manyScopes 2 (scopeCount t) 0) third in
     let first = cond (ltb 4 (headerCount t)) (broken manyHeaders 1 (headerCount t) 0) second in
-    let p = passed (ltb (length t) 4) (short t 4) first (λ z. omega arith) e in
-    let q = passed (ltb 4 (headerCount t)) (broken manyHeaders 1 (headerCount t) 0) second (λ z. omega arith) (p .1) in
-    let r = passed (ltb 64 (scopeCount t)) (broken manyScopes 2 (scopeCount t) 0) third (λ z. omega arith) (q .1) in
-    let s = passed (ltb (length t) (bodiesAt t)) (short t (bodiesAt t)) last (λ z. omega arith) (r .1) in
+    let p = failed NoRule (ltb (length t) 4) (short t 4) first (λ z. omega arith) e in
+    let q = failed NoRule (ltb 4 (headerCount t)) (broken manyHeaders 1 (headerCount t) 0) second (λ z. omega arith) (p .1) in
+    let r = failed NoRule (ltb 64 (scopeCount t)) (broken manyScopes 2 (scopeCount t) 0) third (λ z. omega arith) (q .1) in
+    let s = failed NoRule (ltb (length t) (bodiesAt t)) (short t (bodiesAt t)) last (λ z. omega arith) (r .1) in
     let h = both (headerBreak t 4 0 (headerCount t)) _ (s .1) in
     let c = both (scopeBreak t (contentsAt t) 0 1 (scopeCount t)) (bodyBreak t) (h .1) in
     let b = body-ok t (c .1) in

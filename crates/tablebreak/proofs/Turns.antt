@@ -13,6 +13,8 @@ use Rattle.rules.specs.Bytes.{byte, u16}
 use Rattle.rules.specs.CodeTable.{keyOf, headerCount, scopeCount, contentsAt, bodiesAt, tiesAt, scopesAt, rowCount, wellFormed}
 use Rattle.codetable.specs.Reads.{ReadsRow}
 use Rattle.codetable.specs.declared.RowRead.{RowRead}
+use Rattle.codetable.proofs.Steps.{CodeRead, ScopeRead}
+use Rattle.joinlaws.proofs.TableBytesLaws.{length-tiesAt}
 use Rattle.tablebreak.specs.declared.Break.{Break}
 use Rattle.tablebreak.specs.Rules.{manyHeaders, manyScopes, headerOrder, scopeKind, scopeCode, scopeOrder, idOrder, idHigh, targetHigh, rowKind, tooShort, tooLong, overLongest, longest, broken, unbroken, placed, orElse, headerBreak, orderRule, scopeRule, scopeBreak, rowRule, rowBreak, rowsBreak, endOf, bodyBreak, searched, breakOf, BodyReady}
 
@@ -26,18 +28,13 @@ unfolding orElse
 later a b h = rw (eq-eqb (a .rule) 0 h)
 
 -- ---- header codes
--- one is read
-pub record HeaderRead (t : List ℕ) (at left x : ℕ) : Type 0 where
-  pub more : 0 < left
-  pub code-is : x ≡ u16 t at
-
 headers-next : (t : List ℕ) (at least left : ℕ) {x : ℕ} → 0 < left → x ≡ u16 t at
     → headerBreak t at least left ≡ cond (ltb x least) (broken headerOrder at x (least - 1)) (headerBreak t (at + 2) (x + 1) (left - 1))
 unfolding headerBreak
 headers-next t at least zero h e = absurd (not-suc-le-zero h)
 headers-next t at least (suc n) h e = rw (e, sub-one (suc n))
 
-module _ {t : List ℕ} {at left x : ℕ} (R : HeaderRead t at left x) (least : ℕ) where
+module _ {t : List ℕ} {at left x : ℕ} (R : CodeRead t at left x) (least : ℕ) where
   pub headers-fail : x < least → headerBreak t at least left ≡ broken headerOrder at x (least - 1)
   headers-fail g = rw (headers-next t at least left (R .more) (R .code-is), lt-ltb x least g)
 
@@ -84,12 +81,12 @@ scopes-next t at least number zero h ek ec = absurd (not-suc-le-zero h)
 scopes-next t at least number (suc n) h ek ec = rw (ek, ec, sub-one)
 
 -- the kind and the code of one are read
-pub record ScopeRead (t : List ℕ) (at left k c : ℕ) : Type 0 where
+pub record KeyRead (t : List ℕ) (at left k c : ℕ) : Type 0 where
   pub more : 0 < left
   pub kind-is : k ≡ byte t at
   pub code-is : c ≡ u16 t (at + 1)
 
-module _ {t : List ℕ} {at left k c : ℕ} (R : ScopeRead t at left k c) (least number : ℕ) {f : Break} (ef : f ≡ scopeRule at k c least) where
+module _ {t : List ℕ} {at left k c : ℕ} (R : KeyRead t at left k c) (least number : ℕ) {f : Break} (ef : f ≡ scopeRule at k c least) where
   next : scopeBreak t at least number left ≡ orElse (placed f number k c 0) (scopeBreak t (at + 5) (keyOf k c + 1) (number + 1) (left - 1))
   next =
       scopes-next t at least number left (R .more) (R .kind-is) (R .code-is)
@@ -165,14 +162,7 @@ unfolding rowsBreak
 bodies-next t at body number zero h ek ec en = absurd (not-suc-le-zero h)
 bodies-next t at body number (suc m) h ek ec en = rw (ek, ec, en, sub-one)
 
--- a scope and the number of its rows are read
-pub record BodyRead (t : List ℕ) (at left k c n : ℕ) : Type 0 where
-  pub more : 0 < left
-  pub kind-is : k ≡ byte t at
-  pub code-is : c ≡ u16 t (at + 1)
-  pub count-is : n ≡ u16 t (at + 3)
-
-module _ {t : List ℕ} {at left k c n : ℕ} (R : BodyRead t at left k c n) (body number : ℕ) {f : Break} (ef : f ≡ rowBreak t body 0 number k c 1 n) where
+module _ {t : List ℕ} {at left k c n : ℕ} (R : ScopeRead t at left k c n) (body number : ℕ) {f : Break} (ef : f ≡ rowBreak t body 0 number k c 1 n) where
   body-next : rowsBreak t at body number left ≡ orElse f (rowsBreak t (at + 5) (body + 4 * n) (number + 1) (left - 1))
   body-next =
       bodies-next t at body number left (R .more) (R .kind-is) (R .code-is) (R .count-is)
@@ -190,16 +180,11 @@ bodies-done t at body number zero h = refl
 bodies-done t at body number (suc n) h = absurd (not-suc-le-zero h)
 
 -- ---- where the bodies end
-length-ties : (t : List ℕ) (at n : ℕ) → length (tiesAt t at n) ≡ n
-unfolding tiesAt
-length-ties t at zero = refl
-length-ties t at (suc n) = ap suc (length-ties t (at + 4) n)
-
 pub ends-step : (t : List ℕ) (at end left : ℕ) {n : ℕ} → 0 < left → n ≡ u16 t (at + 3)
     → end + 4 * rowCount (scopesAt t at end left) ≡ end + 4 * n + 4 * rowCount (scopesAt t (at + 5) (end + 4 * n) (left - 1))
 unfolding rowCount scopesAt
 ends-step t at end zero h e = absurd (not-suc-le-zero h)
-ends-step t at end (suc m) h e = rw (e, sub-one) (omega (arith, length-ties t end (u16 t (at + 3))))
+ends-step t at end (suc m) h e = rw (e, sub-one) (omega (arith, length-tiesAt t end (u16 t (at + 3))))
 
 pub ends-done : (t : List ℕ) (at end left : ℕ) → left ≤ 0 → end + 4 * rowCount (scopesAt t at end left) ≡ end
 unfolding rowCount scopesAt

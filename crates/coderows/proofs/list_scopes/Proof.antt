@@ -80,8 +80,7 @@ list-scopes-spec =
     (tie.spec
     Inv-loop
     μ-loop
-    (λ c κs. search needs) (λ c κs. search needs)
-    (λ c. omega arith) (λ c. omega arith) (λ c. omega arith) (λ c. omega arith)
+    (λ c κs. search needs) (λ c κs. search needs) (λ c. omega arith) (λ c. omega arith) (λ c. omega arith) (λ c. omega arith)
     (λ c. let start : tie.Start Inv-loop μ-loop = search in record { filled = filled-none _ _ _ _ (start .pre); few = omega arith })
     same-length
     returns

@@ -50,8 +50,7 @@ scope-near-spec =
     (tie.spec
     (λ c κs. search needs) (λ c κs. search needs)
     returns
-    (λ c. search needs) (λ c. search needs) (λ c κs. search needs) (λ c. search needs)
-    (λ c. search needs) (λ c κs. search needs)
+    (λ c. search needs) (λ c. search needs) (λ c κs. search needs) (λ c. search needs) (λ c. search needs) (λ c κs. search needs)
     returns-2
     (λ c. omega (arith, within (c .before))) (λ c. omega (arith, within (c .before))) (λ c. omega (arith, within (c .before))) (λ c. omega (arith, within (c .before)))
     (λ c. omega (arith, within (c .before .before))) (λ c. omega (arith, within (c .before .before))) (λ c. omega (arith, within (c .before .before)))

@@ -54,8 +54,7 @@ seek-row-spec =
     Inv-loop
     μ-loop
     (λ c. record { narrowed = begin _ _ 4 _ _ _; at-small = omega arith; from-start = omega arith })
-    (λ c. omega arith) (λ c. omega arith) (λ c κs. omega arith)
-    (λ c. search needs) (λ c. search needs) (λ c. omega arith)
+    (λ c. omega arith) (λ c. omega arith) (λ c κs. omega arith) (λ c. search needs) (λ c. search needs) (λ c. omega arith)
     returns
     (λ c. omega arith) (λ c. omega arith) (λ c. omega arith) (λ c. omega arith)
     loop-again

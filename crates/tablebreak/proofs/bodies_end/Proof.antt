@@ -41,12 +41,9 @@ bodies-end-spec =
     Inv-loop
     μ-loop
     (λ c. record { total = refl; near = omega arith; end-near = omega arith })
-    (λ c. omega arith)
-    (λ c κs. omega arith)
+    (λ c. omega arith) (λ c κs. omega arith)
     (λ c. omega (arith, c .u16-number .ensures .small))
     (λ c. omega (arith, c .u16-number .ensures .small))
-    (λ c. omega arith)
-    (λ c. omega arith)
-    (λ c. omega arith)
+    (λ c. omega arith) (λ c. omega arith) (λ c. omega arith)
     loop-again
     returns)

@@ -38,8 +38,7 @@ body-break-spec =
     tie.close
     (tie.spec
     bodies-end-requires
-    (λ c. omega arith)
-    (λ c κs. omega arith)
+    (λ c. omega arith) (λ c κs. omega arith)
     returns
     (λ c κs. omega arith)
     returns-2

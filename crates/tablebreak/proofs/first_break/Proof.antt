@@ -24,8 +24,7 @@ pub first-break-spec : {M : Type 1} → statement M
 first-break-spec =
     tie.close
     (tie.spec
-    (λ c κs. search needs)
-    (λ c κs. search needs)
+    (λ c κs. search needs) (λ c κs. search needs)
     returns
     (λ c κs. omega arith)
     returns-2

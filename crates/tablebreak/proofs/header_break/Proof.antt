@@ -1,8 +1,9 @@
 use mathlib.Core.Path.{_≡_, refl, sym, _∙_}
 use mathlib.Core.List.{List}
 use Prim.Native.Nat.{ℕ, _+_, _*_, _≤_, _<_, _^_}
+use Rattle.codetable.proofs.Steps.{CodeRead}
 use Rattle.tablebreak.specs.Rules.{headerBreak}
-use Rattle.tablebreak.proofs.Turns.{HeaderRead, headers-fail, headers-step, headers-done}
+use Rattle.tablebreak.proofs.Turns.{headers-fail, headers-step, headers-done}
 use native.Mathlib.Omega.{arith}
 use borrow.Author.Needs.{needs}
 use Rattle.tablebreak.proofs.header_break.Statement.{statement}
@@ -24,7 +25,7 @@ abbrev μ-loop : tie.MeasureT-loop
 read : (c : tie.After-u16-number Inv-loop μ-loop) →
     let start : tie.Start Inv-loop μ-loop = search in
     let at-loop : tie.At-loop Inv-loop μ-loop = search in
-    HeaderRead (start .args .table .now) (at-loop .loop .at) (at-loop .loop .left) (c .u16-number .result)
+    CodeRead (start .args .table .now) (at-loop .loop .at) (at-loop .loop .left) (c .u16-number .result)
 read c = record { more = c .before .loop-test .taken; code-is = c .u16-number .ensures .is }
 
 returns : tie.Need-returns Inv-loop μ-loop
@@ -51,14 +52,11 @@ header-break-spec =
     Inv-loop
     μ-loop
     (λ c. record { decide = refl; near = omega arith; low = omega arith })
-    (λ c κs. omega arith)
-    (λ c. omega arith)
+    (λ c κs. omega arith) (λ c. omega arith)
     (λ c κs. omega (arith, c .before .u16-number .ensures .small))
     returns
     (λ c. omega (arith, c .before .u16-number .ensures .small))
-    (λ c. omega arith)
-    (λ c. omega arith)
-    (λ c. omega arith)
+    (λ c. omega arith) (λ c. omega arith) (λ c. omega arith)
     loop-again
     (λ c κs. search needs)
     returns-2)

@@ -15,8 +15,7 @@ pub order-rule-spec : {M : Type 1} → statement M
 order-rule-spec =
     tie.close
     (tie.spec
-    (λ c. omega arith)
-    (λ c κs. omega arith)
+    (λ c. omega arith) (λ c κs. omega arith)
     returns
     (λ c κs. search needs)
     returns-2)

@@ -75,10 +75,7 @@ row-break-spec =
     placed-requires
     returns
     (λ c. let read : tie.After-read-row Inv-loop μ-loop = search in omega (arith, read .read-row .ensures .id .small))
-    (λ c. omega arith)
-    (λ c. omega arith)
-    (λ c. omega arith)
-    (λ c. omega arith)
+    (λ c. omega arith) (λ c. omega arith) (λ c. omega arith) (λ c. omega arith)
     loop-again
     (λ c κs. search needs)
     returns-2)

@@ -39,16 +39,13 @@ pub row-rule-spec : {M : Type 1} → statement M
 row-rule-spec =
     tie.close
     (tie.spec
-    (λ c. omega arith)
-    (λ c κs. omega arith)
+    (λ c. omega arith) (λ c κs. omega arith)
     returns
     (λ c κs. omega arith)
     returns-2
-    (λ c. omega arith)
-    (λ c κs. omega arith)
+    (λ c. omega arith) (λ c κs. omega arith)
     returns-3
-    (λ c. omega arith)
-    (λ c κs. omega arith)
+    (λ c. omega arith) (λ c κs. omega arith)
     returns-4
     (λ c κs. search needs)
     returns-5)

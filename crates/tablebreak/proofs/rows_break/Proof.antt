@@ -1,8 +1,9 @@
 use mathlib.Core.Path.{_≡_, refl, sym, _∙_}
 use mathlib.Core.List.{List}
 use Prim.Native.Nat.{ℕ, _+_, _*_, _<_, _^_}
+use Rattle.codetable.proofs.Steps.{ScopeRead}
 use Rattle.tablebreak.specs.Rules.{rowsBreak}
-use Rattle.tablebreak.proofs.Turns.{BodyRead, bodies-fail, bodies-step, bodies-done}
+use Rattle.tablebreak.proofs.Turns.{bodies-fail, bodies-step, bodies-done}
 use native.Mathlib.Omega.{arith}
 use borrow.Author.Needs.{needs}
 use Rattle.tablebreak.proofs.rows_break.Statement.{statement}
@@ -25,7 +26,7 @@ abbrev μ-loop : tie.MeasureT-loop
 read : (c : tie.After-u16-number2 Inv-loop μ-loop) →
     let start : tie.Start Inv-loop μ-loop = search in
     let at-loop : tie.At-loop Inv-loop μ-loop = search in
-    BodyRead (start .args .table .now) (at-loop .loop .at) (at-loop .loop .left) (c .before .before .byte-number .result) (c .before .u16-number .result) (c .u16-number2 .result)
+    ScopeRead (start .args .table .now) (at-loop .loop .at) (at-loop .loop .left) (c .before .before .byte-number .result) (c .before .u16-number .result) (c .u16-number2 .result)
 read c = record {
   more = c .before .before .before .loop-test .taken;
   kind-is = c .before .before .byte-number .ensures .is;
@@ -71,19 +72,13 @@ rows-break-spec =
     Inv-loop
     μ-loop
     (λ c. record { decide = refl; near = omega arith; body-near = omega arith; counted = omega arith })
-    (λ c κs. search needs)
-    (λ c. omega arith)
-    (λ c κs. omega arith)
-    (λ c. omega arith)
-    (λ c κs. omega arith)
+    (λ c κs. search needs) (λ c. omega arith) (λ c κs. omega arith) (λ c. omega arith) (λ c κs. omega arith)
     row-break-requires
     returns
     (λ c. omega arith)
     (λ c. let scope : tie.After-u16-number2 Inv-loop μ-loop = search in omega (arith, scope .u16-number2 .ensures .small))
     (λ c. let scope : tie.After-u16-number2 Inv-loop μ-loop = search in omega (arith, scope .u16-number2 .ensures .small))
-    (λ c. omega arith)
-    (λ c. omega arith)
-    (λ c. omega arith)
+    (λ c. omega arith) (λ c. omega arith) (λ c. omega arith)
     loop-again
     (λ c κs. search needs)
     returns-2)

@@ -2,7 +2,7 @@ use mathlib.Core.Path.{_≡_, refl, sym, _∙_}
 use mathlib.Core.List.{List}
 use Prim.Native.Nat.{ℕ, _+_, _*_, _≤_, _<_, _^_}
 use Rattle.tablebreak.specs.Rules.{scopeBreak}
-use Rattle.tablebreak.proofs.Turns.{ScopeRead, scopes-fail, scopes-step, scopes-done}
+use Rattle.tablebreak.proofs.Turns.{KeyRead, scopes-fail, scopes-step, scopes-done}
 use native.Mathlib.Omega.{arith}
 use borrow.Author.Needs.{needs}
 use Rattle.tablebreak.proofs.scope_break.Statement.{statement}
@@ -25,7 +25,7 @@ abbrev μ-loop : tie.MeasureT-loop
 read : (c : tie.After-u16-number Inv-loop μ-loop) →
     let start : tie.Start Inv-loop μ-loop = search in
     let at-loop : tie.At-loop Inv-loop μ-loop = search in
-    ScopeRead (start .args .table .now) (at-loop .loop .at) (at-loop .loop .left) (c .before .byte-number .result) (c .u16-number .result)
+    KeyRead (start .args .table .now) (at-loop .loop .at) (at-loop .loop .left) (c .before .byte-number .result) (c .u16-number .result)
 read c = record { more = c .before .before .loop-test .taken; kind-is = c .before .byte-number .ensures .is; code-is = c .u16-number .ensures .is }
 
 placed-requires : tie.Need-placed-requires Inv-loop μ-loop
@@ -65,19 +65,14 @@ scope-break-spec =
     Inv-loop
     μ-loop
     (λ c. record { decide = refl; near = omega arith; low = omega arith; counted = omega arith })
-    (λ c κs. search needs)
-    (λ c. omega arith)
-    (λ c κs. omega arith)
+    (λ c κs. search needs) (λ c. omega arith) (λ c κs. omega arith)
     (λ c κs. omega (arith, c .before .byte-number .ensures .small, c .u16-number .ensures .small))
     placed-requires
     returns
     (λ c. let scope : tie.After-u16-number Inv-loop μ-loop = search in omega (arith, scope .before .byte-number .ensures .small, scope .u16-number .ensures .small))
     (λ c. let scope : tie.After-u16-number Inv-loop μ-loop = search in omega (arith, scope .before .byte-number .ensures .small, scope .u16-number .ensures .small))
     (λ c. let scope : tie.After-u16-number Inv-loop μ-loop = search in omega (arith, scope .before .byte-number .ensures .small, scope .u16-number .ensures .small))
-    (λ c. omega arith)
-    (λ c. omega arith)
-    (λ c. omega arith)
-    (λ c. omega arith)
+    (λ c. omega arith) (λ c. omega arith) (λ c. omega arith) (λ c. omega arith)
     loop-again
     (λ c κs. search needs)
     returns-2)

@@ -34,12 +34,9 @@ scope-rule-spec =
     (tie.spec
     (λ c κs. omega arith)
     returns
-    (λ c. omega arith)
-    (λ c. omega arith)
-    (λ c κs. omega arith)
+    (λ c. omega arith) (λ c. omega arith) (λ c κs. omega arith)
     returns-2
-    (λ c. omega arith)
-    (λ c κs. omega arith)
+    (λ c. omega arith) (λ c κs. omega arith)
     returns-3
     (λ c κs. omega arith)
     returns-4)

@@ -96,8 +96,7 @@ pub search-spec : {M : Type 1} → statement M
 search-spec =
     tie.close
     (tie.spec
-    (λ c. omega arith)
-    (λ c κs. omega arith)
+    (λ c. omega arith) (λ c κs. omega arith)
     returns
     (λ c κs. search needs)
     (λ c κs. omega (arith, c .before .byte-number .ensures .small))
