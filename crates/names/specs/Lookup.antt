@@ -1,5 +1,5 @@
 -- How a name is looked up in the directory of the four tables, which is lent.
-use Prim.Native.Nat.{ℕ, suc, _-_, _≤_}
+use Prim.Native.Nat.{ℕ, suc, _-_, _≤_, _<_}
 use mathlib.Core.Path.{_≡_}
 use mathlib.Core.Bool.{cond}
 use mathlib.Core.List.{List, [], _∷_}
@@ -23,6 +23,16 @@ pub record Stand (from to : ℕ) : Type 0 where
   pub ordered : from ≤ to
   pub inside : to ≤ length allNames
   pub ascending : T (ascends 0 (idsOf (rowsIn from to)))
+
+-- what is lent, and a row of it
+pub record LentRow (index letters : List ℕ) (row : ℕ) : Type 0 where
+  pub lent : Lent index letters
+  pub there : row < length allNames
+
+-- what is lent, and a table's rows in it
+pub record LentRows (index letters : List ℕ) (from to : ℕ) : Type 0 where
+  pub lent : Lent index letters
+  pub stand : Stand from to
 
 -- the name of a table's row
 abbrev pub nameAt : Table → ℕ → List ℕ

@@ -2,7 +2,7 @@
 use rules::Answer;
 ghost use mathlib.Core.Path.{_≡_};
 ghost use mathlib.Core.List.{[]};
-ghost use Prim.Native.Nat.{_<_, _≤_};
+ghost use Prim.Native.Nat.{_≤_};
 ghost use lib.Dec.{T};
 ghost use lib.ListN.{length};
 ghost use Rattle.rules.specs.Lists.{ascends};
@@ -10,7 +10,7 @@ ghost use Rattle.rules.specs.NameTables.{textNames, numberNames, bytesNames, co
 ghost use Rattle.rules.specs.Names.{nameIn, namesFor, nameExit};
 ghost use Rattle.rules.specs.Texts.{textExit};
 ghost use Rattle.nametables.specs.Directory.{allNames};
-ghost use Rattle.names.specs.Lookup.{Lent, Stand, rowsIn, nameAt, placeIn, longestName};
+ghost use Rattle.names.specs.Lookup.{Lent, LentRow, LentRows, rowsIn, nameAt, placeIn, longestName};
 
 // The answer where a name doesn't fit.
 const NO_ROOM: u32 = 9;
@@ -40,8 +40,7 @@ fn place_in(ids: &[u32], id: u32) -> usize
 
 // The name of a row. The starts come after the ids, and are one more.
 fn row_name<'a>(index: &[u32], letters: &'a [u8], row: usize) -> &'a [u8]
-    requires { ⌜ Lent (now index) (now letters) ⌝ }
-    requires { ⌜ row < length allNames ⌝ }
+    requires { ⌜ LentRow (now index) (now letters) row ⌝ }
     ensures { λ r. ⌜ now r ≡ nameAt allNames row ⌝ }
 {
     let at = index.len() / 2 + row;
@@ -58,8 +57,7 @@ fn nothing_of(letters: &[u8]) -> &[u8]
 
 // The name of `id` in the rows from `from` to `to`; empty where there is none.
 fn name_in<'a>(index: &[u32], letters: &'a [u8], from: usize, to: usize, id: u16) -> &'a [u8]
-    requires { ⌜ Lent (now index) (now letters) ⌝ }
-    requires { ⌜ Stand from to ⌝ }
+    requires { ⌜ LentRows (now index) (now letters) from to ⌝ }
     ensures { λ r. ⌜ now r ≡ nameIn (rowsIn from to) id ⌝ }
 {
     let i = place_in(&index[from..to], id as u32);

@@ -8,7 +8,7 @@ use Rattle.names.proofs.type_name_in.Tie as tie
 
 name-in-requires : tie.Need-name-in-requires
 unfolding allNames textNames numberNames bytesNames controlTypeNames
-name-in-requires c κs = (c .before .before .pre, control-types .stand)
+name-in-requires c κs = record { lent = c .before .before .pre; stand = control-types .stand }
 
 returns : tie.Need-returns
 unfolding allNames textNames numberNames bytesNames controlTypeNames

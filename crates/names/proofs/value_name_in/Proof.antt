@@ -11,15 +11,15 @@ use Rattle.names.proofs.value_name_in.Tie as tie
 
 name-in-requires : tie.Need-name-in-requires
 unfolding textNames numberNames bytesNames
-name-in-requires c κs = let first : tie.Start = search in (first .pre, in-order.texts .stand)
+name-in-requires c κs = let first : tie.Start = search in record { lent = first .pre; stand = in-order.texts .stand }
 
 name-in-requires-2 : tie.Need-name-in-requires-2
 unfolding textNames numberNames bytesNames
-name-in-requires-2 c κs = let first : tie.Start = search in (first .pre, in-order.bytes .stand)
+name-in-requires-2 c κs = let first : tie.Start = search in record { lent = first .pre; stand = in-order.bytes .stand }
 
 name-in-requires-3 : tie.Need-name-in-requires-3
 unfolding textNames numberNames bytesNames
-name-in-requires-3 c κs = let first : tie.Start = search in (first .pre, in-order.numbers .stand)
+name-in-requires-3 c κs = let first : tie.Start = search in record { lent = first .pre; stand = in-order.numbers .stand }
 
 returns : tie.Need-returns
 unfolding textNames numberNames bytesNames
