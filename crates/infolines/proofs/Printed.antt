@@ -10,15 +10,14 @@ use lib.ListN.{length, length-map}
 use Rattle.rules.specs.Bytes.{u32}
 use Rattle.rules.specs.Answer.{answer, refusal, tooShort, otherMagic, tooManyEntries, tooLong, moreControls, longest}
 use Rattle.rules.specs.Rows.{typeInfoWidth, room, written}
-use Rattle.rules.specs.TypeInfo.{Info, typeInfoOf, typeInfoRow, typeInfoRows, typeInfoAnswer, typeInfoExit}
+use Rattle.rules.specs.TypeInfo.{typeInfoOf, typeInfoRow, typeInfoRows, typeInfoAnswer, typeInfoExit}
 use Rattle.rules.specs.Room.{typeInfoRoom}
 use Rattle.rules.specs.Listing.{answerLine, linesFrom}
 use Rattle.rules.specs.declared.Answer.{Answer}
-use Rattle.rules.proofs.RowsLaws.{Wide}
 use Rattle.text.specs.Writer.{Wrote}
 use Rattle.text.proofs.Chain.{nothing, _⨟_}
 use Rattle.typeinfo.specs.Entries.{reportedAt}
-use Rattle.typeinfo.proofs.EntryLaws.{at-most}
+use Rattle.typeinfo.proofs.EntryLaws.{at-most, wide}
 use Rattle.listing.specs.Shown.{linesTo}
 use Rattle.listing.proofs.Printed.{lines-written}
 use Rattle.infolines.specs.Infos.{infoPrinted, longestInfo, infoListing}
@@ -95,10 +94,6 @@ unfolding infoListing
 too-long s h = rw (lt-ltb longestInfo (length s) h)
 
 -- ---- a stream read into lent rows
-rows-wide : (is : List Info) → Wide typeInfoWidth (map typeInfoRow is)
-rows-wide [] = tt
-rows-wide (i ∷ is) = (refl, rows-wide is)
-
 module _ (s rows : List ℕ) (a : Answer) (is : a ≡ typeInfoExit s rows .answer) {o b : List ℕ} {q : ℕ} (w : Wrote o 0 (answerLine a) b q) where
   lines-are : infoPrinted s (room typeInfoWidth rows) ≡ answerLine a ++ cond (eqb (a .number) 0) (linesFrom (infoLine s) 0 (typeInfoRows s)) []
   unfolding infoPrinted typeInfoExit
@@ -127,7 +122,7 @@ module _ (s rows : List ℕ) (a : Answer) (is : a ≡ typeInfoExit s rows .answe
     shown =
         let f : length (typeInfoOf s) ≤ room typeInfoWidth rows = read s (room typeInfoWidth rows) zero-said .fits in
         let l : length (map typeInfoRow (typeInfoOf s)) ≡ length (typeInfoOf s) = length-map (typeInfoOf s) typeInfoRow in
-        lines-written (infoLine s) typeInfoWidth (typeInfoRows s) (rows-wide (typeInfoOf s)) rows (omega arith)
+        lines-written (infoLine s) typeInfoWidth (typeInfoRows s) (wide (typeInfoOf s)) rows (omega arith)
         ∙ ap₂ (λ (n : ℕ) (x : List ℕ). linesTo (infoLine s) typeInfoWidth n x) count-is (sym new-is)
 
     pub wrote-all : {n : List ℕ} {e : ℕ} → Wrote b q (linesTo (infoLine s) typeInfoWidth (a .first) new) n e → Wrote o 0 (infoPrinted s (room typeInfoWidth rows)) n e

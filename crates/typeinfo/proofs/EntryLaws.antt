@@ -22,7 +22,7 @@ use Rattle.typeinfo.specs.declared.Named.{Named}
 use Rattle.typeinfo.specs.declared.Entry.{Entry}
 use Rattle.rules.proofs.TypeInfoLaws.{name-within, next-within}
 
--- ---- the bytes behind the names
+-- ---- the bytes after the names
 low : (type : ℕ) → type % 256 ≡ bitAnd type 0xFF
 low type = sym (and-mask type 8)
 
@@ -40,35 +40,36 @@ module _ (len type next : ℕ) where
   no-tail e = rw (ne-eqb (type % 256) 0x77 (λ h. e (sym (low type) ∙ h)))
 
 -- ---- the entry at p, out of what the calls on the way give
-module _ (s : List ℕ) (p type index next : ℕ) (a b : Named)
-    (is-type : type ≡ u16 s p) (is-index : index ≡ u32 s (p + 4))
-    (is-first : a ≡ asNamed (nulTerminated s (p + 8))) (is-second : b ≡ asNamed (nulTerminated s (a .next)))
-    (is-next : next ≡ pastTail (length s) type (b .next)) where
+pub record EntryRead (s : List ℕ) (p type index next : ℕ) (a b : Named) : Type 0 where
+  pub type-is : type ≡ u16 s p
+  pub index-is : index ≡ u32 s (p + 4)
+  pub first-is : a ≡ asNamed (nulTerminated s (p + 8))
+  pub second-is : b ≡ asNamed (nulTerminated s (a .next))
+  pub next-is : next ≡ pastTail (length s) type (b .next)
+
+module _ {s : List ℕ} {p type index next : ℕ} {a b : Named} (R : EntryRead s p type index next a b) where
   second : b ≡ asNamed (secondName s p)
-  second = is-second ∙ ap (λ (n : Named). asNamed (nulTerminated s (n .next))) is-first
+  second = R .second-is ∙ ap (λ (n : Named). asNamed (nulTerminated s (n .next))) (R .first-is)
 
-  behind : next ≡ nextInfo s p
+  after : next ≡ nextInfo s p
   unfolding nextInfo pastTail
-  behind = is-next ∙ ap₂ (λ t n. pastTail (length s) t n) is-type (ap (λ (n : Named). n .next) second)
+  after = R .next-is ∙ ap₂ (λ t n. pastTail (length s) t n) (R .type-is) (ap (λ (n : Named). n .next) second)
 
-  with-name : (n : Named) → n ≡ asNamed (infoAt s p .name)
+  -- the entry with the name n, which is the first or the second by the size of the second
+  with-name : (n : Named) (t : Bool) → eqb (secondName s p .size) 0 ≡ t → n ≡ asNamed (cond t (firstName s p) (secondName s p))
       → _≡_ {A = Entry} (record { «type_code» = type; index = index; start = n .start; size = n .size; cut = n .cut; next = next }) (asEntry (infoAt s p) (nextInfo s p))
   unfolding infoAt
-  with-name n e = λ i. record { «type_code» = is-type i; index = is-index i; start = e i .start; size = e i .size; cut = e i .cut; next = behind i }
+  with-name n t q e =
+      let is : n ≡ asNamed (infoAt s p .name) = rw q e in
+      λ i. record { «type_code» = R .type-is i; index = R .index-is i; start = is i .start; size = is i .size; cut = is i .cut; next = after i }
 
   pub uses-first : b .size ≡ 0
       → _≡_ {A = Entry} (record { «type_code» = type; index = index; start = a .start; size = a .size; cut = a .cut; next = next }) (asEntry (infoAt s p) (nextInfo s p))
-  unfolding infoAt
-  uses-first z =
-      let e = eq-eqb (secondName s p .size) 0 (ap (λ (n : Named). n .size) (sym second) ∙ z) in
-      with-name a (is-first ∙ ap (λ t. asNamed (cond t (firstName s p) (secondName s p))) (sym e))
+  uses-first z = with-name a true (eq-eqb (secondName s p .size) 0 (ap (λ (n : Named). n .size) (sym second) ∙ z)) (R .first-is)
 
   pub uses-second : (b .size ≡ 0 → ⊥)
       → _≡_ {A = Entry} (record { «type_code» = type; index = index; start = b .start; size = b .size; cut = b .cut; next = next }) (asEntry (infoAt s p) (nextInfo s p))
-  unfolding infoAt
-  uses-second z =
-      let e = ne-eqb (secondName s p .size) 0 (λ h. z (ap (λ (n : Named). n .size) second ∙ h)) in
-      with-name b (second ∙ ap (λ t. asNamed (cond t (firstName s p) (secondName s p))) (sym e))
+  uses-second z = with-name b false (ne-eqb (secondName s p .size) 0 (λ h. z (ap (λ (n : Named). n .size) second ∙ h))) second
 
 -- ---- within the stream
 next-inside : (s : List ℕ) (p : ℕ) → nextInfo s p ≤ length s
@@ -184,12 +185,9 @@ row-of i next = go (eqb (i .type) 0x1EFF)
     go true = refl
     go false = refl
 
-wide : (i : Info) → Wide typeInfoWidth (map typeInfoRow (oneOf i))
-wide i = go (eqb (i .type) 0x1EFF)
-  where
-    go : (b : Bool) → Wide typeInfoWidth (map typeInfoRow (cond b [] (i ∷ [])))
-    go true = tt
-    go false = (refl, tt)
+pub wide : (is : List Info) → Wide typeInfoWidth (map typeInfoRow is)
+wide [] = tt
+wide (i ∷ is) = (refl, wide is)
 
 long : (i : Info) → length (map typeInfoRow (oneOf i)) ≡ oneIf (i .type)
 unfolding oneIf
@@ -204,7 +202,7 @@ put-both : (i : Info) (is : List Info) (next : ℕ) (rows : List ℕ) (at : ℕ)
     ≡ put typeInfoWidth (put typeInfoWidth rows at (putIf (asEntry i next))) (at + oneIf (i .type)) (map typeInfoRow is)
 put-both i is next rows at =
     ap (put typeInfoWidth rows at) (map-append typeInfoRow (oneOf i) is)
-    ∙ put-append typeInfoWidth rows at (map typeInfoRow (oneOf i)) (map typeInfoRow is) (wide i)
+    ∙ put-append typeInfoWidth rows at (map typeInfoRow (oneOf i)) (map typeInfoRow is) (wide (oneOf i))
     ∙ ap₂ (λ l m. put typeInfoWidth (put typeInfoWidth rows at l) (at + m) (map typeInfoRow is)) (row-of i next) (long i)
 
 -- what the code's entry at p says of all from p on

@@ -1,3 +1,4 @@
+-- Laws of the TypeInfo reader; those of entries serve whoever lists them.
 pub mod NulLaws
 pub mod EntryLaws
 pub mod HeaderLaws

@@ -23,7 +23,7 @@ asNamed n = record { start = n .start; size = n .size; next = n .next; cut = n .
 abbrev pub asEntry : Info → ℕ → Entry
 asEntry i next = record { «type_code» = i .type; index = i .index; start = i .name .start; size = i .name .size; cut = i .name .cut; next = next }
 
--- the place behind an entry whose names end at `next`
+-- the place after an entry whose names end at `next`
 unfoldable pub pastTail : ℕ → ℕ → ℕ → ℕ
 pastTail len type next = cond (eqb (type % 256) 0x77) (min (next + 36) len) next
 

@@ -1,35 +1,38 @@
--- `type_info_entry` gives the entry at `at`, and the place behind it.
+-- `type_info_entry` gives the entry at `at`, and the place after it.
 use native.Mathlib.Omega.{arith}
 use borrow.Author.Needs.{needs}
 use Rattle.typeinfo.proofs.NulLaws.{next-of}
-use Rattle.typeinfo.proofs.EntryLaws.{uses-first, uses-second}
+use Rattle.typeinfo.proofs.EntryLaws.{EntryRead, uses-first, uses-second}
 use Rattle.typeinfo.proofs.type_info_entry.Statement.{statement}
 use Rattle.typeinfo.proofs.type_info_entry.Tie as tie
 
-nul-terminated-requires-2 : tie.Need-nul-terminated-requires-2
-nul-terminated-requires-2 c κs = next-of _ _ _ (c .nul-terminated .ensures)
-
-past-tail-requires : tie.Need-past-tail-requires
-past-tail-requires c κs = next-of _ _ _ (c .nul-terminated2 .ensures)
-
-returns : tie.Need-returns
-returns c =
-    let names = c .before .before .before in
-    let words = names .before .before in
-    uses-first _ _ _ _ _ _ _ (words .before .u16-inside .ensures) (words .u32-inside .ensures) (names .before .nul-terminated .ensures) (names .nul-terminated2 .ensures) (c .before .before .past-tail .ensures) (omega arith)
-
-returns-2 : tie.Need-returns-2
-returns-2 c =
-    let names = c .before .before .before in
-    let words = names .before .before in
-    uses-second _ _ _ _ _ _ _ (words .before .u16-inside .ensures) (words .u32-inside .ensures) (names .before .nul-terminated .ensures) (names .nul-terminated2 .ensures) (c .before .before .past-tail .ensures) (c .if1 .left)
+-- what the calls have given where the names are chosen
+read : (c : tie.After-past-tail) →
+    let start : tie.Start = search in
+    let code : tie.After-u16-inside = search in
+    let index : tie.After-u32-inside = search in
+    let first : tie.After-nul-terminated = search in
+    let second : tie.After-nul-terminated2 = search in
+    EntryRead (start .args .s .now) (start .args .at) (code .u16-inside .result) (index .u32-inside .result) (c .past-tail .result) (first .nul-terminated .result) (second .nul-terminated2 .result)
+read c =
+    let code : tie.After-u16-inside = search in
+    let index : tie.After-u32-inside = search in
+    let first : tie.After-nul-terminated = search in
+    let second : tie.After-nul-terminated2 = search in
+    record {
+      type-is = code .u16-inside .ensures;
+      index-is = index .u32-inside .ensures;
+      first-is = first .nul-terminated .ensures;
+      second-is = second .nul-terminated2 .ensures;
+      next-is = c .past-tail .ensures;
+    }
 
 pub type-info-entry-spec : {M : Type 1} → statement M
 type-info-entry-spec =
     tie.close
     (tie.spec
     (λ c κs. search needs) (λ c. search needs) (λ c κs. search needs) (λ c. search needs) (λ c κs. search needs)
-    nul-terminated-requires-2
-    past-tail-requires
-    returns
-    returns-2)
+    (λ c κs. next-of _ _ _ (c .nul-terminated .ensures))
+    (λ c κs. next-of _ _ _ (c .nul-terminated2 .ensures))
+    (λ c. uses-first (read (c .before .before)) (omega arith))
+    (λ c. uses-second (read (c .before .before)) (c .if1 .left)))
