@@ -18,9 +18,8 @@ use Rattle.claims.proofs.Rooms.{rooms}
 use Rattle.text.specs.Writer.{Wrote}
 use Rattle.listing.specs.Bound.{longestIn, longestType, longestName, longestAnswer, longestControl, longestProperty}
 use Rattle.listing.proofs.Placed.{held}
-use Rattle.listing.proofs.Longest.{answer-short}
 use Rattle.inputs.specs.Begun.{Begun}
-use Rattle.inputs.proofs.Came.{all-read, more-came}
+use Rattle.inputs.proofs.Came.{all-read}
 use Rattle.bloblines.specs.Blobs.{longestBlob, controlRoom, propertyRoom, blobListed, longestInput, blobListing, listedIn, mostIn, Written}
 use Rattle.bloblines.proofs.BlobLaws.{same-outcome}
 use Rattle.bloblist.specs.Space.{Roomy}
@@ -29,7 +28,7 @@ not-long : (s : List ℕ) → length s ≤ longestInput → blobListing s ≡ bl
 unfolding blobListing
 not-long s h = rw (le-ltb longestInput (length s) h)
 
-too-long : (s : List ℕ) → longestInput < length s → blobListing s ≡ answerLine (refusal tooLong)
+pub too-long : (s : List ℕ) → longestInput < length s → blobListing s ≡ answerLine (refusal tooLong)
 unfolding blobListing
 too-long s h = rw (lt-ltb longestInput (length s) h)
 
@@ -40,12 +39,6 @@ all-printed {s} w r input b =
     ∙ r .same
     ∙ sym (not-long s (r .short))
     ∙ ap blobListing (all-read b refl)
-
-pub refusal-printed : {s old new : List ℕ} {end : ℕ} → Wrote old 0 (answerLine (refusal 5)) new end → 64 ≤ length old → longestInput ≤ length s
-    → (input : List ℕ) → Begun s true input → take end new ≡ blobListing input
-refusal-printed w h l input b =
-    held w (omega (arith, answer-short (refusal tooLong) (omega arith) (omega arith) (omega arith) (omega arith)))
-    ∙ sym (too-long input (omega (arith, more-came b refl)))
 
 -- ---- the longest lines, computed from the name tables
 lines-are : (longestControl ≡ 68) × (longestProperty ≡ 95)

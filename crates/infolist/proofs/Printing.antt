@@ -1,22 +1,19 @@
 -- What is printed is the listing of all that standard input had.
-use mathlib.Core.Path.{_≡_, refl, sym, ap, _∙_}
-use mathlib.Core.Bool.{true, false}
+use mathlib.Core.Path.{_≡_, refl, ap, _∙_}
+use mathlib.Core.Bool.{false}
 use mathlib.Core.List.{List}
 use Prim.Native.Nat.{ℕ, _*_, _-_, _/_, _≤_}
 use native.Mathlib.Omega.{arith}
 use lib.ListN.{length, take}
 use Rattle.rules.specs.Bytes.{Bytes}
-use Rattle.rules.specs.Answer.{refusal, tooLong}
 use Rattle.rules.specs.Rows.{typeInfoWidth, room}
 use Rattle.rules.specs.Room.{typeInfoRoom}
-use Rattle.rules.specs.Listing.{answerLine}
 use Rattle.text.specs.Writer.{Wrote}
 use Rattle.listing.proofs.Placed.{held}
-use Rattle.listing.proofs.Longest.{answer-short}
 use Rattle.inputs.specs.Begun.{Begun}
-use Rattle.inputs.proofs.Came.{all-read, more-came}
+use Rattle.inputs.proofs.Came.{all-read}
 use Rattle.infolines.specs.Infos.{infoPrinted, longestInfo, infoListing, infoMost}
-use Rattle.infolines.proofs.Printed.{listed, too-long}
+use Rattle.infolines.proofs.Printed.{listed}
 use Rattle.infolines.proofs.Longest.{printed-short}
 use Rattle.infolist.specs.Space.{Roomy}
 
@@ -27,12 +24,6 @@ all-printed {s} {rows} w bytes r input b =
     held w (omega (arith, printed-short s bytes (omega (arith, r .short)) n, r .for-lines))
     ∙ listed s (r .short) n (r .for-rows)
     ∙ ap infoListing (all-read b refl)
-
-pub refusal-printed : {s old new : List ℕ} {end : ℕ} → Wrote old 0 (answerLine (refusal 5)) new end → 64 ≤ length old → longestInfo ≤ length s
-    → (input : List ℕ) → Begun s true input → take end new ≡ infoListing input
-refusal-printed w h l input b =
-    held w (omega (arith, answer-short (refusal tooLong) (omega arith) (omega arith) (omega arith) (omega arith)))
-    ∙ sym (too-long input (omega (arith, more-came b refl)))
 
 -- room for n bytes is room for fewer
 pub roomy : {s rows out : List ℕ} (n : ℕ) → n ≤ longestInfo → length s ≤ n → (n - 32) / 8 * typeInfoWidth ≤ length rows → infoMost n ≤ length out → Roomy s rows out

@@ -7,9 +7,12 @@ use native.Mathlib.Omega.{arith}
 use borrow.Rule.Slice.PartMut.{putMid, take-put}
 use lib.ListN.{length, take, length-append, length-take}
 use lib.Seq.{length-take-le}
+use Rattle.rules.specs.Answer.{refusal, tooLong}
+use Rattle.rules.specs.Listing.{answerLine}
 use Rattle.text.specs.Writer.{Wrote}
 use Rattle.text.proofs.Written.{next}
 use Rattle.listing.proofs.Placed.{within, held}
+use Rattle.listing.proofs.Longest.{answer-short}
 use Rattle.inputs.specs.Begun.{Begun, whole, longer}
 use Rattle.inputs.specs.Filled.{Filled}
 
@@ -21,6 +24,14 @@ pub more-came : {read input : List ℕ} {more : Bool} → Begun read more input 
 more-came whole e = let z : _≡_ {A = ℕ} 0 1 = cc in absurd (omega arith)
 more-came (longer {read} b rest) e = simp length-append (omega arith)
 
+-- what is printed of an input that has more than so many bytes, where its listing is the refusal of that
+pub refusal-printed : {most : ℕ} {listing : List ℕ → List ℕ} → ((input : List ℕ) → most < length input → listing input ≡ answerLine (refusal tooLong))
+    → {read old new : List ℕ} {end : ℕ} → Wrote old 0 (answerLine (refusal tooLong)) new end → 64 ≤ length old → most ≤ length read
+    → (input : List ℕ) → Begun read true input → take end new ≡ listing input
+refusal-printed refuses w h l input b =
+    held w (omega (arith, answer-short (refusal tooLong) (omega arith) (omega arith) (omega arith) (omega arith)))
+    ∙ sym (refuses input (omega (arith, more-came b refl)))
+
 -- what was read is written first, and what comes is put after it
 module _ {read old new : List ℕ} {e : ℕ} (w : Wrote old 0 read new e) (k : ℕ) (ys : List ℕ) where
   ends : length read ≤ length old → length read ≡ e
@@ -29,7 +40,7 @@ module _ {read old new : List ℕ} {e : ℕ} (w : Wrote old 0 read new e) (k : �
   pub filled : (n : ℕ) → e + n ≤ length old → Filled read old (putMid e k new ys) (e + n)
   filled n h = record {
     within = h;
-    behind = λ l. omega (arith, ends l);
+    after = λ l. omega (arith, ends l);
     begins = λ l. ap (λ (i : ℕ). take i (putMid e k new ys)) (ends l) ∙ take-put e k new ys (within w) ∙ held w l;
   }
 

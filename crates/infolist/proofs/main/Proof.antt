@@ -5,15 +5,10 @@ use borrow.Author.Needs.{needs}
 use Rattle.infolist.proofs.main.Statement.{statement}
 use Rattle.infolist.proofs.main.Tie as tie
 
-list-large-requires : tie.Need-list-large-requires
-list-large-requires c κs = λ e. let z : _≡_ {A = ℕ} 0 1 = cc in absurd (omega arith)
-
 pub main-spec : {M : Type 1} → statement M
 main-spec =
     tie.close
     (tie.spec
-    (λ c. search needs) (λ c κs. search needs) (λ c. search needs)
-    (λ c. search needs) (λ c κs. search needs)
-    (λ c. search needs)
-    list-large-requires
+    (λ c. search needs) (λ c κs. search needs) (λ c. search needs) (λ c. search needs) (λ c κs. search needs) (λ c. search needs)
+    (λ c κs. λ e. let z : _≡_ {A = ℕ} 0 1 = cc in absurd (omega arith))
     (λ c. search needs) (λ c. search needs))
