@@ -72,15 +72,22 @@ module _ (number most digits : ℕ) (third : List ℕ) where
   unfolding numberFault
   number-fits d e = fits-by (ltb 0 (length third)) (ltb most number) refl d e
 
--- the item that the code makes of the number that it has read, or the fault that it has found
-module _ (make : ℕ → Item) (most digits : ℕ) (third : List ℕ) {number read fault : ℕ} (is : read ≡ number) (found : fault ≡ numberFault read most digits third) where
-  pub number-bad : (fault ≡ 0 → ⊥) → unless (numberFault number most digits third) (make number) ≡ Bad fault
-  unfolding unless
-  number-bad h = rw (← is, ← found, ne-eqb fault 0 h)
+-- a line of one number as the code has it: what it read, and the fault that it found
+pub record Numbered (most digits : ℕ) (third : List ℕ) (number read fault : ℕ) : Type 0 where
+  pub is : read ≡ number
+  pub found : fault ≡ numberFault read most digits third
 
-  pub number-made : fault ≡ 0 → unless (numberFault number most digits third) (make number) ≡ make read
+module _ {most digits : ℕ} {third : List ℕ} {number read fault : ℕ} (N : Numbered most digits third number read fault) where
+  pub number-bad : (make : ℕ → Item) → (fault ≡ 0 → ⊥) → Bad fault ≡ unless (numberFault number most digits third) (make number)
   unfolding unless
-  number-made h = rw (← is, ← found, eq-eqb fault 0 h)
+  number-bad make h = rw (← (N .is), ← (N .found), ne-eqb fault 0 h)
+
+  pub number-made : (make : ℕ → Item) → fault ≡ 0 → make read ≡ unless (numberFault number most digits third) (make number)
+  unfolding unless
+  number-made make h = rw (← (N .is), ← (N .found), eq-eqb fault 0 h)
+
+  pub read-fits : (digits ≡ 0 → ⊥) → fault ≡ 0 → read ≤ most
+  read-fits d h = number-fits read most digits third d (sym (N .found) ∙ h)
 
 -- ---- a form, a report
 pub scope-more : (kind : ℕ) (second : List ℕ) → 0 < length second → plainScopeItem kind second ≡ Bad manyWords

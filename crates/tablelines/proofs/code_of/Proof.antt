@@ -28,6 +28,5 @@ code-of-spec =
     (tie.spec
     returns
     returns-2
-    (λ c. omega arith)
-    (λ c. omega arith)
+    (λ c. omega arith) (λ c. omega arith)
     returns-3)

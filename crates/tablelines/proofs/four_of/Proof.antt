@@ -8,27 +8,13 @@ use Rattle.tablelines.proofs.four_of.Tie as tie
 
 returns : tie.Need-returns
 returns c =
-    let start : tie.Start = search in
-    let a = start .args in
     let high : tie.After-byte-of = search in
-    c .code-of .ensures ∙ (λ i. codeOf (high .byte-of .ensures i) (c .before .byte-of2 .ensures i)) ∙ sym (four-digits (a .word .now) (omega arith))
-
-returns-2 : tie.Need-returns-2
-returns-2 c =
-    let start : tie.Start = search in
-    let a = start .args in
-    sym (not-four (a .word .now) (λ e. omega arith))
+    c .code-of .ensures ∙ (λ i. codeOf (high .byte-of .ensures i) (c .before .byte-of2 .ensures i)) ∙ sym (four-digits _ (omega arith))
 
 pub four-of-spec : {M : Type 1} → statement M
 four-of-spec =
     tie.close
     (tie.spec
-    (λ c. omega arith)
-    (λ c. omega arith)
-    (λ c κs. search needs)
-    (λ c. omega arith)
-    (λ c. omega arith)
-    (λ c κs. search needs)
-    (λ c κs. search needs)
+    (λ c. omega arith) (λ c. omega arith) (λ c κs. search needs) (λ c. omega arith) (λ c. omega arith) (λ c κs. search needs) (λ c κs. search needs)
     returns
-    returns-2)
+    (λ c. sym (not-four _ (λ e. omega arith))))
