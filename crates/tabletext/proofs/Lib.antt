@@ -1,5 +1,4 @@
 -- Laws of the text; the public ones serve whoever writes or bounds it.
 pub mod Lines
 pub mod Longest
-pub mod Arms
 pub mod Room

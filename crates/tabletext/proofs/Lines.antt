@@ -6,13 +6,14 @@ use native.Mathlib.Nat.{not-suc-le-zero}
 use native.Mathlib.Numerals.{sub-one}
 use native.Mathlib.Omega.{arith}
 use borrow.Author.Tests.{lt-ltb, le-ltb, le-leb, lt-leb}
-use lib.ListN.{length, getD, List·getD-eq-default}
+use lib.ListN.{length, getD}
 use Rattle.rules.specs.Lists.{text}
 use Rattle.rules.specs.Bytes.{byte, u16}
 use Rattle.rules.specs.Digits.{hex}
 use Rattle.rules.specs.NameTables.{controlTypeNames}
 use Rattle.rules.specs.Names.{nameIn}
 use Rattle.rules.specs.CodeTable.{Tie, codesAt, tieAt, tiesAt, scopesAt}
+use Rattle.text.specs.Writer.{Wrote}
 use Rattle.codetable.specs.Reads.{ReadsRow}
 use Rattle.codetable.specs.declared.RowRead.{RowRead}
 use Rattle.tabletext.specs.Text.{remark, kindWords, kindWord, markOf, rowLine, rowLines, scopeName, typeRemark, scopeLine, scopeLines, headerLine, headerLines, tableText}
@@ -29,9 +30,10 @@ a-remark [] h = absurd (h refl)
 a-remark (b ∷ s) h = refl
 
 -- ---- rows
-pub bytes-kind : (k : ℕ) → 4 ≤ k → kindWord k ≡ text "bytes"
+-- an arm of the code, by its number
+pub a-kind : {o n : List ℕ} {a r kind : ℕ} (k : ℕ) → kind ≡ k → Wrote o a (getD kindWords k (text "bytes")) n r → Wrote o a (kindWord kind) n r
 unfolding kindWord
-bytes-kind k h = List·getD-eq-default kindWords (text "bytes") h
+a-kind k e w = rw e w
 
 pub mark-number : (i k : ℕ) → i ≤ 0xBC → markOf i k ≡ 3
 unfolding markOf
@@ -59,9 +61,12 @@ rows-done t at zero h = refl
 rows-done t at (suc k) h = absurd (not-suc-le-zero h)
 
 -- ---- scopes
-pub entry-name : (k c : ℕ) → 2 ≤ k → scopeName k c ≡ text "entry " ++ hex 4 c
+abbrev pub plainNames : List (List ℕ)
+plainNames = text "form" ∷ text "report" ∷ []
+
+pub a-scope-name : {o n : List ℕ} {a r kind : ℕ} (k code : ℕ) → kind ≡ k → Wrote o a (getD plainNames k (text "entry " ++ hex 4 code)) n r → Wrote o a (scopeName kind code) n r
 unfolding scopeName
-entry-name k c h = List·getD-eq-default (text "form" ∷ text "report" ∷ []) (text "entry " ++ hex 4 c) h
+a-scope-name k code e w = rw e w
 
 pub plain-scope : (k c : ℕ) → k < 2 → typeRemark k c ≡ []
 unfolding typeRemark

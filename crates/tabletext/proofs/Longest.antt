@@ -3,12 +3,12 @@
 use mathlib.Core.Path.{_≡_, refl}
 use mathlib.Core.Bool.{Bool, true, false}
 use mathlib.Core.List.{List, [], _∷_, _++_}
-use Prim.Native.Nat.{ℕ, zero, suc, _*_, _≤_}
+use Prim.Native.Nat.{ℕ, _*_, _≤_}
 use native.Mathlib.Omega.{arith}
 use borrow.Author.Tests.{ltb-true, ltb-false}
 use lib.Dec.{ltb}
 use lib.ListN.{length, length-append}
-use Rattle.rules.specs.Lists.{all}
+use Rattle.rules.specs.Lists.{all, text}
 use Rattle.rules.specs.Digits.{hex}
 use Rattle.rules.specs.NameTables.{textNames, numberNames, bytesNames, controlTypeNames}
 use Rattle.rules.specs.Names.{nameIn, namesFor}
@@ -18,11 +18,12 @@ use Rattle.rules.proofs.ListLaws.{and-l, and-r}
 use Rattle.rules.proofs.CodeTableLaws.{formed}
 use Rattle.joinlaws.proofs.TableBytesLaws.{length-codesAt, length-scopesAt}
 use Rattle.joinlaws.proofs.JoinLaws.{scope-ok}
+use Rattle.text.proofs.Arms.{all-short, one-short}
 use Rattle.listing.specs.Bound.{longestIn, longestType, longestName}
 use Rattle.listing.proofs.Longest.{hex-length, value-name-short}
 use Rattle.listing.proofs.Longest as listed
-use Rattle.tabletext.proofs.Lines.{plain-scope, entry-scope}
-use Rattle.tabletext.specs.Text.{remark, kindWord, markOf, rowLine, rowLines, scopeName, typeRemark, scopeLine, scopeLines, headerLine, headerLines, tableText}
+use Rattle.tabletext.proofs.Lines.{plainNames, plain-scope, entry-scope}
+use Rattle.tabletext.specs.Text.{remark, kindWords, kindWord, markOf, rowLine, rowLines, scopeName, typeRemark, scopeLine, scopeLines, headerLine, headerLines, tableText}
 
 -- ---- parts of a line
 -- a name is no longer than what stands in its place in a listing
@@ -40,18 +41,12 @@ unfolding longestType longestIn controlTypeNames
 longest-type = refl
 
 kind-short : (k : ℕ) → length (kindWord k) ≤ 6
-unfolding kindWord
-kind-short zero = omega arith
-kind-short (suc zero) = omega arith
-kind-short (suc (suc zero)) = omega arith
-kind-short (suc (suc (suc zero))) = omega arith
-kind-short (suc (suc (suc (suc k)))) = omega arith
+unfolding kindWord all
+kind-short = one-short (text "bytes") (all-short 6 kindWords refl) (omega arith)
 
 pub scope-name-short : (k c : ℕ) → length (scopeName k c) ≤ 10
-unfolding scopeName
-scope-name-short zero c = omega arith
-scope-name-short (suc zero) c = omega arith
-scope-name-short (suc (suc k)) c = omega (arith, hex-length 4 c)
+unfolding scopeName all
+scope-name-short k c = one-short (text "entry " ++ hex 4 c) (all-short 10 plainNames refl) (omega (arith, hex-length 4 c)) k
 
 pub type-short : (k c : ℕ) (b : Bool) → ltb k 2 ≡ b → length (typeRemark k c) ≤ 30
 type-short k c true e = rw (plain-scope k c (ltb-true k 2 e)) (omega arith)
@@ -100,9 +95,6 @@ scopes-short (s ∷ ss) o =
     ))
 
 -- ---- the table
-pub length-codes : (t : List ℕ) (at n : ℕ) → length (codesAt t at n) ≡ n
-length-codes = length-codesAt
-
 module _ (t : List ℕ) (w : wellFormed t ≡ true) where
   pub longest-table : length (tableText t) ≤ 731386
   unfolding tableText

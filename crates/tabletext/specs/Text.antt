@@ -11,7 +11,7 @@
 --     DC 0014 text  # Name
 --
 -- A line names the layout byte, a header code, a scope (form, report, or entry and its type), or a row of the scope above it: id, target, kind.
--- Numbers are hex, two digits for a byte and four for two bytes. What stands behind # is a name, for the reader alone.
+-- Numbers are hex, two digits for a byte and four for two bytes. What stands after # is a name, for the reader alone.
 use Prim.Native.Nat.{ℕ}
 use mathlib.Core.Bool.{cond}
 use mathlib.Core.List.{List, [], _∷_, _++_}
@@ -23,7 +23,7 @@ use Rattle.rules.specs.NameTables.{controlTypeNames}
 use Rattle.rules.specs.Names.{nameIn, namesFor}
 use Rattle.rules.specs.CodeTable.{Tie, Scope, layout, header, scopes}
 
--- a name behind the words of a line, where there is one
+-- a name after the words of a line, where there is one
 unfoldable pub remark : List ℕ → List ℕ
 remark [] = []
 remark (b ∷ name) = text "  # " ++ (b ∷ name)

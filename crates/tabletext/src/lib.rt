@@ -1,4 +1,4 @@
-// A code table as text; specs/Text.antt says it line by line. Each part is written into a lent buffer; the place behind it is returned.
+// A code table as text; specs/Text.antt says it line by line. Each part is written into a lent buffer; the place after it is returned.
 use codetable::read_row;
 use numbers::byte_number;
 use numbers::u16_number;

@@ -1,19 +1,26 @@
 -- The lines that are printed, as the code writes them; the longest has 93 bytes, so a buffer of 128 holds each whole.
-use mathlib.Core.Path.{_≡_, refl, ap}
+use mathlib.Core.Path.{_≡_, refl}
 use mathlib.Core.Bool.{Bool, true, false}
-use mathlib.Core.List.{List, [], _∷_, _++_}
-use Prim.Native.Nat.{ℕ, zero, suc, _-_, _≤_, _<_}
+use mathlib.Core.List.{List, [], _++_}
+use Prim.Native.Nat.{ℕ, _-_, _≤_, _<_}
 use native.Mathlib.Omega.{arith}
-use borrow.Author.Tests.{leb-true, lt-ltb, le-ltb, ltb-true, ltb-false, eq-eqb, ne-eqb, eqb-true, eqb-false}
-use lib.Dec.{leb, ltb, eqb}
-use lib.ListN.{length, getD, take, length-append, List·getD-eq-default}
+use borrow.Author.Tests.{lt-ltb, le-ltb, ltb-true, ltb-false, eq-eqb, ne-eqb, eqb-true, eqb-false}
+use lib.Dec.{ltb, eqb}
+use lib.ListN.{length, getD, take, length-append}
 use Rattle.rules.specs.Lists.{all, text}
 use Rattle.rules.specs.Digits.{decimal}
-use Rattle.rules.proofs.ListLaws.{and-l, and-r}
 use Rattle.text.specs.Writer.{Wrote}
+use Rattle.text.proofs.Arms.{all-short, one-short}
 use Rattle.listing.proofs.Placed.{held}
 use Rattle.listing.proofs.Longest.{Word32, decimal-short}
 use Rattle.tablewhy.specs.Why.{linePlace, wordTexts, wordsWhy, ruleTexts, rulesWhy, why, whyText, sizeText}
+
+-- what is said past the end of each list
+abbrev pub lastWord : List ℕ
+lastWord = text "header lines stand before the first scope"
+
+abbrev pub lastRule : List ℕ
+lastRule = text "there is no room for its table"
 
 pub no-line : (n : ℕ) → n ≡ 0 → linePlace n ≡ []
 unfolding linePlace
@@ -31,41 +38,28 @@ pub of-rules : (e : ℕ) → 9 ≤ e → why e ≡ rulesWhy e
 unfolding why
 of-rules e h = rw (le-ltb e 9 h)
 
-pub last-words : (e : ℕ) → 8 ≤ e → wordsWhy e ≡ text "header lines stand before the first scope"
-unfolding wordsWhy
-last-words e h = List·getD-eq-default wordTexts (text "header lines stand before the first scope") h
+-- ---- an arm of the code, by its number
+module _ {o n : List ℕ} {a r e : ℕ} (k : ℕ) (q : e ≡ k) where
+  pub a-word : Wrote o a (getD wordTexts k lastWord) n r → Wrote o a (wordsWhy e) n r
+  unfolding wordsWhy
+  a-word w = rw q w
 
-rule-at : (e k : ℕ) → e - 9 ≡ k → rulesWhy e ≡ getD ruleTexts k (text "there is no room for its table")
-unfolding rulesWhy
-rule-at e k q = ap (λ (n : ℕ). getD ruleTexts n (text "there is no room for its table")) q
-
-pub a-rule : (e k : ℕ) → e ≡ k → rulesWhy e ≡ getD ruleTexts (k - 9) (text "there is no room for its table")
-a-rule e k q = rule-at e (k - 9) (omega arith)
-
-pub last-rule : (e : ℕ) → 19 ≤ e → rulesWhy e ≡ text "there is no room for its table"
-unfolding rulesWhy
-last-rule e h = let g : 10 ≤ e - 9 = omega arith in List·getD-eq-default ruleTexts (text "there is no room for its table") g
+  pub a-rule : Wrote o a (getD ruleTexts (k - 9) lastRule) n r → Wrote o a (rulesWhy e) n r
+  unfolding rulesWhy
+  a-rule w = rw q w
 
 -- ---- how long they are
 line-short : (n : ℕ) → Word32 n → (b : Bool) → eqb n 0 ≡ b → length (linePlace n) ≤ 17
 line-short n h true e = rw (no-line n (eqb-true n 0 e)) (omega arith)
 line-short n h false e = rw (a-line n (eqb-false n 0 e)) (simp length-append (omega (arith, decimal-short n h)))
 
--- each of a list of texts, and the one for every number past it
-texts-short : (n : ℕ) (xs : List (List ℕ)) (other : List ℕ) → length other ≤ n → all (λ (t : List ℕ). leb (length t) n) xs ≡ true → (k : ℕ) → length (getD xs k other) ≤ n
-unfolding all
-texts-short n [] other h e zero = h
-texts-short n [] other h e (suc k) = h
-texts-short n (x ∷ xs) other h e zero = leb-true (length x) n (and-l (leb (length x) n) _ e)
-texts-short n (x ∷ xs) other h e (suc k) = texts-short n xs other h (and-r (leb (length x) n) _ e) k
-
 words-short : (e : ℕ) → length (wordsWhy e) ≤ 75
 unfolding wordsWhy all
-words-short e = texts-short 75 wordTexts (text "header lines stand before the first scope") (omega arith) refl e
+words-short e = one-short lastWord (all-short 75 wordTexts refl) (omega arith) e
 
 rules-short : (e : ℕ) → length (rulesWhy e) ≤ 75
 unfolding rulesWhy all
-rules-short e = texts-short 75 ruleTexts (text "there is no room for its table") (omega arith) refl (e - 9)
+rules-short e = one-short lastRule (all-short 75 ruleTexts refl) (omega arith) (e - 9)
 
 why-short : (e : ℕ) → (b : Bool) → ltb e 9 ≡ b → length (why e) ≤ 75
 why-short e true q = rw (of-words e (ltb-true e 9 q)) (words-short e)

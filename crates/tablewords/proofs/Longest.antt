@@ -1,19 +1,20 @@
 -- The longest line has 131 bytes.
 use mathlib.Core.Path.{_≡_, refl}
 use mathlib.Core.Bool.{Bool, true, false}
-use mathlib.Core.List.{List, []}
-use Prim.Native.Nat.{ℕ, zero, suc, _-_, _≤_, _<_}
+use mathlib.Core.List.{List, [], _∷_}
+use Prim.Native.Nat.{ℕ, _+_, _-_, _≤_}
 use native.Mathlib.Omega.{arith}
 use borrow.Author.Tests.{ltb-true, ltb-false, eqb-true, eqb-false}
 use lib.Dec.{ltb, eqb}
 use lib.ListN.{length, length-append}
 use Rattle.rules.specs.Digits.{decimal, hex}
+use Rattle.text.proofs.Arms.{Short, no-more, _also_, one-short}
 use Rattle.listing.proofs.Longest.{Word32, decimal-short, hex-length}
 use Rattle.tabletext.specs.Text.{scopeName}
 use Rattle.tabletext.proofs.Longest.{scope-name-short}
 use Rattle.tablebreak.specs.declared.Break.{Break}
 use Rattle.tablewords.specs.Words.{scopePlace, rowPlace, within, scopesOrder, contentsWords, contentsRule, bodyWords, bodyRule, ruleText, breakText}
-use Rattle.tablewords.proofs.Sentences.{no-scope, a-scope, of-scope, of-row, contents-rule, order-rule, body-rule, other-rule, early, late}
+use Rattle.tablewords.proofs.Sentences.{tooLarge, no-scope, a-scope, of-scope, of-row, early, late}
 
 scope-short : (s : ℕ) → Word32 s → (b : Bool) → eqb s 0 ≡ b → length (scopePlace s) ≤ 18
 scope-short s h true e = rw (no-scope s (eqb-true s 0 e)) (omega arith)
@@ -30,6 +31,9 @@ pub record Words32 (b : Break) : Type 0 where
   pub row : Word32 (b .row)
   pub found : Word32 (b .found)
 
+short : {x : List ℕ} {xs : List (List ℕ)} → length x ≤ 83 → Short 83 xs → Short 83 (x ∷ xs)
+short l s = l also s
+
 module _ (b : Break) (h : Words32 b) where
   within-short : (t : Bool) → eqb (b .row) 0 ≡ t → length (within b) ≤ 30
   within-short true e = rw (of-scope b (eqb-true (b .row) 0 e)) (omega (arith, scope-short (b .scope) (h .scope) (eqb (b .scope) 0) refl))
@@ -39,29 +43,30 @@ module _ (b : Break) (h : Words32 b) where
   unfolding scopesOrder
   order-short = simp length-append (omega (arith, scope-name-short (b .kind) (b .code), scope-name-short (b .found) (b .before)))
 
-  contents-short : (k : ℕ) → b .rule ≡ k → length (contentsRule b) ≤ 83
-  unfolding contentsWords
-  contents-short zero e = rw (contents-rule b 0 e) (omega arith)
-  contents-short (suc zero) e = rw (contents-rule b 1 e) (simp length-append (omega (arith, decimal-short (b .found) (h .found))))
-  contents-short (suc (suc zero)) e = rw (contents-rule b 2 e) (simp length-append (omega (arith, decimal-short (b .found) (h .found))))
-  contents-short (suc (suc (suc zero))) e = rw (contents-rule b 3 e) (simp length-append (omega (arith, hex-length 4 (b .found), hex-length 4 (b .before))))
-  contents-short (suc (suc (suc (suc zero)))) e = rw (contents-rule b 4 e) (simp length-append (omega (arith, decimal-short (b .found) (h .found))))
-  contents-short (suc (suc (suc (suc (suc zero))))) e = rw (contents-rule b 5 e) (simp length-append (omega (arith, hex-length 4 (b .found))))
-  contents-short (suc (suc (suc (suc (suc (suc k)))))) e = rw (order-rule b (omega arith)) order-short
+  contents-short : length (contentsRule b) ≤ 83
+  unfolding contentsRule contentsWords
+  contents-short =
+      let count = decimal-short (b .found) (h .found) in
+      let code = hex-length 4 (b .found) in
+      let other = hex-length 4 (b .before) in
+      one-short (scopesOrder b)
+      (short (omega arith) (short (simp length-append (omega arith)) (short (simp length-append (omega arith)) (short (simp length-append (omega arith)) (short (simp length-append (omega arith)) (short (simp length-append (omega arith)) no-more))))))
+      order-short (b .rule)
 
-  body-short : (k : ℕ) → b .rule - 7 ≡ k → 7 ≤ b .rule → length (bodyRule b) ≤ 83
-  unfolding bodyWords
-  body-short zero e g = rw (body-rule b 7 (omega arith)) (simp length-append (omega (arith, hex-length 2 (b .found), hex-length 2 (b .before))))
-  body-short (suc zero) e g = rw (body-rule b 8 (omega arith)) (simp length-append (omega (arith, hex-length 2 (b .found))))
-  body-short (suc (suc zero)) e g = rw (body-rule b 9 (omega arith)) (simp length-append (omega (arith, hex-length 4 (b .found))))
-  body-short (suc (suc (suc zero))) e g = rw (body-rule b 10 (omega arith)) (simp length-append (omega (arith, decimal-short (b .found) (h .found))))
-  body-short (suc (suc (suc (suc zero)))) e g = rw (body-rule b 11 (omega arith)) (simp length-append (omega (arith, decimal-short (b .found) (h .found))))
-  body-short (suc (suc (suc (suc (suc zero))))) e g = rw (body-rule b 12 (omega arith)) (simp length-append (omega (arith, decimal-short (b .found) (h .found))))
-  body-short (suc (suc (suc (suc (suc (suc k)))))) e g = rw (other-rule b (omega arith)) (omega arith)
+  body-short : length (bodyRule b) ≤ 83
+  unfolding bodyRule bodyWords
+  body-short =
+      let count = decimal-short (b .found) (h .found) in
+      let code = hex-length 4 (b .found) in
+      let id = hex-length 2 (b .found) in
+      let other = hex-length 2 (b .before) in
+      one-short tooLarge
+      (short (simp length-append (omega arith)) (short (simp length-append (omega arith)) (short (simp length-append (omega arith)) (short (simp length-append (omega arith)) (short (simp length-append (omega arith)) (short (simp length-append (omega arith)) no-more))))))
+      (omega arith) (b .rule - 7)
 
   rule-short : (t : Bool) → ltb (b .rule) 7 ≡ t → length (ruleText b) ≤ 83
-  rule-short true e = rw (early b (ltb-true (b .rule) 7 e)) (contents-short (b .rule) refl)
-  rule-short false e = let g : 7 ≤ b .rule = ltb-false (b .rule) 7 e in rw (late b g) (body-short (b .rule - 7) refl g)
+  rule-short true e = rw (early b (ltb-true (b .rule) 7 e)) contents-short
+  rule-short false e = rw (late b (ltb-false (b .rule) 7 e)) body-short
 
   pub longest-break : length (breakText b) ≤ 131
   unfolding breakText

@@ -1,14 +1,19 @@
 -- The parts of the line, as the code writes them.
-use mathlib.Core.Path.{_≡_, ap, _∙_}
-use mathlib.Core.List.{List, [], _∷_, _++_}
+use mathlib.Core.Path.{_≡_, sym, ap}
+use mathlib.Core.List.{List, [], _++_}
 use Prim.Native.Nat.{ℕ, _-_, _≤_, _<_}
-use native.Mathlib.Omega.{arith}
 use borrow.Author.Tests.{lt-ltb, le-ltb, eq-eqb, ne-eqb}
-use lib.ListN.{length, getD, List·getD-eq-default}
+use lib.ListN.{getD}
 use Rattle.rules.specs.Lists.{text}
 use Rattle.rules.specs.Digits.{decimal}
+use Rattle.text.specs.Writer.{Wrote}
+use Rattle.text.proofs.Chain.{wrote-as}
 use Rattle.tablebreak.specs.declared.Break.{Break}
 use Rattle.tablewords.specs.Words.{scopePlace, rowPlace, within, scopesOrder, contentsWords, contentsRule, bodyWords, bodyRule, ruleText}
+
+-- what is said of the last rule
+abbrev pub tooLarge : List ℕ
+tooLarge = text "it goes on here; a table has at most 65100 bytes"
 
 -- ---- the place
 pub no-scope : (s : ℕ) → s ≡ 0 → scopePlace s ≡ []
@@ -28,24 +33,15 @@ module _ (b : Break) where
   unfolding within
   of-row e = rw (ne-eqb (b .row) 0 e)
 
-  -- ---- the rule
-  pub contents-rule : (k : ℕ) → b .rule ≡ k → contentsRule b ≡ getD (contentsWords b) k (scopesOrder b)
-  unfolding contentsRule
-  contents-rule k e = ap (λ (n : ℕ). getD (contentsWords b) n (scopesOrder b)) e
+  -- ---- the rule; an arm of the code, by its number
+  module _ {o n : List ℕ} {a r : ℕ} (k : ℕ) (e : b .rule ≡ k) where
+    pub contents-arm : Wrote o a (getD (contentsWords b) k (scopesOrder b)) n r → Wrote o a (contentsRule b) n r
+    unfolding contentsRule
+    contents-arm w = wrote-as w (ap (λ (i : ℕ). getD (contentsWords b) i (scopesOrder b)) (sym e))
 
-  pub order-rule : 6 ≤ b .rule → contentsRule b ≡ scopesOrder b
-  unfolding contentsRule contentsWords
-  order-rule h = List·getD-eq-default (contentsWords b) (scopesOrder b) h
-
-  pub body-rule : (k : ℕ) → b .rule ≡ k → bodyRule b ≡ getD (bodyWords b) (k - 7) (text "it goes on here; a table has at most 65100 bytes")
-  unfolding bodyRule
-  body-rule k e = ap (λ (n : ℕ). getD (bodyWords b) (n - 7) (text "it goes on here; a table has at most 65100 bytes")) e
-
-  pub other-rule : 13 ≤ b .rule → bodyRule b ≡ text "it goes on here; a table has at most 65100 bytes"
-  unfolding bodyRule bodyWords
-  other-rule h =
-      let g : 6 ≤ b .rule - 7 = omega arith in
-      List·getD-eq-default (bodyWords b) (text "it goes on here; a table has at most 65100 bytes") g
+    pub body-arm : Wrote o a (getD (bodyWords b) (k - 7) tooLarge) n r → Wrote o a (bodyRule b) n r
+    unfolding bodyRule
+    body-arm w = wrote-as w (ap (λ (i : ℕ). getD (bodyWords b) (i - 7) tooLarge) (sym e))
 
   pub early : b .rule < 7 → ruleText b ≡ contentsRule b
   unfolding ruleText

@@ -1,7 +1,7 @@
 use mathlib.Core.Path.{sym, _∙_}
 use mathlib.Core.List.{[], _∷_}
 use lib.ListN.{List·getD-eq-default}
-use Rattle.values.proofs.Marks.{past}
+use Rattle.text.proofs.Arms.{past}
 use Rattle.tabletext.proofs.Lines.{mark-number, mark-above}
 use Rattle.tabletext.proofs.mark_of.Statement.{statement}
 use Rattle.tabletext.proofs.mark_of.Tie as tie

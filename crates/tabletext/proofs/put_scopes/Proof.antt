@@ -45,9 +45,6 @@ loop-again c =
 returns : tie.Need-returns Inv-loop μ-loop
 returns c = let l = c .before in done (l .loop .inv .rest) (scopes-done (l .before .before .before .args .table .now) (l .loop .place) (l .loop .body) (l .loop .left) (omega arith))
 
-same-length : tie.Need-same-length Inv-loop μ-loop
-same-length c = same (returns c)
-
 pub put-scopes-spec : {M : Type 1} → statement M
 put-scopes-spec =
     tie.close
@@ -55,18 +52,9 @@ put-scopes-spec =
     Inv-loop
     μ-loop
     loop-holds
-    (λ c κs. search needs)
-    (λ c. omega arith)
-    (λ c κs. omega arith)
-    (λ c. omega arith)
-    (λ c κs. omega arith)
+    (λ c κs. search needs) (λ c. omega arith) (λ c κs. omega arith) (λ c. omega arith) (λ c κs. omega arith)
     put-scope-requires
-    (λ c κs. omega arith)
-    (λ c. omega arith)
-    (λ c. omega arith)
-    (λ c. omega arith)
-    (λ c. omega arith)
-    (λ c. omega arith)
+    (λ c κs. omega arith) (λ c. omega arith) (λ c. omega arith) (λ c. omega arith) (λ c. omega arith) (λ c. omega arith)
     loop-again
-    same-length
+    (λ c. same (returns c))
     returns)

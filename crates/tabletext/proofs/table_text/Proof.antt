@@ -22,26 +22,11 @@ returns c =
     ⨟ after-put-headers .put-headers .ensures
     ⨟ c .before .before .put-scopes .ensures)
 
-same-length : tie.Need-same-length
-same-length c = same (returns c)
-
 pub table-text-spec : {M : Type 1} → statement M
 table-text-spec =
     tie.close
     (tie.spec
-    (λ c κs. search needs)
-    (λ c κs. search needs)
-    (λ c. omega arith)
-    (λ c. omega arith)
-    (λ c. search needs)
-    (λ c κs. search needs)
-    (λ c κs. search needs)
-    (λ c. omega arith)
-    (λ c κs. search needs)
-    (λ c κs. search needs)
-    (λ c κs. omega arith)
-    (λ c. omega arith)
-    (λ c. omega arith)
-    (λ c κs. omega arith)
-    same-length
+    (λ c κs. search needs) (λ c κs. search needs) (λ c. omega arith) (λ c. omega arith) (λ c. search needs) (λ c κs. search needs) (λ c κs. search needs)
+    (λ c. omega arith) (λ c κs. search needs) (λ c κs. search needs) (λ c κs. omega arith) (λ c. omega arith) (λ c. omega arith) (λ c κs. omega arith)
+    (λ c. same (returns c))
     returns)

@@ -11,16 +11,10 @@ returns c =
     let after-put-text : tie.After-put-text = search in
     after-put-text .put-text .ensures ⨟ after-put-decimal .put-decimal .ensures ⨟ c .before .before .put-byte .ensures
 
-same-length : tie.Need-same-length
-same-length c = same (returns c)
-
 pub size-line-spec : {M : Type 1} → statement M
 size-line-spec =
     tie.close
     (tie.spec
-    (λ c. search needs)
-    (λ c κs. search needs)
-    (λ c κs. search needs)
-    (λ c κs. search needs)
-    same-length
+    (λ c. search needs) (λ c κs. search needs) (λ c κs. search needs) (λ c κs. search needs)
+    (λ c. same (returns c))
     returns)

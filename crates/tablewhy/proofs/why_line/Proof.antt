@@ -11,15 +11,10 @@ returns c =
     let after-put-line : tie.After-put-line = search in
     after-put-line .put-line .ensures ⨟ after-put-why .put-why .ensures ⨟ c .before .before .put-byte .ensures
 
-same-length : tie.Need-same-length
-same-length c = same (returns c)
-
 pub why-line-spec : {M : Type 1} → statement M
 why-line-spec =
     tie.close
     (tie.spec
-    (λ c κs. search needs)
-    (λ c κs. search needs)
-    (λ c κs. search needs)
-    same-length
+    (λ c κs. search needs) (λ c κs. search needs) (λ c κs. search needs)
+    (λ c. same (returns c))
     returns)

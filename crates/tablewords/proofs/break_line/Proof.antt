@@ -19,20 +19,11 @@ returns c =
     ⨟ after-put-rule .put-rule .ensures
     ⨟ c .before .before .put-byte .ensures
 
-same-length : tie.Need-same-length
-same-length c = same (returns c)
-
 pub break-line-spec : {M : Type 1} → statement M
 break-line-spec =
     tie.close
     (tie.spec
-    (λ c. search needs)
-    (λ c κs. search needs)
-    (λ c κs. search needs)
-    (λ c κs. search needs)
-    (λ c. search needs)
-    (λ c κs. search needs)
-    (λ c κs. search needs)
-    (λ c κs. search needs)
-    same-length
+    (λ c. search needs) (λ c κs. search needs) (λ c κs. search needs) (λ c κs. search needs) (λ c. search needs) (λ c κs. search needs)
+    (λ c κs. search needs) (λ c κs. search needs)
+    (λ c. same (returns c))
     returns)

@@ -1,81 +1,32 @@
+use Prim.Native.Nat.{_-_}
+use native.Mathlib.Omega.{arith}
 use borrow.Author.Needs.{needs}
-use Rattle.tablewords.specs.Words.{bodyWords}
-use Rattle.tabletext.proofs.Arms.{above}
-use Rattle.tablewords.proofs.Sentences.{body-rule, other-rule}
+use Rattle.text.proofs.Arms.{above, last-arm}
+use Rattle.tablewords.specs.Words.{bodyWords, bodyRule}
+use Rattle.tablewords.proofs.Sentences.{tooLarge, body-arm}
 use Rattle.tablewords.proofs.put_body_rule.Statement.{statement}
 use Rattle.tablewords.proofs.put_body_rule.Tie as tie
 
-returns : tie.Need-returns
-unfolding bodyWords
-returns c =
-    let at-match-keys1 : tie.At-match-keys1 = search in
-    let start : tie.Start = search in
-    rw (body-rule (start .args .b) 7 (at-match-keys1 .match .keys1)) (c .before .before .put-ordered .ensures)
-
-returns-2 : tie.Need-returns-2
-unfolding bodyWords
-returns-2 c =
-    let at-match-keys2 : tie.At-match-keys2 = search in
-    let start : tie.Start = search in
-    rw (body-rule (start .args .b) 8 (at-match-keys2 .match .keys2)) (c .before .before .put-coded .ensures)
-
-returns-3 : tie.Need-returns-3
-unfolding bodyWords
-returns-3 c =
-    let at-match-keys3 : tie.At-match-keys3 = search in
-    let start : tie.Start = search in
-    rw (body-rule (start .args .b) 9 (at-match-keys3 .match .keys3)) (c .before .before .put-coded2 .ensures)
-
-returns-4 : tie.Need-returns-4
-unfolding bodyWords
-returns-4 c =
-    let at-match-keys4 : tie.At-match-keys4 = search in
-    let start : tie.Start = search in
-    rw (body-rule (start .args .b) 10 (at-match-keys4 .match .keys4)) (c .before .before .put-counted .ensures)
-
-returns-5 : tie.Need-returns-5
-unfolding bodyWords
-returns-5 c =
-    let at-match-keys5 : tie.At-match-keys5 = search in
-    let start : tie.Start = search in
-    rw (body-rule (start .args .b) 11 (at-match-keys5 .match .keys5)) (c .before .before .put-counted2 .ensures)
-
-returns-6 : tie.Need-returns-6
-unfolding bodyWords
-returns-6 c =
-    let at-match-keys6 : tie.At-match-keys6 = search in
-    let start : tie.Start = search in
-    rw (body-rule (start .args .b) 12 (at-match-keys6 .match .keys6)) (c .before .before .put-counted3 .ensures)
-
 returns-7 : tie.Need-returns-7
+unfolding bodyRule bodyWords
 returns-7 c =
-    let at-match-rest : tie.At-match-rest = search in
+    let others : tie.At-match-rest = search in
     let start : tie.Start = search in
-    rw (other-rule (start .args .b) (above 7 6 _ (start .pre) (at-match-rest .match .rest))) (c .before .before .put-text .ensures)
+    let b = start .args .b in
+    last-arm (b .rule - 7) (bodyWords b) tooLarge (omega (arith, above 7 6 (b .rule) (start .pre) (others .match .rest))) (c .before .before .put-text .ensures)
 
 pub put-body-rule-spec : {M : Type 1} → statement M
+unfolding bodyWords
 put-body-rule-spec =
     tie.close
     (tie.spec
-    (λ c. search needs) (λ c. search needs) (λ c κs. search needs)
-    (λ c. search needs) (λ c. search needs) (λ c κs. search needs)
-    (λ c. search needs) (λ c. search needs) (λ c κs. search needs)
-    (λ c. search needs) (λ c. search needs) (λ c κs. search needs)
-    (λ c. search needs) (λ c. search needs) (λ c κs. search needs)
-    (λ c. search needs) (λ c. search needs) (λ c κs. search needs)
-    (λ c. search needs)
-    (λ c κs. search needs)
-    (λ c. search needs)
-    returns
-    (λ c. search needs)
-    returns-2
-    (λ c. search needs)
-    returns-3
-    (λ c. search needs)
-    returns-4
-    (λ c. search needs)
-    returns-5
-    (λ c. search needs)
-    returns-6
-    (λ c. search needs)
-    returns-7)
+    (λ c. search needs) (λ c. search needs) (λ c κs. search needs) (λ c. search needs) (λ c. search needs) (λ c κs. search needs) (λ c. search needs)
+    (λ c. search needs) (λ c κs. search needs) (λ c. search needs) (λ c. search needs) (λ c κs. search needs) (λ c. search needs) (λ c. search needs)
+    (λ c κs. search needs) (λ c. search needs) (λ c. search needs) (λ c κs. search needs) (λ c. search needs) (λ c κs. search needs)
+    (λ c. search needs) (λ c. body-arm _ 7 (search) (c .before .before .put-ordered .ensures))
+    (λ c. search needs) (λ c. body-arm _ 8 (search) (c .before .before .put-coded .ensures))
+    (λ c. search needs) (λ c. body-arm _ 9 (search) (c .before .before .put-coded2 .ensures))
+    (λ c. search needs) (λ c. body-arm _ 10 (search) (c .before .before .put-counted .ensures))
+    (λ c. search needs) (λ c. body-arm _ 11 (search) (c .before .before .put-counted2 .ensures))
+    (λ c. search needs) (λ c. body-arm _ 12 (search) (c .before .before .put-counted3 .ensures))
+    (λ c. search needs) returns-7)

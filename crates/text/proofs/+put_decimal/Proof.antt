@@ -58,9 +58,7 @@ pub +put-decimal-spec : {M : Type 1} → statement M
 +put-decimal-spec = close μ-put-decimal λ t. put-decimal-lts.spec (put-decimal-calls t)
     (put-decimal-at t)
     put-decimal.Post
-    (λ c κs. omega arith)
-    (λ c κs. omega arith)
-    (λ c κs. omega arith)
+    (λ c κs. omega arith) (λ c κs. omega arith) (λ c κs. omega arith)
     (put-decimal-same-length t)
     (put-decimal-returns t)
     (put-decimal-same-length-2 t)

@@ -49,9 +49,7 @@ pub +put-hex-spec : {M : Type 1} → statement M
 +put-hex-spec = close μ-put-hex λ t. put-hex-lts.spec (put-hex-calls t)
     (put-hex-at t)
     put-hex.Post
-    (λ c. omega arith)
-    (λ c κs. omega arith)
-    (λ c κs. omega arith)
+    (λ c. omega arith) (λ c κs. omega arith) (λ c κs. omega arith)
     (put-hex-returns t)
     (put-hex-same-length t)
     (put-hex-returns-2 t)

@@ -36,9 +36,6 @@ returns c =
     let l = c .before .loop in
     rw (take-all (l .i) (start .args .s .now) (c .loop-test .left)) at (l .inv .wrote)
 
-same-length : tie.Need-same-length Inv-loop μ-loop
-same-length c = same (returns c)
-
 pub put-text-spec : {M : Type 1} → statement M
 put-text-spec =
     tie.close
@@ -46,9 +43,7 @@ put-text-spec =
     Inv-loop
     μ-loop
     loop-holds
-    (λ c. omega arith)
-    (λ c κs. tt)
-    (λ c. omega arith) (λ c. omega arith)
+    (λ c. omega arith) (λ c κs. tt) (λ c. omega arith) (λ c. omega arith)
     loop-again
-    same-length
+    (λ c. same (returns c))
     returns)
