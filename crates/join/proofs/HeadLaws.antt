@@ -1,4 +1,4 @@
--- Header codes, compared and written one by one, and what the two loops keep that do it.
+-- Header codes, compared and written one by one, and what the loop keeps that compares them.
 use Prim.Native.Nat.{ℕ, _+_, _*_, _-_, _<_, _≤_}
 use native.Mathlib.Omega.{arith}
 use mathlib.Core.Path.{_≡_, refl, sym, ap, _∙_}
@@ -13,8 +13,6 @@ use Rattle.rules.specs.Join.{twoBytes, sameHead}
 use Rattle.joinlaws.proofs.TableBytesLaws.{length-codesAt, no-codes}
 use Rattle.joinlaws.proofs.JoinedLaws.{same-true}
 use Rattle.codetable.proofs.Steps.{codes-next}
-use Rattle.text.specs.Writer.{Wrote}
-use Rattle.text.proofs.Remains.{Remains, all-remains, remains-as, on, done}
 use Rattle.join.specs.Walk.{codesBytes, headBytes}
 
 -- ---- compared
@@ -64,22 +62,13 @@ module _ (a b : List ℕ) where
   same-count e h = rw (eq-eqb (layout a) (layout b) e, ← h)
 
 -- ---- written
--- so many codes are left from `from` on, and are still to be written
-pub record CodesTo (t old : List ℕ) (at : ℕ) (new : List ℕ) (next from left : ℕ) : Type 0 where
-  pub ends : from + 2 * left ≤ 516
-  pub rest : Remains old at (codesBytes (header t)) new next (codesBytes (codesAt t from left))
+pub bytes-next : (t : List ℕ) (from left : ℕ) {x : ℕ} → 0 < left → x ≡ u16 t from → codesBytes (codesAt t from left) ≡ twoBytes x ++ codesBytes (codesAt t (from + 2) (left - 1))
+unfolding concat
+bytes-next t from left more e = rw (codes-next t from left more, e)
 
-pub no-code-written : {t old : List ℕ} {at n : ℕ} → n ≡ headerCount t → n < 256 → CodesTo t old at old at 4 n
-no-code-written {t} e h = record { ends = omega arith; rest = remains-as all-remains (ap (λ (k : ℕ). codesBytes (codesAt t 4 k)) (sym e)) }
-
-module _ {t old new : List ℕ} {at next from left : ℕ} (C : CodesTo t old at new next from left) where
-  pub code-written : {x then : ℕ} {later : List ℕ} → 0 < left → x ≡ u16 t from → Wrote new next (twoBytes x) later then → CodesTo t old at later then (from + 2) (left - 1)
-  unfolding concat
-  code-written more X w = let p = C .ends in record { ends = omega arith; rest = on (C .rest) (rw (codes-next t from left more, X)) w }
-
-  pub codes-written : left ≤ 0 → Wrote old at (codesBytes (header t)) new next
-  unfolding concat
-  codes-written h = done (C .rest) (rw (no-codes t from left h))
+pub bytes-done : (t : List ℕ) (from left : ℕ) → left ≤ 0 → codesBytes (codesAt t from left) ≡ []
+unfolding concat
+bytes-done t from left h = rw (no-codes t from left h)
 
 pub head-is : (t : List ℕ) (n first codes : ℕ) → first ≡ layout t → codes ≡ headerCount t → (first ∷ codes ∷ twoBytes n ++ codesBytes (header t)) ≡ headBytes t n
 head-is t n first codes e h =

@@ -15,9 +15,10 @@ use Rattle.joinlaws.proofs.JoinTurns.{Turn}
 use Rattle.joinlaws.proofs.TableBytesLaws.{length-tiesAt, no-ties}
 use Rattle.codetable.proofs.Steps.{ties-next}
 use Rattle.join.specs.declared.Rows.{Rows}
-use Rattle.join.specs.declared.Row.{Row}
+use Rattle.tablebytes.specs.declared.Row.{Row}
+use Rattle.tablebytes.specs.Rows.{tieOf}
 use Rattle.join.specs.declared.RowTurn.{RowTurn}
-use Rattle.join.specs.Walk.{alone, Walks, tieOf, rowsIn, RowsWalk, RowLeft, rowsAfter, RowsTurn, counts, counted}
+use Rattle.join.specs.Walk.{alone, Walks, rowsIn, RowsWalk, RowLeft, rowsAfter, RowsTurn, counts, counted}
 use Rattle.join.proofs.Turns.{Front, Both, alone-more, first-turn, second-turn, both-turn}
 
 abbrev first : Tie → Tie → Tie

@@ -9,15 +9,11 @@ use lib.Dec.{ltb, eqb}
 use borrow.Author.Tests.{lt-ltb, le-ltb, ltb-true, ltb-false, eq-eqb, ne-eqb, eqb-true, eqb-false}
 use Rattle.rules.specs.Lists.{merge, agree}
 use Rattle.rules.proofs.ListLaws.{and-l, and-r}
-use Rattle.joinlaws.proofs.MergeLaws.{Ascends}
+use Rattle.joinlaws.proofs.MergeLaws.{or-which, Ascends}
 use Rattle.joinlaws.proofs.JoinTurns.{Turn, turn-low, turn-high, turn-same, turn-front, turn-back}
 use Rattle.join.specs.Walk.{alone}
 
 -- ---- what the test tells
-or-which : (a b : Bool) → (a || b) ≡ true → (a ≡ true) ⊎ (b ≡ true)
-or-which true b e = inl refl
-or-which false b e = inr e
-
 or-neither : (a b : Bool) → (a || b) ≡ false → (a ≡ false) × (b ≡ false)
 or-neither false b e = (refl, e)
 or-neither true b e = absurd (let z : _≡_ {A = ℕ} 0 1 = cc in omega arith)

@@ -10,9 +10,9 @@ use Rattle.rules.specs.Bytes.{byte, u16}
 use Rattle.rules.specs.CodeTable.{Tie, Scope, idOf, keyOf, key, tiesAt, scopesAt, layout, header, scopes, scopeCount, contentsAt, bodiesAt, scopeOk, rowCount, wellFormed}
 use Rattle.rules.specs.Join.{joinRows, joinScope, joinScopes, sameRow, rowsAgree, scopesAgree, twoBytes, tiesBytes, scopeBytes}
 use Rattle.joinlaws.proofs.JoinTurns.{Turn}
+use Rattle.tablebytes.specs.Rows.{tieOf}
 use Rattle.join.specs.declared.Rows.{Rows}
 use Rattle.join.specs.declared.Scopes.{Scopes}
-use Rattle.join.specs.declared.Row.{Row}
 use Rattle.join.specs.declared.RowTurn.{RowTurn}
 use Rattle.join.specs.declared.Taken.{Taken}
 use Rattle.join.specs.declared.ScopeTurn.{ScopeTurn}
@@ -34,9 +34,6 @@ pub record NextTurn {C : Type 0} (Walk : List ℕ → C → Type 0) (one : List 
   pub more : 0 < left
 
 -- ---- rows
-abbrev pub tieOf : Row → Tie
-tieOf r = record { id = r .id; target = r .target; kind = r .kind }
-
 abbrev pub rowsIn : List ℕ → Rows → List Tie
 rowsIn t a = tiesAt t (a .at) (a .left)
 

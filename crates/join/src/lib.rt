@@ -11,7 +11,6 @@ use codetable::ROW_SIZE;
 use codetable::SCOPE_COUNT_AT;
 use codetable::SCOPE_SIZE;
 use codetable::layout;
-use codetable::read_row;
 use codetable::well_formed;
 use numbers::byte_number;
 use numbers::u16_number;
@@ -21,6 +20,11 @@ use rules::MORE_SCOPES;
 use rules::NO_ROOM_FOR_TEXT;
 use rules::OTHER_HEAD;
 use rules::TWO_ROWS;
+use tablebytes::Row;
+use tablebytes::put_row;
+use tablebytes::put_scope;
+use tablebytes::put_two;
+use tablebytes::row_at;
 use text::put_byte;
 use text::refused;
 use text::wrote;
@@ -30,9 +34,10 @@ ghost use mathlib.Core.List.{_∷_, _++_};
 ghost use Prim.Native.Nat.{_+_, _-_, _*_, _<_, _^_};
 ghost use Rattle.rules.specs.Lists.{same};
 ghost use Rattle.rules.specs.CodeTable as t;
-ghost use Rattle.rules.specs.Join.{joinRows, joinScopes, sameRow, scopesAgree, twoBytes, tieBytes, tiesBytes, sameHead, joinExit};
+ghost use Rattle.rules.specs.Join.{joinRows, joinScopes, sameRow, scopesAgree, twoBytes, tiesBytes, sameHead, joinExit};
 ghost use Rattle.text.specs.Writer.{Wrote};
-ghost use Rattle.join.specs.Walk.{alone, Walks, NextTurn, tieOf, rowsIn, RowsWalk, RowLeft, rowsAfter, RowsTurn, counted, scopesOf, ReadsKey, ScopesWalk, ScopeLeft, taken, stayed, ScopesTurn, sized, kindOf, codeOf, Formed, Agreed, codesBytes, headBytes, contentsBytes, bodiesBytes};
+ghost use Rattle.tablebytes.specs.Rows.{tieOf};
+ghost use Rattle.join.specs.Walk.{alone, Walks, NextTurn, rowsIn, RowsWalk, RowLeft, rowsAfter, RowsTurn, counted, scopesOf, ReadsKey, ScopesWalk, ScopeLeft, taken, stayed, ScopesTurn, sized, kindOf, codeOf, Formed, Agreed, codesBytes, headBytes, contentsBytes, bodiesBytes};
 
 // Rows of a scope that are left: where the next one is, and how many they are.
 struct Rows {
@@ -45,12 +50,6 @@ struct Scopes {
     at: usize,
     body: usize,
     left: usize,
-}
-
-struct Row {
-    id: u8,
-    target: u16,
-    kind: u8,
 }
 
 // The next row of two scopes, whether it is the only one with its id, and what is left.
@@ -101,18 +100,6 @@ fn alone(left: usize, number: usize, others: usize, other: usize) -> bool
 }
 
 // ---- rows
-fn row_at(table: &[u8], at: usize) -> Row
-    requires { ⌜ at + 3 < 2 ^ 60 ⌝ }
-    ensures { λ r. ⌜ tieOf r ≡ t.tieAt (now (table .entry)) at ⌝ }
-{
-    let row = read_row(table, at);
-    Row {
-        id: row.id as u8,
-        target: row.target as u16,
-        kind: row.kind as u8,
-    }
-}
-
 fn same_row(x: Row, y: Row) -> bool
     ensures { λ r. ⌜ r ≡ sameRow (tieOf x) (tieOf y) ⌝ }
 {
@@ -330,14 +317,6 @@ fn same_head(one: &[u8], other: &[u8]) -> bool
 }
 
 // ---- writing
-// Two bytes, the low byte first.
-fn put_two(out: &mut [u8], at: usize, n: u16) -> usize
-    ensures { λ r. ⌜ Wrote (now (out .entry)) at (twoBytes n) (now (out .exit)) r ⌝ }
-{
-    let o = put_byte(out, at, (n % 256) as u8);
-    put_byte(out, o, (n / 256) as u8)
-}
-
 fn put_codes(out: &mut [u8], at: usize, table: &[u8]) -> usize
     ensures { λ r. ⌜ Wrote (now (out .entry)) at (codesBytes (t.header (now (table .entry)))) (now (out .exit)) r ⌝ }
 {
@@ -361,13 +340,12 @@ fn put_head(out: &mut [u8], table: &[u8], scopes: u16) -> usize
     put_codes(out, o, table)
 }
 
-fn put_scope(out: &mut [u8], at: usize, key: usize, rows: u16) -> usize
+// Kind and code are told as one number.
+fn put_key(out: &mut [u8], at: usize, key: usize, rows: u16) -> usize
     requires { ⌜ key < 2 ^ 24 ⌝ }
     ensures { λ r. ⌜ Wrote (now (out .entry)) at (kindOf key ∷ twoBytes (codeOf key) ++ twoBytes rows) (now (out .exit)) r ⌝ }
 {
-    let o = put_byte(out, at, (key / CODES) as u8);
-    let o = put_two(out, o, (key % CODES) as u16);
-    put_two(out, o, rows)
+    put_scope(out, at, (key / CODES) as u8, (key % CODES) as u16, rows)
 }
 
 fn put_contents(out: &mut [u8], at: usize, one: &[u8], other: &[u8]) -> usize
@@ -380,19 +358,11 @@ fn put_contents(out: &mut [u8], at: usize, one: &[u8], other: &[u8]) -> usize
     while 0 < a.left + b.left {
         let turn = scope_turn(one, a, other, b);
         let here = count_rows(one, turn.front.rows, other, turn.back.rows);
-        o = put_scope(out, o, turn.key, here.rows as u16);
+        o = put_key(out, o, turn.key, here.rows as u16);
         a = turn.front.rest;
         b = turn.back.rest;
     }
     o
-}
-
-fn put_row(out: &mut [u8], at: usize, row: Row) -> usize
-    ensures { λ r. ⌜ Wrote (now (out .entry)) at (tieBytes (tieOf row)) (now (out .exit)) r ⌝ }
-{
-    let o = put_byte(out, at, row.id);
-    let o = put_two(out, o, row.target);
-    put_byte(out, o, row.kind)
 }
 
 fn put_rows(out: &mut [u8], at: usize, one: &[u8], front: Rows, other: &[u8], back: Rows) -> usize
@@ -404,7 +374,8 @@ fn put_rows(out: &mut [u8], at: usize, one: &[u8], front: Rows, other: &[u8], ba
     let mut o = at;
     while 0 < a.left + b.left {
         let turn = row_turn(one, a, other, b);
-        o = put_row(out, o, turn.row);
+        let row = turn.row;
+        o = put_row(out, o, row.id, row.target, row.kind);
         a = turn.one;
         b = turn.other;
     }

@@ -15,6 +15,7 @@ use Rattle.rules.specs.CodeTable.{Tie, Scope, scopes, wellFormed, isTied, scope
 use Rattle.rules.specs.Join.{sameRow, scopesAgree, joinScopes, sameHead, joined, refuse, joinExit}
 use Rattle.rules.proofs.ListLaws.{and-l, and-r, none-some}
 use Rattle.rules.proofs.CodeTableLaws.{found-held, held-found}
+use Rattle.joinlaws.proofs.MergeLaws.{failed}
 use Rattle.joinlaws.proofs.JoinLaws.{one-row, row-itself}
 use Rattle.joinlaws.proofs.ClashLaws.{apart-rows, agreed-rows}
 use Rattle.joinwhy.specs.Why.{Clash, against, orElse, rowsClash, scopesClash, firstClash, Clashes}
@@ -154,14 +155,15 @@ apart-where-found t t′ c e = go (scopesAgree (scopes t) (scopes t′)) refl
     go true g = let k = found-clashes t t′ c e in absurd (k .differ (agreed-rows t t′ g (k .in-one) (k .in-other) (k .one-id)))
 
 -- ---- exactly where joining answers 17
--- it isn't the refusal by another number
-passed : (n : ℕ) (b : Bool) (out : List ℕ) (e : TextExit) → (n ≡ twoRows → ⊥) → cond b (refuse n out) e .answer .number ≡ twoRows → (b ≡ false) × (e .answer .number ≡ twoRows)
-passed n true out e d h = absurd (d h)
-passed n false out e d h = (refl, h)
+abbrev Is17 : TextExit → Type 0
+Is17 e = e .answer .number ≡ twoRows
 
-never : (x out : List ℕ) → textExit x out .answer .number ≡ twoRows → ⊥
+never : (x out : List ℕ) → Is17 (textExit x out) → ⊥
 unfolding textExit
-never x out h = let p = passed noRoomForText (ltb (length out) (length x)) out _ (λ q. omega arith) h in let z : _≡_ {A = ℕ} 0 17 = p .1 in omega arith
+never x out h =
+    let p = failed Is17 (ltb (length out) (length x)) (refuse noRoomForText out) _ (λ q. omega arith) h in
+    let z : _≡_ {A = ℕ} 0 17 = p .1 in
+    omega arith
 
 both-formed : (t t′ : List ℕ) (c : Clash) → firstClash t t′ ≡ some c → (wellFormed t && wellFormed t′) ≡ true
 unfolding firstClash
@@ -175,15 +177,15 @@ module _ (t t′ out : List ℕ) where
   pub found-on-17 : joinExit t t′ out .answer .number ≡ twoRows → (c : Clash) × (firstClash t t′ ≡ some c)
   unfolding joinExit
   found-on-17 e =
-      let p = passed badTable (not (wellFormed t && wellFormed t′)) out _ (λ q. omega arith) e in
-      let q = passed otherHead (not (sameHead t t′)) out _ (λ z. omega arith) (p .1) in
+      let p = failed Is17 (not (wellFormed t && wellFormed t′)) (refuse badTable out) _ (λ q. omega arith) e in
+      let q = failed Is17 (not (sameHead t t′)) (refuse otherHead out) _ (λ z. omega arith) (p .1) in
       let w = not-false (wellFormed t && wellFormed t′) (p .0) in
       go w (scopesAgree (scopes t) (scopes t′)) refl (q .1)
     where
       go : (wellFormed t && wellFormed t′) ≡ true → (b : Bool) → scopesAgree (scopes t) (scopes t′) ≡ b
           → cond (not b) (refuse twoRows out) (cond (ltb 64 (length (joinScopes (scopes t) (scopes t′)))) (refuse moreScopes out) (textExit (joined t t′) out)) .answer .number ≡ twoRows
           → (c : Clash) × (firstClash t t′ ≡ some c)
-      go w true g h = absurd (never (joined t t′) out (passed moreScopes (ltb 64 (length (joinScopes (scopes t) (scopes t′)))) out _ (λ z. omega arith) h .1))
+      go w true g h = absurd (never (joined t t′) out (failed Is17 (ltb 64 (length (joinScopes (scopes t) (scopes t′)))) (refuse moreScopes out) _ (λ z. omega arith) h .1))
       go w false g h = found-where-apart t t′ (and-l (wellFormed t) (wellFormed t′) w) (and-r (wellFormed t) (wellFormed t′) w) g
 
   pub answers-17 : (c : Clash) → firstClash t t′ ≡ some c → sameHead t t′ ≡ true → joinExit t t′ out .answer .number ≡ twoRows

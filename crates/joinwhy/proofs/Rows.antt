@@ -14,11 +14,12 @@ use Rattle.joinlaws.proofs.TableBytesLaws.{no-ties}
 use Rattle.codetable.proofs.Steps.{ties-next}
 use Rattle.coderows.specs.Look as look
 use Rattle.coderows.specs.declared.Row.the-variants.{Tied, Untied}
-use Rattle.joinwhy.specs.declared.Row.{Row}
+use Rattle.tablebytes.specs.declared.Row.{Row}
+use Rattle.tablebytes.specs.Rows.{tieOf}
 use Rattle.joinwhy.specs.declared.Another.{Another}
 use Rattle.joinwhy.specs.declared.Pair.{Pair}
 use Rattle.joinwhy.specs.Why.{Clash, against, orElse, rowsClash}
-use Rattle.joinwhy.specs.Found.{tieOf, asRow, asAnother, asPair}
+use Rattle.joinwhy.specs.Found.{asRow, asAnother, asPair}
 
 -- ---- one row
 abbrev tie : ℕ → ℕ → ℕ → Tie

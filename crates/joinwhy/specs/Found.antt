@@ -8,7 +8,8 @@ use Rattle.rules.specs.Lists.{text}
 use Rattle.rules.specs.CodeTable.{Tie, tiesAt, wellFormed}
 use Rattle.coderows.specs.Look.{Listed, Sorted}
 use Rattle.tabletext.specs.Text.{rowLine, scopeName, typeRemark}
-use Rattle.joinwhy.specs.declared.Row.{Row}
+use Rattle.tablebytes.specs.declared.Row.{Row}
+use Rattle.tablebytes.specs.Rows.{tieOf}
 use Rattle.joinwhy.specs.declared.Another.{Another}
 use Rattle.joinwhy.specs.declared.Pair.{Pair}
 use Rattle.joinwhy.specs.Why.{Clash}
@@ -27,9 +28,6 @@ pub record TwoRows (start n : ℕ) (other : List ℕ) (from rows : ℕ) : Type 0
 pub record ListedTable (t xs : List ℕ) : Type 0 where
   pub listed : Listed t xs
   pub formed : wellFormed t ≡ true
-
-abbrev pub tieOf : Row → Tie
-tieOf r = record { id = r .id; target = r .target; kind = r .kind }
 
 abbrev pub rowFrom : ℕ → ℕ → ℕ → Row
 rowFrom id target kind = record { id = id; target = target; kind = kind }

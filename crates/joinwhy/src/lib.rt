@@ -11,12 +11,13 @@ use codetable::ROW_COUNT_AT;
 use codetable::ROW_SIZE;
 use codetable::SCOPE_COUNT_AT;
 use codetable::SCOPE_SIZE;
-use codetable::read_row;
 use codetable::well_formed;
 use numbers::byte_number;
 use numbers::u16_number;
 use rules::OTHER_HEAD;
 use rules::TWO_ROWS;
+use tablebytes::Row;
+use tablebytes::row_at;
 use tabletext::put_row;
 use tabletext::put_scope_name;
 use tabletext::put_type_remark;
@@ -28,15 +29,10 @@ ghost use Prim.Native.Nat.{_+_, _*_, _<_, _^_};
 ghost use mathlib.Core.Option.{none};
 ghost use Rattle.rules.specs.CodeTable as t;
 ghost use Rattle.text.specs.Writer.{Wrote};
+ghost use Rattle.tablebytes.specs.Rows.{tieOf};
 ghost use Rattle.joinwhy.specs.Why as w;
 ghost use Rattle.tabletext.specs.Text.{rowLine};
-ghost use Rattle.joinwhy.specs.Found.{SortedRows, TwoRows, ListedTable, tieOf, rowFrom, asAnother, asPair, pairLines};
-
-struct Row {
-    id: u8,
-    target: u16,
-    kind: u8,
-}
+ghost use Rattle.joinwhy.specs.Found.{SortedRows, TwoRows, ListedTable, rowFrom, asAnother, asPair, pairLines};
 
 // A row that isn't the same as the one it was held against, or none.
 struct Another {
@@ -54,18 +50,6 @@ struct Pair {
 }
 
 // ---- two different rows
-fn row_at(table: &[u8], at: usize) -> Row
-    requires { ⌜ at + 3 < 2 ^ 60 ⌝ }
-    ensures { λ r. ⌜ tieOf r ≡ t.tieAt (now (table .entry)) at ⌝ }
-{
-    let row = read_row(table, at);
-    Row {
-        id: row.id as u8,
-        target: row.target as u16,
-        kind: row.kind as u8,
-    }
-}
-
 fn no_row() -> Row
     ensures { λ r. ⌜ r ≡ rowFrom 0 0 0 ⌝ }
 {

@@ -2,7 +2,7 @@
 use Prim.Native.Nat.{ℕ, _+_, _-_, _≤_, _<_}
 use native.Mathlib.Omega.{arith}
 use mathlib.Core.Path.{_≡_, refl, sym, _∙_}
-use mathlib.Core.Bool.{Bool, true, false, cond, _&&_}
+use mathlib.Core.Bool.{Bool, true, false, cond, _&&_, and-false}
 use mathlib.Core.List.{List, _++_}
 use borrow.Author.Tests.{lt-ltb, le-ltb, ltb-true, ltb-false}
 use lib.Dec.{ltb}
@@ -51,10 +51,6 @@ too-long t h = go (wellFormed t) refl
     go : (b : Bool) → wellFormed t ≡ b → b ≡ false
     go true e = let l = at-most t e in absurd (omega arith)
     go false e = refl
-
-and-false : (b : Bool) → (b && false) ≡ false
-and-false true = refl
-and-false false = refl
 
 -- one of two tables that have more than 130,200 bytes together
 either-long : (t t′ : List ℕ) (b : Bool) → ltb 65100 (length t) ≡ b → 130200 < length t + length t′ → (wellFormed t && wellFormed t′) ≡ false

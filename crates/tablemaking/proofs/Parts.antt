@@ -11,6 +11,8 @@ use Rattle.rules.specs.Lists.{concat}
 use Rattle.rules.specs.CodeTable.{Tie}
 use Rattle.rules.specs.CodeTable as table
 use Rattle.rules.specs.Join.{twoBytes, tieBytes, tiesBytes, scopeBytes, tableBytes}
+use Rattle.text.specs.Writer.{Wrote}
+use Rattle.text.proofs.Remains.{Remains, all-remains, on, done}
 use Rattle.tablelines.specs.Items.{itemsOf, LineAt}
 use Rattle.tablelines.proofs.Item.{the-type}
 use Rattle.tablelines.specs.declared.Item.{Item}
@@ -66,6 +68,22 @@ no-parts bodies = refl
 pub no-scopes : scopesSaid [] ≡ []
 unfolding scopesSaid
 no-scopes = refl
+
+-- ---- what is said of each line, written line by line
+pub record Left (said : List Item → List ℕ) (s old : List ℕ) (at : ℕ) (now : List ℕ) (p place : ℕ) : Type 0 where
+  pub rest : Remains old at (said (itemsOf s)) now p (said (itemsOf (drop place s)))
+  pub within : place ≤ length s + 1
+
+pub all-left : {said : List Item → List ℕ} {s old : List ℕ} {at : ℕ} → Left said s old at old at 0
+all-left = record { rest = all-remains; within = omega arith }
+
+module _ {said : List Item → List ℕ} {s old now : List ℕ} {at p place : ℕ} (L : Left said s old at now p place) where
+  pub line-put : {line : Line} {x later : List ℕ} {next : ℕ} → LineAt s place line → said (line .item ∷ itemsOf (drop (line .next) s)) ≡ x ++ said (itemsOf (drop (line .next) s))
+      → Wrote now p x later next → Left said s old at later next (line .next)
+  line-put l e w = record { rest = on (L .rest) (ap said (l .is) ∙ e) w; within = l .within }
+
+  pub no-line-left : length s ≤ place → said [] ≡ [] → Wrote old at (said (itemsOf s)) now p
+  no-line-left h e = done (L .rest) (ap said (no-items s place h) ∙ e)
 
 -- ---- rows above the next scope
 not-both : {A : Type 0} → false ≡ true → A

@@ -13,6 +13,7 @@ use Rattle.rules.specs.CodeTable.{Tie, Scope, idOf, keyOf, key, layout, headerC
 use Rattle.rules.proofs.ListLaws.{and-l, and-r}
 use Rattle.rules.proofs.CodeTableLaws.{formed}
 use Rattle.joinlaws.proofs.TableBytesLaws.{length-codesAt, length-scopesAt, written-again}
+use Rattle.joinlaws.proofs.JoinedLaws.{u16-small, codes-small}
 use Rattle.joinlaws.proofs.JoinLaws.{scope-ok, codeFits}
 use Rattle.tabletext.specs.Text.{rowLine, rowLines, scopeLines, headerLine, headerLines, tableText}
 use Rattle.tabletext.proofs.Longest.{longest-table}
@@ -213,19 +214,10 @@ module _ (x : ℕ) (named : x < 256) where
       (λ now at A. keeps-scopes 0 0 ss now at A (omega arith) b o))
 
 -- ---- a well-formed table of bytes
-u16-small : (t : List ℕ) (at : ℕ) → Bytes t → u16 t at < 65536
-unfolding u16
-u16-small t at B = let a = B at in let b = B (at + 1) in omega arith
-
-codes-small : (t : List ℕ) → Bytes t → (at n : ℕ) → all small (codesAt t at n) ≡ true
+header-codes-small : (t : List ℕ) → Bytes t → (at n : ℕ) → all small (codesAt t at n) ≡ true
 unfolding codesAt all
-codes-small t B at zero = refl
-codes-small t B at (suc n) = rw (lt-ltb (u16 t at) 65536 (u16-small t at B)) (codes-small t B (at + 2) n)
-
-scopes-small : (t : List ℕ) → Bytes t → (at body n : ℕ) → all codeFits (scopesAt t at body n) ≡ true
-unfolding scopesAt all
-scopes-small t B at body zero = refl
-scopes-small t B at body (suc n) = rw (lt-ltb (u16 t (at + 1)) 65536 (u16-small t (at + 1) B)) (scopes-small t B (at + 5) (body + 4 * u16 t (at + 3)) n)
+header-codes-small t B at zero = refl
+header-codes-small t B at (suc n) = rw (lt-ltb (u16 t at) 65536 (u16-small t at B)) (header-codes-small t B (at + 2) n)
 
 module _ (t : List ℕ) (B : Bytes t) (w : wellFormed t ≡ true) where
   text-items : itemsOf (tableText t) ≡ Layout (layout t) ∷ (map Header (header t) ++ scopeItems (scopes t))
@@ -233,8 +225,8 @@ module _ (t : List ℕ) (B : Bytes t) (w : wellFormed t ≡ true) where
   text-items =
       layout-said (layout t) (headerLines (header t) ++ scopeLines (scopes t)) (B 0)
       ∙ ap (λ l. Layout (layout t) ∷ l)
-      (headers-said (header t) (scopeLines (scopes t)) (codes-small t B 4 (headerCount t))
-      ∙ ap (λ l. map Header (header t) ++ l) (scopes-said (scopes t) (formed t w .scopes-ok) (scopes-small t B (contentsAt t) (bodiesAt t) (scopeCount t))))
+      (headers-said (header t) (scopeLines (scopes t)) (header-codes-small t B 4 (headerCount t))
+      ∙ ap (λ l. map Header (header t) ++ l) (scopes-said (scopes t) (formed t w .scopes-ok) (codes-small t B (contentsAt t) (bodiesAt t) (scopeCount t))))
 
   text-kept : Keeps (layout t) (judged (tableText t))
   unfolding judged

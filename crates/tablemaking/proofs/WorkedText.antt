@@ -1,9 +1,7 @@
 -- Worked texts: one that is taken, the ways in which it may be written, and one for each error number.
-use Prim.Native.Nat.{ℕ, zero, suc, _+_, _<_}
+use Prim.Native.Nat.{ℕ, zero, suc, _+_}
 use mathlib.Core.Path.{_≡_, refl}
 use mathlib.Core.List.{List, [], _∷_, _++_}
-use lib.ListN.{length}
-use borrow.Author.Tests.{lt-ltb}
 use Rattle.rules.specs.Lists.{text}
 use Rattle.rules.specs.Digits.{hex}
 use Rattle.rules.specs.Dump.{dump}
@@ -11,11 +9,10 @@ use Rattle.rules.proofs.OpenBytes.{bytes-open}
 use Rattle.rules.proofs.OpenNames.{names-open}
 use Rattle.rules.proofs.OpenTables.{join-open}
 use Rattle.tabletext.specs.Text as shown
-use Rattle.tablelines.specs.Faults.{longText}
 use Rattle.tablelines.specs.Words.{onto, linesOf, isBlank, stops, before, onward, word, afterWord, digitOf, byteOf, twoOf, codeOf, fourOf, rowKindOf}
 use Rattle.tablelines.specs.Items.{numberFault, unless, layoutItem, headerItem, plainScopeItem, entryItem, rowItem, itemBy, itemIn, itemOf, itemsOf}
 use Rattle.tablemaking.specs.Judged.{after, headerFault, scopeFault, rowFault, belowLayout, layoutFault, faultOf, broken, judgeEnd, judgeFrom, judged}
-use Rattle.tablemaking.specs.Made.{byPart, headersOf, rowsOf, scopesOf, tableSaid, longestText, refused, written, makeExit}
+use Rattle.tablemaking.specs.Made.{byPart, headersOf, rowsOf, scopesOf, tableSaid, refused, written, makeExit}
 
 -- to unfold these is to unfold the definitions that they list
 unfoldable pub lines-open : ℕ
@@ -185,10 +182,7 @@ unfolding made-open
 words-first = (refl, refl, refl)
 
 -- ---- the text as a whole
-pub too-long : (s out : List ℕ) → longestText < length s → makeExit s out ≡ refused longText 0 out
-unfolding makeExit
-too-long s out h = rw (lt-ltb longestText (length s) h)
-
+-- (that it is too long: `Making.too-long`)
 pub refusals :
     (makeExit (text "layout 13\nform 0064") (1 ∷ 2 ∷ []) ≡ refused 7 2 (1 ∷ 2 ∷ []))  -- nothing is written
     × (makeExit (text "layout 13") (1 ∷ 2 ∷ 3 ∷ []) ≡ refused 19 0 (1 ∷ 2 ∷ 3 ∷ []))

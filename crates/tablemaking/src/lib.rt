@@ -2,6 +2,9 @@
 use codetable::CODE_SIZE;
 use codetable::ROW_SIZE;
 use codetable::SCOPE_SIZE;
+use tablebytes::put_row;
+use tablebytes::put_scope;
+use tablebytes::put_two;
 use tablelines::Item;
 use tablelines::faults::HEADER_LATE;
 use tablelines::faults::HEADER_ORDER;
@@ -20,11 +23,10 @@ use tablelines::faults::TARGET_HIGH;
 use tablelines::line_at;
 use text::put_byte;
 ghost use mathlib.Core.Path.{_≡_};
-ghost use mathlib.Core.List.{[], _∷_, _++_};
+ghost use mathlib.Core.List.{_∷_};
 ghost use Prim.Native.Nat.{_+_, _≤_, _<_, _^_};
 ghost use lib.ListN.{length, drop};
 ghost use Rattle.rules.specs.CodeTable.{keyOf};
-ghost use Rattle.rules.specs.Join.{twoBytes};
 ghost use Rattle.text.specs.Writer.{Wrote};
 ghost use Rattle.tablelines.specs.Items.{itemsOf};
 ghost use Rattle.tablemaking.specs.Judged as j;
@@ -279,30 +281,14 @@ fn judge(text: &[u8]) -> Judged
 }
 
 // ---- the table's parts
-fn put_half(out: &mut [u8], at: usize, n: u32) -> usize
-    requires { ⌜ n < 65536 ⌝ }
-    ensures { λ r. ⌜ Wrote (now (out .entry)) at (twoBytes n) (now (out .exit)) r ⌝ }
-{
-    let p = put_byte(out, at, (n % 256) as u8);
-    put_byte(out, p, (n / 256) as u8)
-}
-
 // The header code of a line that says one.
 fn put_if_header(out: &mut [u8], at: usize, item: Item) -> usize
     ensures { λ r. ⌜ Wrote (now (out .entry)) at (m.codeBytes item) (now (out .exit)) r ⌝ }
 {
     match item {
-        Item::Header { code } => put_half(out, at, code as u32),
+        Item::Header { code } => put_two(out, at, code),
         _ => at,
     }
-}
-
-fn put_row(out: &mut [u8], at: usize, id: u8, target: u16, kind: u8) -> usize
-    ensures { λ r. ⌜ Wrote (now (out .entry)) at (id ∷ twoBytes target ++ (kind ∷ [])) (now (out .exit)) r ⌝ }
-{
-    let p = put_byte(out, at, id);
-    let p = put_half(out, p, target as u32);
-    put_byte(out, p, kind)
 }
 
 fn put_if_row(out: &mut [u8], at: usize, item: Item) -> usize
@@ -377,22 +363,15 @@ fn rows_from(text: &[u8], from: usize) -> u32
     rows
 }
 
-fn put_scope(out: &mut [u8], at: usize, kind: u8, code: u16, rows: u32) -> usize
-    requires { ⌜ rows < 65536 ⌝ }
-    ensures { λ r. ⌜ Wrote (now (out .entry)) at (kind ∷ twoBytes code ++ twoBytes rows) (now (out .exit)) r ⌝ }
-{
-    let p = put_byte(out, at, kind);
-    let p = put_half(out, p, code as u32);
-    put_half(out, p, rows)
-}
-
 // A scope's place in the contents, of a line that says one; its rows begin at the next line.
 fn put_if_scope(text: &[u8], next: usize, item: Item, out: &mut [u8], at: usize) -> usize
     requires { ⌜ m.ScopesReady (now text) (item ∷ itemsOf (drop next (now text))) ⌝ }
     ensures { λ r. ⌜ Wrote (now (out .entry)) at (m.scopeSaid item (itemsOf (drop next (now (text .entry))))) (now (out .exit)) r ⌝ }
 {
     match item {
-        Item::Scope { kind, code } => put_scope(out, at, kind, code, rows_from(text, next)),
+        Item::Scope { kind, code } => {
+            put_scope(out, at, kind, code, rows_from(text, next) as u16)
+        }
         _ => at,
     }
 }
@@ -432,7 +411,7 @@ fn put_table(text: &[u8], judged: Judged, out: &mut [u8]) -> usize
 {
     let p = put_byte(out, 0, judged.layout as u8);
     let p = put_byte(out, p, judged.headers as u8);
-    let p = put_half(out, p, judged.scopes);
+    let p = put_two(out, p, judged.scopes as u16);
     let p = put_parts(text, false, out, p);
     let p = put_scopes(text, out, p);
     put_parts(text, true, out, p)

@@ -21,40 +21,18 @@ Inv-loop out₀ at one other a₀ b₀ o₀ out a b o =
 abbrev μ-loop : tie.MeasureT-loop
 μ-loop out₀ at one other a₀ b₀ o₀ out a b o = a .left + b .left
 
-loop-holds : tie.Need-loop-holds Inv-loop μ-loop
-loop-holds c =
-    let start : tie.Start Inv-loop μ-loop = search in
-    writing-start (start .pre) (c .before .scopes-of .ensures) (c .scopes-of2 .ensures)
-
-add-if1 : tie.Need-add-if1 Inv-loop μ-loop
-add-if1 c = let w = c .before .before .loop .inv .walks in omega (arith, w .one-walk .place, w .other-walk .place)
-
-scope-turn-requires : tie.Need-scope-turn-requires Inv-loop μ-loop
-scope-turn-requires c κs = record { walks = c .before .before .before .loop .inv .walks; more = c .if1 .taken }
-
-put-rows-requires : tie.Need-put-rows-requires Inv-loop μ-loop
-put-rows-requires c κs = c .before .scope-turn .ensures .rows
-
-loop-less : tie.Need-loop-less Inv-loop μ-loop
-loop-less c =
-    let after-scope-turn : tie.After-scope-turn Inv-loop μ-loop = search in
-    after-scope-turn .scope-turn .ensures .fewer
-
 loop-again : tie.Need-loop-again Inv-loop μ-loop
 loop-again c =
-    let after-put-rows : tie.After-put-rows Inv-loop μ-loop = search in
-    let after-scope-turn : tie.After-scope-turn Inv-loop μ-loop = search in
-    let at-loop : tie.At-loop Inv-loop μ-loop = search in
-    let t = after-scope-turn .scope-turn .ensures in
-    turn-written (at-loop .loop .inv) (t .turn) (t .rest) (after-put-rows .put-rows .ensures)
+    let put-rows : tie.After-put-rows Inv-loop μ-loop = search in
+    let scope-turn : tie.After-scope-turn Inv-loop μ-loop = search in
+    let top : tie.At-loop Inv-loop μ-loop = search in
+    let t = scope-turn .scope-turn .ensures in
+    turn-written (top .loop .inv) (t .turn) (t .rest) (put-rows .put-rows .ensures)
 
 returns : tie.Need-returns Inv-loop μ-loop
 returns c =
     let l = c .before .before .before .loop in
     none-left (l .inv) (scopes-none _ (l .a) _ (l .b) (omega arith))
-
-same-length : tie.Need-same-length Inv-loop μ-loop
-same-length c = same (returns c)
 
 pub put-bodies-spec : {M : Type 1} → statement M
 put-bodies-spec =
@@ -63,11 +41,11 @@ put-bodies-spec =
     Inv-loop
     μ-loop
     (λ c κs. tt) (λ c κs. tt)
-    loop-holds
-    add-if1
-    scope-turn-requires
-    put-rows-requires
-    loop-less
+    (λ c. let start : tie.Start Inv-loop μ-loop = search in writing-start (start .pre) (c .before .scopes-of .ensures) (c .scopes-of2 .ensures))
+    (λ c. let w = c .before .before .loop .inv .walks in omega (arith, w .one-walk .place, w .other-walk .place))
+    (λ c κs. record { walks = c .before .before .before .loop .inv .walks; more = c .if1 .taken })
+    (λ c κs. c .before .scope-turn .ensures .rows)
+    (λ c. let scope-turn : tie.After-scope-turn Inv-loop μ-loop = search in scope-turn .scope-turn .ensures .fewer)
     loop-again
-    same-length
+    (λ c. same (returns c))
     returns)

@@ -16,35 +16,18 @@ Inv-loop out₀ at one other a₀ b₀ o₀ out a b o =
 abbrev μ-loop : tie.MeasureT-loop
 μ-loop out₀ at one other a₀ b₀ o₀ out a b o = a .left + b .left
 
-loop-holds : tie.Need-loop-holds Inv-loop μ-loop
-loop-holds c = all-left (c .before .before .before .pre) refl
-
-add-if1 : tie.Need-add-if1 Inv-loop μ-loop
-add-if1 c = let w = c .before .before .loop .inv .walks in omega (arith, w .one-walk .few, w .other-walk .few)
-
-row-turn-requires : tie.Need-row-turn-requires Inv-loop μ-loop
-row-turn-requires c κs = record { walks = c .before .before .before .loop .inv .walks; more = c .if1 .taken }
-
-loop-less : tie.Need-loop-less Inv-loop μ-loop
-loop-less c =
-    let after-row-turn : tie.After-row-turn Inv-loop μ-loop = search in
-    after-row-turn .row-turn .ensures .fewer
-
 loop-again : tie.Need-loop-again Inv-loop μ-loop
 loop-again c =
-    let after-put-row : tie.After-put-row Inv-loop μ-loop = search in
-    let after-row-turn : tie.After-row-turn Inv-loop μ-loop = search in
-    let at-loop : tie.At-loop Inv-loop μ-loop = search in
-    let t = after-row-turn .row-turn .ensures in
-    turn-written (at-loop .loop .inv) (t .turn) (t .walks) (after-put-row .put-row .ensures)
+    let put-row : tie.After-put-row Inv-loop μ-loop = search in
+    let row-turn : tie.After-row-turn Inv-loop μ-loop = search in
+    let top : tie.At-loop Inv-loop μ-loop = search in
+    let t = row-turn .row-turn .ensures in
+    turn-written (top .loop .inv) (t .turn) (t .walks) (put-row .put-row .ensures)
 
 returns : tie.Need-returns Inv-loop μ-loop
 returns c =
     let l = c .before .before .before .loop in
     none-left (l .inv) (rows-none _ (l .a) _ (l .b) (omega arith))
-
-same-length : tie.Need-same-length Inv-loop μ-loop
-same-length c = same (returns c)
 
 pub put-rows-spec : {M : Type 1} → statement M
 put-rows-spec =
@@ -52,11 +35,11 @@ put-rows-spec =
     (tie.spec
     Inv-loop
     μ-loop
-    loop-holds
-    add-if1
-    row-turn-requires
+    (λ c. all-left (c .before .before .before .pre) refl)
+    (λ c. let w = c .before .before .loop .inv .walks in omega (arith, w .one-walk .few, w .other-walk .few))
+    (λ c κs. record { walks = c .before .before .before .loop .inv .walks; more = c .if1 .taken })
     (λ c κs. tt)
-    loop-less
+    (λ c. let row-turn : tie.After-row-turn Inv-loop μ-loop = search in row-turn .row-turn .ensures .fewer)
     loop-again
-    same-length
+    (λ c. same (returns c))
     returns)

@@ -1,7 +1,8 @@
 use mathlib.Core.Path.{_∙_, sym}
 use native.Mathlib.Omega.{arith}
 use borrow.Author.Needs.{needs}
-use Rattle.joinwhy.specs.Found.{tieOf, asAnother}
+use Rattle.tablebytes.specs.Rows.{tieOf}
+use Rattle.joinwhy.specs.Found.{asAnother}
 use Rattle.joinwhy.proofs.Rows.{untied, tied-same, tied-target, tied-kind}
 use Rattle.joinwhy.proofs.against.Statement.{statement}
 use Rattle.joinwhy.proofs.against.Tie as tie

@@ -74,12 +74,9 @@ scopes-clash-spec =
     (tie.spec
     Inv-loop
     μ-loop
-    (λ c κs. search needs) (λ c κs. search needs)
-    (λ c. omega arith) (λ c. omega arith) (λ c. omega arith) (λ c. omega arith)
+    (λ c κs. search needs) (λ c κs. search needs) (λ c. omega arith) (λ c. omega arith) (λ c. omega arith) (λ c. omega arith)
     loop-holds
-    (λ c κs. search needs) (λ c. search needs)
-    (λ c. omega arith) (λ c κs. omega arith) (λ c. search needs)
-    (λ c. omega arith) (λ c κs. omega arith)
+    (λ c κs. search needs) (λ c. search needs) (λ c. omega arith) (λ c κs. omega arith) (λ c. search needs) (λ c. omega arith) (λ c κs. omega arith)
     (λ c κs. search needs) (λ c. search needs) (λ c. search needs)
     rows-clash-requires
     returns

@@ -90,10 +90,7 @@ judge-spec =
     μ-loop
     (λ c κs. search needs)
     loop-holds
-    (λ c κs. omega arith)
-    (λ c κs. search needs)
-    (λ c. omega arith)
-    (λ c κs. search needs)
+    (λ c κs. omega arith) (λ c κs. search needs) (λ c. omega arith) (λ c κs. search needs)
     returns
     after-requires
     (λ c. omega arith)

@@ -15,7 +15,6 @@ pub judge-end-spec : {M : Type 1} → statement M
 judge-end-spec =
     tie.close
     (tie.spec
-    (λ c. omega arith)
-    (λ c κs. search needs)
+    (λ c. omega arith) (λ c κs. search needs)
     returns
     returns-2)

@@ -10,18 +10,19 @@ use native.Mathlib.Omega.{arith}
 use Rattle.tablemaking.proofs.put_if_scope.Statement.{statement}
 use Rattle.tablemaking.proofs.put_if_scope.Tie as tie
 
-put-scope-requires : tie.Need-put-scope-requires
-put-scope-requires c κs =
+cast-put-scope : tie.Need-cast-put-scope
+cast-put-scope c =
     let start : tie.Start = search in
-    let after-item : tie.After-item = search in
+    let scope : tie.After-item = search in
     let a = start .args in
-    omega (arith, c .rows-from .ensures, few-of (a .item) _ _ (itemsOf (drop (a .next) (a .text .now))) (after-item .item .given .1) (start .pre .few))
+    omega (arith, c .rows-from .ensures, few-of (a .item) _ _ (itemsOf (drop (a .next) (a .text .now))) (scope .item .given .1) (start .pre .few))
 
 returns : tie.Need-returns
 unfolding scopeSaid byPart
 returns c =
-    let after-item : tie.After-item = search in
-    rw (after-item .item .given .1, ← (c .before .before .before .rows-from .ensures)) (c .before .before .put-scope .ensures)
+    let scope : tie.After-item = search in
+    let counted : tie.After-rows-from = search in
+    rw (scope .item .given .1, ← (counted .rows-from .ensures)) (c .before .before .put-scope .ensures)
 
 returns-2 : tie.Need-returns-2
 unfolding scopeSaid
@@ -34,9 +35,8 @@ pub put-if-scope-spec : {M : Type 1} → statement M
 put-if-scope-spec =
     tie.close
     (tie.spec
-    (λ c. search needs)
-    (λ c κs. omega arith)
-    put-scope-requires
-    (λ c. search needs)
+    (λ c. search needs) (λ c κs. omega arith)
+    cast-put-scope
+    (λ c κs. search needs) (λ c. search needs)
     returns
     returns-2)

@@ -64,8 +64,7 @@ rows-from-spec =
     Inv-loop
     μ-loop
     (λ c. record { total = omega arith; counted = omega arith; short = omega arith })
-    (λ c κs. omega arith)
-    (λ c κs. search needs)
+    (λ c κs. omega arith) (λ c κs. search needs)
     returns
     (λ c κs. search needs)
     add-rows

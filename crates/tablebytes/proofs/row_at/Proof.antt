@@ -1,6 +1,6 @@
 use borrow.Author.Needs.{needs}
-use Rattle.join.proofs.row_at.Statement.{statement}
-use Rattle.join.proofs.row_at.Tie as tie
+use Rattle.tablebytes.proofs.row_at.Statement.{statement}
+use Rattle.tablebytes.proofs.row_at.Tie as tie
 
 returns : tie.Need-returns
 returns c = let r = c .before .before .before .read-row .ensures in λ i. record { id = r .id .is i; target = r .target .is i; kind = r .kind .is i }

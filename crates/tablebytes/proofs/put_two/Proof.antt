@@ -1,12 +1,10 @@
 use borrow.Author.Needs.{needs}
 use Rattle.text.proofs.Chain.{_⨟_}
-use Rattle.join.proofs.put_two.Statement.{statement}
-use Rattle.join.proofs.put_two.Tie as tie
+use Rattle.tablebytes.proofs.put_two.Statement.{statement}
+use Rattle.tablebytes.proofs.put_two.Tie as tie
 
 returns : tie.Need-returns
-returns c =
-    let after-put-byte : tie.After-put-byte = search in
-    after-put-byte .put-byte .ensures ⨟ c .before .before .put-byte2 .ensures
+returns c = let low : tie.After-put-byte = search in low .put-byte .ensures ⨟ c .before .before .put-byte2 .ensures
 
 pub put-two-spec : {M : Type 1} → statement M
 put-two-spec =

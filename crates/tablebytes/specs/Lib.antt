@@ -1,0 +1,2 @@
+-- What a row that was read is.
+pub mod Rows
