@@ -15,13 +15,11 @@ returns c =
     (after-put-text .put-text .ensures) (after-put-decimal .put-decimal .ensures) (after-put-text2 .put-text2 .ensures) (after-put-decimal2 .put-decimal2 .ensures)
     (c .before .before .put-text3 .ensures)
 
-same-length : tie.Need-same-length
-same-length c = same (returns c)
-
 pub put-info-spec : {M : Type 1} → statement M
 put-info-spec =
     tie.close
     (tie.spec
-    (λ c. search needs) (λ c κs. search needs) (λ c κs. search needs) (λ c. search needs) (λ c κs. search needs) (λ c κs. search needs) (λ c κs. search needs) (λ c. search needs) (λ c κs. search needs)
-    same-length
+    (λ c. search needs) (λ c κs. search needs) (λ c κs. search needs) (λ c. search needs) (λ c κs. search needs) (λ c κs. search needs)
+    (λ c κs. search needs) (λ c. search needs) (λ c κs. search needs)
+    (λ c. same (returns c))
     returns)

@@ -10,13 +10,10 @@ returns c =
     let after-put-text : tie.After-put-text = search in
     length-wrote _ (after-put-text .put-text .ensures) (after-put-decimal .put-decimal .ensures) (c .before .before .put-text2 .ensures)
 
-same-length : tie.Need-same-length
-same-length c = same (returns c)
-
 pub put-length-spec : {M : Type 1} → statement M
 put-length-spec =
     tie.close
     (tie.spec
     (λ c. search needs) (λ c κs. search needs) (λ c κs. search needs) (λ c. search needs) (λ c κs. search needs)
-    same-length
+    (λ c. same (returns c))
     returns)

@@ -34,9 +34,6 @@ returns c =
     ⨟ (rw (after-room-later .room-later .ensures) at (after-put-blob3 .put-blob3 .ensures))
     ⨟ (rw (after-type-info-room .type-info-room .ensures) at (c .before .before .put-info .ensures))
 
-same-length : tie.Need-same-length
-same-length c = same (returns c)
-
 pub put-rooms-spec : {M : Type 1} → statement M
 put-rooms-spec =
     tie.close
@@ -49,5 +46,5 @@ put-rooms-spec =
     put-blob-requires-3
     (λ c κs. search needs)
     put-info-requires
-    same-length
+    (λ c. same (returns c))
     returns)

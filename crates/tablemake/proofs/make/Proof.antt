@@ -86,9 +86,5 @@ make-spec =
     slice-reshare-prefix-print-refusal
     slice-aggregate-print-refusal
     print-refusal-requires
-    (λ c. search needs)
-    (λ c. search needs)
-    (λ c. search needs)
-    (λ c. search needs)
-    (λ c. search needs)
+    (λ c. search needs) (λ c. search needs) (λ c. search needs) (λ c. search needs) (λ c. search needs)
     (λ c. search needs))
