@@ -9,8 +9,10 @@ use Rattle.values.proofs.put_value.Tie as tie
 
 returns-5 : tie.Need-returns-5
 returns-5 c =
-    let first : tie.After-put-hex = search in
-    a-value 4 (search) _ _ _ _ (first .put-hex .ensures ⨟ c .before .before .put-hex2 .ensures)
+    let high : tie.After-put-hex = search in
+    let start : tie.Start = search in
+    let a = start .args in
+    a-value 4 (search) (a .low) (a .high) _ _ (high .put-hex .ensures ⨟ c .before .before .put-hex2 .ensures)
 
 returns-8 : tie.Need-returns-8
 unfolding valueColumn
