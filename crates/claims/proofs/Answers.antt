@@ -12,7 +12,7 @@ use borrow.Author.Tests.{lt-ltb, le-ltb, ltb-true, ltb-false, eq-eqb, ne-eqb, eq
 use Rattle.rules.specs.Bytes.{u32}
 use Rattle.rules.specs.Answer.{answer, refusal, longest}
 use Rattle.rules.specs.Digits.{hex}
-use Rattle.rules.specs.Texts.{hexes, guidText, label, textExit, guidExit, labelExit}
+use Rattle.rules.specs.Texts.{hexes, guidText, textExit, guidExit}
 use Rattle.rules.specs.Rows.{controlWidth, propertyWidth, typeInfoWidth, room}
 use Rattle.rules.specs.TypeInfo.{typeInfoOf, typeInfoAnswer}
 use Rattle.rules.specs.CodeTable.{wellFormed}
@@ -23,7 +23,7 @@ use Rattle.rules.specs.Read2000.{read2000}
 use Rattle.rules.specs.ReadLater.{readLater}
 use Rattle.rules.specs.Blob.{Outcome, refused, read, is2000, readBy, readingOf, counted, fit, answerOf, outcome, exit}
 use Rattle.rules.specs.declared.Answer.{Answer}
-use Rattle.claims.specs.Answers.{Judged, BlobAnswer, Entered, TypeInfoAnswer, GuidAnswer, LabelAnswer}
+use Rattle.claims.specs.Answers.{Judged, BlobAnswer, Entered, TypeInfoAnswer, GuidAnswer, TextAnswer}
 
 -- ---- a Blob
 module _ (t s cs ps : List ℕ) where
@@ -122,7 +122,7 @@ module _ (s rows : List ℕ) where
       go false false true false true eb ed em el ek = TypeInfoAnswer.six (entered eb ed em el) (ltb-true _ _ ek)
       go false false true false false eb ed em el ek = TypeInfoAnswer.zero (entered eb ed em el) (ltb-false _ _ ek)
 
--- ---- GUID text and labels
+-- ---- texts
 -- a text without room and with room
 pub text-short : (text out : List ℕ) → length out < length text → textExit text out ≡ record { answer = refusal 9; out = out }
 unfolding textExit
@@ -164,25 +164,17 @@ module _ (g out : List ℕ) where
       go true true h k = rw (guid-short (eqb-true _ _ h) (ltb-true _ _ k)) (GuidAnswer.nine (eqb-true _ _ h) (ltb-true _ _ k))
       go true false h k = rw (guid-wrote (eqb-true _ _ h) (ltb-false _ _ k)) (GuidAnswer.zero (eqb-true _ _ h) (ltb-false _ _ k))
 
-module _ (n : ℕ) (out : List ℕ) where
-  label-short : length out < length (label n) → labelExit n out .answer ≡ refusal 9
-  unfolding labelExit
-  label-short h = ap (λ x. x .answer) (text-short (label n) out h)
+module _ (text out : List ℕ) where
+  pub text-right : (a : Answer) → TextAnswer text out a → a ≡ textExit text out .answer
+  text-right _ (TextAnswer.nine h) = sym (ap (λ x. x .answer) (text-short text out (omega arith)))
+  text-right _ (TextAnswer.zero h) = sym (ap (λ x. x .answer) (text-wrote text out (omega arith)))
 
-  label-wrote : length (label n) ≤ length out → labelExit n out .answer ≡ answer 0 (length (label n)) 0 0
-  unfolding labelExit
-  label-wrote h = ap (λ x. x .answer) (text-wrote (label n) out h)
-
-  pub label-right : (a : Answer) → LabelAnswer n out a → a ≡ labelExit n out .answer
-  label-right _ (LabelAnswer.nine h) = sym (label-short (omega arith))
-  label-right _ (LabelAnswer.zero h) = sym (label-wrote (omega arith))
-
-  pub label-told : LabelAnswer n out (labelExit n out .answer)
-  label-told = go (ltb (length out) (length (label n))) refl
+  pub text-told : TextAnswer text out (textExit text out .answer)
+  text-told = go (ltb (length out) (length text)) refl
     where
-      go : (b : Bool) → ltb (length out) (length (label n)) ≡ b → LabelAnswer n out (labelExit n out .answer)
-      go true h = rw (label-short (ltb-true _ _ h)) (LabelAnswer.nine (ltb-true _ _ h))
-      go false h = rw (label-wrote (ltb-false _ _ h)) (LabelAnswer.zero (ltb-false _ _ h))
+      go : (b : Bool) → ltb (length out) (length text) ≡ b → TextAnswer text out (textExit text out .answer)
+      go true h = rw (text-short text out (ltb-true _ _ h)) (TextAnswer.nine (ltb-true _ _ h))
+      go false h = rw (text-wrote text out (ltb-false _ _ h)) (TextAnswer.zero (ltb-false _ _ h))
 
 -- ---- exactly: in the table, and no other
 pub exactly : {Table : Answer → Type 0} {a : Answer} → ((b : Answer) → Table b → b ≡ a) → Table a → (b : Answer) → Table b ↔ (b ≡ a)

@@ -8,7 +8,9 @@ use mathlib.Core.Option.{none, some}
 use lib.ListN.{length}
 use Rattle.rules.specs.Bytes.{u32}
 use Rattle.rules.specs.Answer.{answer, refusal}
-use Rattle.rules.specs.Texts.{guidText, label}
+use Rattle.rules.specs.Texts.{label}
+use Rattle.rules.specs.NameTables.{Table as NameTable}
+use Rattle.rules.specs.Names.{nameIn}
 use Rattle.rules.specs.Rows.{controlWidth, propertyWidth, typeInfoWidth, room}
 use Rattle.rules.specs.TypeInfo.{typeInfoOf}
 use Rattle.rules.specs.CodeTable.{wellFormed}
@@ -69,7 +71,7 @@ pub data TypeInfoAnswer (stream rows : List ℕ) : Answer → Type 0 where
   -- read
   zero : Entered stream → length (typeInfoOf stream) ≤ room typeInfoWidth rows → TypeInfoAnswer stream rows (answer 0 (length (typeInfoOf stream)) 0 0)
 
--- ---- GUID text and labels. (Which bytes are written says the definition, `guidExit` or `labelExit`: Calls)
+-- ---- GUID text, labels and names. (Which bytes are written says the definition, `guidExit`, `labelExit` or `nameExit`: Calls)
 pub data GuidAnswer (guid out : List ℕ) : Answer → Type 0 where
   -- GUID value isn't 16 bytes
   ten : ¬ (length guid ≡ 16) → GuidAnswer guid out (refusal 10)
@@ -78,6 +80,15 @@ pub data GuidAnswer (guid out : List ℕ) : Answer → Type 0 where
   -- the length written
   zero : length guid ≡ 16 → 38 ≤ length out → GuidAnswer guid out (answer 0 38 0 0)
 
-pub data LabelAnswer (n : ℕ) (out : List ℕ) : Answer → Type 0 where
-  nine : length out < length (label n) → LabelAnswer n out (refusal 9)
-  zero : length (label n) ≤ length out → LabelAnswer n out (answer 0 (length (label n)) 0 0)
+pub data TextAnswer (text out : List ℕ) : Answer → Type 0 where
+  -- text buffer too short
+  nine : length out < length text → TextAnswer text out (refusal 9)
+  -- the length written
+  zero : length text ≤ length out → TextAnswer text out (answer 0 (length text) 0 0)
+
+abbrev pub LabelAnswer : ℕ → List ℕ → Answer → Type 0
+LabelAnswer n out = TextAnswer (label n) out
+
+-- the name that a table of names has for an id. Where it has none the text is empty: 0 with length 0, whatever the buffer
+abbrev pub NameAnswer : NameTable → ℕ → List ℕ → Answer → Type 0
+NameAnswer table id out = TextAnswer (nameIn table id) out

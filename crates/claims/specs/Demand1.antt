@@ -7,10 +7,12 @@ use mathlib.Core.Path.{_≡_}
 use mathlib.Core.List.{List}
 use mathlib.Core.Logic.{_↔_}
 use Rattle.rules.specs.Texts.{TextExit, guidExit, labelExit}
+use Rattle.rules.specs.NameTables.{Table as NameTable}
+use Rattle.rules.specs.Names.{nameExit}
 use Rattle.rules.specs.TypeInfo.{TypeInfoExit, typeInfoExit}
 use Rattle.rules.specs.Blob.{Exit, exit}
 use Rattle.rules.specs.declared.Answer.{Answer}
-use Rattle.claims.specs.Answers.{BlobAnswer, TypeInfoAnswer, GuidAnswer, LabelAnswer}
+use Rattle.claims.specs.Answers.{BlobAnswer, TypeInfoAnswer, GuidAnswer, LabelAnswer, NameAnswer}
 
 -- whoever isn't answered 0 is refused
 abbrev pub Refused : Answer → Type 0
@@ -26,7 +28,7 @@ pub record TypeInfos (stream rows : List ℕ) (e : TypeInfoExit) : Type 0 where
   pub exactly : (a : Answer) → TypeInfoAnswer stream rows a ↔ (a ≡ e .answer)
   pub rows-stay : Refused (e .answer) → e .rows ≡ rows
 
--- of the writers of GUID text and labels; `Table` is the table of their answers
+-- of the writers of GUID text, labels and names; `Table` is the table of their answers
 pub record Texts (Table : Answer → Type 0) (out : List ℕ) (e : TextExit) : Type 0 where
   pub exactly : (a : Answer) → Table a ↔ (a ≡ e .answer)
   pub out-stays : Refused (e .answer) → e .out ≡ out
@@ -36,3 +38,5 @@ pub record Demand1 : Type 0 where
   pub type-infos : (stream rows : List ℕ) → TypeInfos stream rows (typeInfoExit stream rows)
   pub guids : (guid out : List ℕ) → Texts (GuidAnswer guid out) out (guidExit guid out)
   pub labels : (n : ℕ) (out : List ℕ) → Texts (LabelAnswer n out) out (labelExit n out)
+  -- whatever the table of names
+  pub names : (table : NameTable) (id : ℕ) (out : List ℕ) → Texts (NameAnswer table id out) out (nameExit table id out)
