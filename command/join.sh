@@ -17,7 +17,7 @@ The order doesn't matter, nor does it matter which are joined first: it gives th
   one scope and id has two different rows   the scope and both rows are shown; the offices have to settle which one is right
   there would be more than 64 scopes        a code table holds no more; leave scopes out by ./oskuramos table and --from
 
-A row is shown as ./oskuramos table shows it: id, target, kind of value, and the property's name behind #.
+A row is shown as ./oskuramos table shows it: id, target, kind of value, and the property's name after #.
 Exit status: 0 joined; 1 refused; 2 a file couldn't be read or written.
 
     ./oskuramos join examples/north.codes examples/south.codes -o all.codes

@@ -5,7 +5,7 @@ verb_usage() {
     cat <<'END'
 ./oskuramos room LENGTH..     says how many rows are enough for every stream of at most LENGTH bytes
 
-LENGTH is a number of bytes; behind it K is times 1,024 and M times 1,048,576: 30204, 10K, 4M.
+LENGTH is a number of bytes; after it K is times 1,024 and M times 1,048,576: 30204, 10K, 4M.
 With so many rows lent, no stream of at most so many bytes is refused with 6 or 7, so buffers can be fixed once.
 Blob: for a caller who doesn't know the layout, and for one who does. The bytes are those of the rows.
 A stream of more than 16,777,216 bytes is refused before it needs a row, so there the rows stay as they are.

@@ -18,7 +18,7 @@ A line of the text is one of these, and # begins a remark up to the line's end:
   entry 0064       a scope: the rows of entries of that type
   60 0036 number   a row of the scope above it: id (up to FC), target (up to 7FFF), kind (number, text, guid, double or bytes)
 
-Scopes ascend (form, report, entries by code; up to 64), and so do the ids of each. Numbers are hex, of two or four digits. Shown behind #
+Scopes ascend (form, report, entries by code; up to 64), and so do the ids of each. Numbers are hex, of two or four digits. Shown after #
 are the names of control types and of properties; they are for the reader alone. A text has at most 2,097,152 bytes.
 Exit status: 0 all well; 1 a table or a text was refused; 2 a file couldn't be read or written.
 

@@ -10,7 +10,7 @@ The first line is `answer`, a number and three counts: entries, 0, 0. A line for
 T: number, type, its name (- if it isn't known), index, bytes of the control's name, the name (- if it has no bytes).
 A + after the bytes (3+) says that the stream ended within the name: it had so many bytes or more, and the copy lost its tail.
 TypeInfo doesn't say which code page a name is of. So bytes that aren't printing ASCII, and the backslash, are a backslash and two
-digits of hex: K\FCche. What is left of the line behind the sixth blank is the name, blanks and all.
+digits of hex: K\FCche. What is left of the line after the sixth blank is the name, blanks and all.
 A stream has at most 4,194,304 bytes. Of several streams each has a line `file` with its name before its own; one that is refused
 doesn't stop the others.
 Exit status: 0 all listed; 1 a stream was refused; 2 a file couldn't be read.

@@ -60,7 +60,7 @@ def stream_2000(object_type, properties, top):
 
 
 FORM, REPORT = 0x96, 0x97
-LABEL, TEXT_BOX, COMBO_BOX, TAB_CONTROL, PAGE = 0x64, 0x6D, 0x6F, 0x7B, 0x7C
+LABEL, OPTION_BUTTON, OPTION_GROUP, TEXT_BOX, COMBO_BOX, TAB_CONTROL, PAGE = 0x64, 0x69, 0x6B, 0x6D, 0x6F, 0x7B, 0x7C
 DETAIL, HEADER, FOOTER, PAGE_HEADER, GROUP_HEADER = 0x98, 0x99, 0x9A, 0x9B, 0x9D
 GUID = bytes.fromhex("f0e1d2c3b4a5968778695a4b3c2d1e0f")
 
@@ -116,6 +116,24 @@ def report_2000():
         entry(FOOTER, [sized(0xDF, text("ReportFooter"))]),
     ]
     return stream_2000(REPORT, own, top)
+
+
+def named_2000(type_code, name, inside=None):
+    return entry(type_code, [sized(0xDC, text(name))], inside)
+
+
+def panel_2000():
+    feeders = named_2000(OPTION_GROUP, "grpFeeder", [named_2000(OPTION_BUTTON, "optNorth"), named_2000(OPTION_BUTTON, "optSouth")])
+    buses = named_2000(TAB_CONTROL, "tabBus", [
+        named_2000(PAGE, "pagBusA", [label_2000("lblVoltA", "Bus A", 60, 120), text_box_2000("txtVoltA", "VoltA", 900, 120)]),
+        named_2000(PAGE, "pagBusB", [text_box_2000("txtVoltB", "VoltB", 900, 120)]),
+    ])
+    top = [
+        entry(LABEL, []),  # not reported
+        entry(HEADER, [sized(0xDF, text("FormHeader"))], [label_2000("lblTitle", "Rectifiers", 60, 60)]),
+        entry(DETAIL, [sized(0xDF, text("Detail"))], [feeders, buses, text_box_2000("txtNote", "Note", 900, 2400)]),
+    ]
+    return stream_2000(FORM, [sized(0xDC, text("Rectifiers"))], top)
 
 
 # ---- later: properties with a type and a trailer; the last trailer of a group tells how many nodes follow
@@ -210,7 +228,7 @@ OFFICES = {
 def main():
     folder = pathlib.Path(sys.argv[1]) if len(sys.argv) > 1 else HERE
     table = (HERE.parent / "data" / "access2000.codes").read_bytes()
-    blobs = {"form-2000": form_2000(), "report-2000": report_2000(), "later-tree": later(), "later-scan": later(b"\0")}
+    blobs = {"form-2000": form_2000(), "panel-2000": panel_2000(), "report-2000": report_2000(), "later-tree": later(), "later-scan": later(b"\0")}
     for title, blob in blobs.items():
         (folder / f"{title}.blob").write_bytes(blob)
         (folder / f"{title}.input").write_bytes(u32(len(table)) + table + blob)

@@ -1,14 +1,14 @@
 /* Oskuramos: the reader of Access form design streams. A program for x86-64 Linux links it:
 
        cc panel.c $(pkg-config --cflags --libs oskuramos)                   where `make install` has put it
-       cc -Iinclude panel.c target/staticlib/liboskuramos.a                 in the repository, behind `rt staticlib oskuramos`
+       cc -Iinclude panel.c target/staticlib/liboskuramos.a                 in the repository, after `rt staticlib oskuramos`
 
    On Arm the archive is the same. A cross compiler links it, and an emulator of x86-64 runs the program; the Rattle kit has one:
 
        x86_64-linux-gnu-gcc panel.c $(pkg-config --cflags --libs oskuramos) -o panel
        KIT/bin/qemu-x86_64 KIT/lib/ld-linux-x86-64.so.2 --library-path KIT/lib ./panel      where KIT is on/aarch64/toolchain of the kit
 
-   Length. A slice is a pointer and, behind it, a length that counts elements: bytes, or words of 32 bits.
+   Length. A slice is a pointer and, after it, a length that counts elements: bytes, or words of 32 bits.
    Ownership. A slice is lent for the call alone. Nothing is kept, allocated or freed, and no state is left between calls, so threads may call at
    the same time with slices of their own. The archive calls no code of others but memset of the C library.
    Overlap. A `const` slice is only read; such slices may overlap each other. A slice that is written may overlap nothing else that the call is given.
@@ -74,8 +74,14 @@ enum {
     OSKURAMOS_CONTROL_NAME_LENGTH = 3,
     OSKURAMOS_CONTROL_FIRST_PROPERTY = 4, /* the number of its first property row */
     OSKURAMOS_CONTROL_PROPERTY_COUNT = 5,
-    OSKURAMOS_CONTROL_WORDS = 6
+    OSKURAMOS_CONTROL_LEVEL = 6,  /* how deep it stands: 0 for a section or another top entry, 1 for what stands in that, at most 255 */
+    OSKURAMOS_CONTROL_PARENT = 7, /* the row of the control that it stands in, OSKURAMOS_NO_PARENT at level 0 */
+    OSKURAMOS_CONTROL_WORDS = 8
 };
+
+/* A control's parent is the last row before it that is one level less. What stands in a control are the rows right after it, up to the first whose level
+   isn't higher. Where a later stream is scanned for names every control has level 0. */
+#define OSKURAMOS_NO_PARENT UINT32_C(0xFFFFFFFF)
 
 /* The words of a property's row. Start and length name the value's bytes in the stream; marks, low and high stand at oskuramos_value. */
 enum {
@@ -107,7 +113,7 @@ enum {
 
 /* Reads a Blob by a code table into rows: of the controls, and of the properties. The object's own properties stand first, then each control's.
    Answers 0 with the numbers of controls, of properties and of the object's own properties, or 5, 8, 4, 6, 7, tried in this order.
-   Words behind the rows that are written keep their values. To learn the room that is needed, lend none: the answer is 6 or 7 with the
+   Words after the rows that are written keep their values. To learn the room that is needed, lend none: the answer is 6 or 7 with the
    counts, or 0 where there is nothing to write. The later layout has no mark of its own: bytes that are no Blob at all are mostly answered
    0 with no rows. */
 oskuramos_answer oskuramos_read_blob(const uint8_t *table, size_t table_length, const uint8_t *stream, size_t stream_length,
@@ -125,7 +131,7 @@ oskuramos_answer oskuramos_read_later(uint32_t layout, const uint8_t *stream, si
                                       size_t controls_length, uint32_t *properties, size_t properties_length);
 
 /* Reads TypeInfo into rows.
-   Answers 0 with the number of rows, or 5, 1, 2, 3, 6, tried in this order. Words behind the rows that are written keep their values. */
+   Answers 0 with the number of rows, or 5, 1, 2, 3, 6, tried in this order. Words after the rows that are written keep their values. */
 oskuramos_answer oskuramos_read_type_info(const uint8_t *stream, size_t stream_length, uint32_t *rows, size_t rows_length);
 
 /* ---- room by the length */
@@ -154,14 +160,14 @@ bool oskuramos_well_formed(const uint8_t *table, size_t table_length);
 
 /* Joins two code tables of the same layout byte and header codes: writes the table that holds every scope and row of either, also scopes
    without rows. It is well formed, and a Blob is read under it as under either, but for the codes that this one lacked.
-   Answers 0 with the length written, or 8 where either isn't well formed, 16, 17, 18, 9, tried in this order. Bytes behind it keep their values.
+   Answers 0 with the length written, or 8 where either isn't well formed, 16, 17, 18, 9, tried in this order. Bytes after it keep their values.
    A buffer of both lengths together is enough, and one of OSKURAMOS_TABLE_LONGEST for any two. It may not be one of the tables. */
 oskuramos_answer oskuramos_join(const uint8_t *one, size_t one_length, const uint8_t *other, size_t other_length, uint8_t *out,
                                 size_t out_length);
 
 /* ---- the name of a control
    By its mark a name is
-   0  UTF-16LE, well formed: of even length, surrogates in pairs. It stands in the stream, without a zero behind it, and may be empty.
+   0  UTF-16LE, well formed: of even length, surrogates in pairs. It stands in the stream, without a zero after it, and may be empty.
    1  numbered, as the control has no name of its own: "Control_" and its number in decimal, in ASCII. The stream doesn't have it. The row's
       start is the number and its length that of the label: have oskuramos_label_text write it into a buffer of OSKURAMOS_LABEL_LONGEST bytes.
    2  loose: bytes of the stream that were stored as text and aren't well-formed UTF-16, as the length is odd or a surrogate has no pair. Compare
@@ -186,10 +192,10 @@ oskuramos_part oskuramos_control_name(const uint8_t *stream, size_t stream_lengt
 /* ---- text */
 enum { OSKURAMOS_GUID_LENGTH = 38, OSKURAMOS_LABEL_LONGEST = 18 };
 
-/* Writes a GUID's 16 bytes as text of 38, without a NUL. Answers 0 with the length written, or 10, 9. Bytes behind it keep their values. */
+/* Writes a GUID's 16 bytes as text of 38, without a NUL. Answers 0 with the length written, or 10, 9. Bytes after it keep their values. */
 oskuramos_answer oskuramos_guid_text(const uint8_t *guid, size_t guid_length, uint8_t *out, size_t out_length);
 
-/* Writes "Control_" and n in decimal, 9 to 18 bytes, without a NUL. Answers 0 with the length written, or 9. Bytes behind it keep their values. */
+/* Writes "Control_" and n in decimal, 9 to 18 bytes, without a NUL. Answers 0 with the length written, or 9. Bytes after it keep their values. */
 oskuramos_answer oskuramos_label_text(uint32_t n, uint8_t *out, size_t out_length);
 
 /* Whether bytes are well-formed UTF-16LE: even length, paired surrogates. */

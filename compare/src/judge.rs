@@ -2,7 +2,7 @@
 
 use crate::form::{self, BlobProperty, BlobValue, ControlProperties};
 use crate::plain::codes::Codes;
-use crate::plain::{self, value, Control, Name, Property, Reading, Shape};
+use crate::plain::{self, value, Control, Name, Property, Reading, Shape, NO_PARENT};
 use crate::{form2000, oracle};
 
 type Verdict = Result<(), String>;
@@ -28,7 +28,19 @@ fn same_reading(stream: &[u8], ours: &Reading, theirs: &oracle::Blob) -> Verdict
         same_name(stream, &whose, ours.shape, n, a, b)?;
         same_run(stream, &whose, ours.shape, None, &a.properties, &b.properties)?;
     }
-    Ok(())
+    same_nesting(stream, ours)
+}
+
+/// Levels and parents, against jetdb's own tree. A scan has none.
+fn same_nesting(stream: &[u8], ours: &Reading) -> Verdict {
+    let theirs = match ours.shape {
+        Shape::Access2000 => form2000::nesting(stream),
+        Shape::Tree => form::nesting(stream),
+        Shape::Short | Shape::Scan => Some(vec![(0, None); ours.controls.len()]),
+    };
+    let rows = plain::rows(ours).controls;
+    let found = rows.iter().map(|row| (row[6], (row[7] != NO_PARENT).then_some(row[7])));
+    same("levels and parents", theirs, Some(found.collect()))
 }
 
 fn same<T: PartialEq + std::fmt::Debug>(what: &str, theirs: T, ours: T) -> Verdict {

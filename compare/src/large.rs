@@ -123,7 +123,7 @@ pub fn blob_agrees(library: &Library, judge: &Judge, stream: &[u8]) -> Result<An
         judge::blob(&judge.codes, stream)?;
     }
     let all = plain::read_blob(&judge.table, stream, usize::MAX, usize::MAX).answer;
-    let [controls, properties] = [0, 1].map(|i| 6 * all.counts[i] as usize);
+    let [controls, properties] = [0, 1].map(|i| [plain::CONTROL_WORDS, plain::PROPERTY_WORDS][i] * all.counts[i] as usize);
     let rooms = [
         [controls, properties],
         [controls + 5, properties + 9],
@@ -152,7 +152,7 @@ pub fn type_info_agrees(library: &Library, stream: &[u8]) -> Result<Answer, Stri
         judge::type_info(stream)?.ok();
     }
     let all = plain::typeinfo::read_type_info(stream, usize::MAX).0;
-    let words = 4 * all.counts[0] as usize;
+    let words = plain::typeinfo::WORDS * all.counts[0] as usize;
     for room in [words, words + 3, words.saturating_sub(1)] {
         type_info_in(library, stream, room)?;
     }

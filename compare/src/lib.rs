@@ -64,7 +64,7 @@ fn command(words: &[&str]) -> Result<bool, String> {
         ["codes", file] => save(file, &judge.table),
         ["list"] => print(&judge.listing(&input()?)?.text),
         ["rows"] => {
-            let words = [6 * plain::LONGEST as u32; 2];
+            let words = [plain::CONTROL_WORDS.max(plain::PROPERTY_WORDS) as u32 * plain::LONGEST as u32; 2];
             print(&judge.expected(&Case { numbers: words, ..Case::blob("", input()?) })?.text)
         }
         ["typeinfo"] => print(&type_info(&judge, input()?)?),

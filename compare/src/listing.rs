@@ -2,12 +2,12 @@
 
 use crate::form;
 use crate::judge::property_name;
-use crate::plain::{self, value, Answer, Rows};
+use crate::plain::{self, value, Answer, ControlRow, PropertyRow, Rows, NO_PARENT};
 
 /// The size of `formlist`'s buffer, and the words it lends: 256 controls, 1,024 properties.
 pub const BUFFER: usize = 32_768;
-pub const CONTROL_WORDS: usize = 6 * 256;
-pub const PROPERTY_WORDS: usize = 6 * 1024;
+pub const CONTROL_WORDS: usize = plain::CONTROL_WORDS * 256;
+pub const PROPERTY_WORDS: usize = plain::PROPERTY_WORDS * 1024;
 /// Words lent for TypeInfo in a batch file, at most.
 pub const TYPE_INFO_WORDS: usize = plain::typeinfo::WORDS * 256;
 
@@ -47,19 +47,20 @@ fn answer_line(word: &str, a: Answer) -> String {
     format!("{word} {} {} {} {}\n", a.number, a.counts[0], a.counts[1], a.counts[2])
 }
 
-fn control_line(n: usize, row: &[u32; 6]) -> String {
+fn control_line(n: usize, row: &ControlRow) -> String {
     let name = form::control_type_name(row[0] as u16).unwrap_or("-");
     let characters = if row[1] == 1 { "-".to_string() } else { (row[3] / 2).to_string() };
-    format!("C {n} {:04X} {name} {characters} {} {}\n", row[0], row[4], row[5])
+    let parent = if row[7] == NO_PARENT { "-".to_string() } else { row[7].to_string() };
+    format!("C {n} {:04X} {name} {characters} {} {} {} {parent}\n", row[0], row[4], row[5], row[6])
 }
 
-fn property_line(stream: &[u8], n: usize, row: &[u32; 6]) -> String {
+fn property_line(stream: &[u8], n: usize, row: &PropertyRow) -> String {
     let name = property_name(row[1], row[0] as u16).unwrap_or("-");
     let (word, shown) = value_columns(stream, row);
     format!("P {n} {:04X} {name} {word} {shown}\n", row[0])
 }
 
-fn value_columns(stream: &[u8], row: &[u32; 6]) -> (&'static str, String) {
+fn value_columns(stream: &[u8], row: &PropertyRow) -> (&'static str, String) {
     let [_, mark, low, high, start, length] = *row;
     match mark {
         0 => ("bool", if low == 0 { "no" } else { "yes" }.to_string()),

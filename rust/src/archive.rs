@@ -1,6 +1,6 @@
 //! The archive's functions, called with slices. All that is `unsafe` in this crate stands here.
 //!
-//! A slice is handed over as a pointer with its length behind it, counted in elements, and is lent for the call alone. No function asks more of its
+//! A slice is handed over as a pointer with its length after it, counted in elements, and is lent for the call alone. No function asks more of its
 //! caller: each pointer is to as many elements as its length says, and the borrow checker keeps a slice that is written apart from the others.
 
 /// The answer number and three counts.

@@ -1,6 +1,6 @@
 //! A Blob with room of its own, its rows taken apart.
 
-use crate::format::{answer, name, LABEL_LONGEST, UNMAPPED};
+use crate::format::{answer, name, LABEL_LONGEST, NO_PARENT, UNMAPPED};
 use crate::lent::{control_name, label_text, read_2000, read_blob, read_later, ControlRow, PropertyRow};
 use crate::text::ascii;
 use crate::{archive, control_type_name, value_name, Counts, Loose, Name, Refused, Text, Value};
@@ -87,7 +87,7 @@ impl<'a> Blob<'a> {
     }
 
     fn of(layout: Layout, own: usize, controls: &[ControlRow], all: Vec<Property<'a>>, stream: &'a [u8]) -> Option<Blob<'a>> {
-        let controls = controls.iter().map(|row| Control::of(row, &all, stream)).collect::<Option<_>>()?;
+        let controls = controls.iter().enumerate().map(|(n, row)| Control::of(n, row, &all, stream)).collect::<Option<_>>()?;
         Some(Blob { layout, own: all.get(..own)?.to_vec(), controls })
     }
 
@@ -99,6 +99,42 @@ impl<'a> Blob<'a> {
     /// The first control that has the name.
     pub fn control(&self, name: &str) -> Option<&Control<'a>> {
         self.controls.iter().find(|control| control.name == *name)
+    }
+
+    /// The controls that stand right in control `n`, each with its number in [`Blob::controls`]: the controls of a section, the buttons of an option
+    /// group, the pages of a tab control. None where there is no control `n`.
+    ///
+    /// ```
+    /// use oskuramos::{Blob, ACCESS_2000_CODES};
+    ///
+    /// let stream = std::fs::read("examples/panel-2000.blob")?;
+    /// let form = Blob::read(ACCESS_2000_CODES, &stream)?;
+    /// let group = form.controls.iter().position(|c| c.name == "grpFeeder").unwrap();
+    /// let inside = form.children_of(group).map(|(_, control)| control.name.to_string());
+    /// assert_eq!(Vec::from_iter(inside), ["optNorth", "optSouth"]);
+    /// # Ok::<(), Box<dyn std::error::Error>>(())
+    /// ```
+    pub fn children_of(&self, n: usize) -> impl Iterator<Item = (usize, &Control<'a>)> {
+        let level = self.controls.get(n).map_or(0, |control| control.level);
+        let below = self.controls.iter().enumerate().skip(n.saturating_add(1)).take_while(move |(_, control)| control.level > level);
+        below.filter(move |(_, control)| control.parent == Some(n))
+    }
+
+    /// The controls that control `n` stands in, the innermost first, each with its number. None where there is no control `n`.
+    ///
+    /// ```
+    /// use oskuramos::{Blob, ACCESS_2000_CODES};
+    ///
+    /// let stream = std::fs::read("examples/panel-2000.blob")?;
+    /// let form = Blob::read(ACCESS_2000_CODES, &stream)?;
+    /// let volt = form.controls.iter().position(|c| c.name == "txtVoltB").unwrap();
+    /// let around = form.ancestors_of(volt).map(|(_, control)| control.name.to_string());
+    /// assert_eq!(Vec::from_iter(around), ["pagBusB", "tabBus", "Detail"]);
+    /// # Ok::<(), Box<dyn std::error::Error>>(())
+    /// ```
+    pub fn ancestors_of(&self, n: usize) -> impl Iterator<Item = (usize, &Control<'a>)> {
+        let above = |n: usize| self.controls.get(n)?.parent;
+        std::iter::successors(above(n), move |&n| above(n)).map(|n| (n, &self.controls[n]))
     }
 
     /// All properties in the order of their rows: its own, then each control's.
@@ -117,13 +153,22 @@ pub struct Control<'a> {
     pub name: ControlName<'a>,
     /// Its properties in the order of the stream.
     pub properties: Vec<Property<'a>>,
+    /// How many controls it stands in: 0 for a section or another top entry, and for every control where a later Blob was scanned for names.
+    pub level: usize,
+    /// The number of the control that it stands in, `None` at level 0. It is the last one before it that is one level less.
+    pub parent: Option<usize>,
 }
 
 impl<'a> Control<'a> {
-    fn of(row: &ControlRow, all: &[Property<'a>], stream: &'a [u8]) -> Option<Control<'a>> {
-        let [type_code, mark, start, length, first, count] = *row;
+    fn of(n: usize, row: &ControlRow, all: &[Property<'a>], stream: &'a [u8]) -> Option<Control<'a>> {
+        let [type_code, mark, start, length, first, count, level, parent] = *row;
+        let (level, parent) = (level as usize, (parent != NO_PARENT).then_some(parent as usize));
+        if parent.is_some_and(|parent| parent >= n) {
+            return None;
+        }
         let properties = all.get(first as usize..)?.get(..count as usize)?.to_vec();
-        Some(Control { type_code: type_code.try_into().ok()?, name: ControlName::of(mark, start, length, stream)?, properties })
+        let name = ControlName::of(mark, start, length, stream)?;
+        Some(Control { type_code: type_code.try_into().ok()?, name, properties, level, parent })
     }
 
     /// The name of its type, such as `TextBox`.

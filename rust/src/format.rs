@@ -3,7 +3,9 @@
 /// A call takes less stack, in bytes. This is measured, not proved.
 pub const STACK: usize = 98_304;
 /// Words of a control's row.
-pub const CONTROL_WORDS: usize = 6;
+pub const CONTROL_WORDS: usize = 8;
+/// The parent's word of a control at level 0.
+pub const NO_PARENT: u32 = 0xFFFF_FFFF;
 /// Words of a property's row.
 pub const PROPERTY_WORDS: usize = 6;
 /// Words of a row of TypeInfo.

@@ -6,18 +6,18 @@
 use crate::archive;
 use crate::format::OF_STREAM;
 pub use crate::format::{
-    CONTROL_WORDS, GUID_TEXT, LABEL_LONGEST, LONGEST, NAME_ROOM, PROPERTY_WORDS, STACK, TABLE_LONGEST, TYPE_INFO_WORDS,
+    CONTROL_WORDS, GUID_TEXT, LABEL_LONGEST, LONGEST, NAME_ROOM, NO_PARENT, PROPERTY_WORDS, STACK, TABLE_LONGEST, TYPE_INFO_WORDS,
 };
 use crate::refused::{of_blob, of_type_info, of_written, Counts, Refused};
 
-/// Type code, name mark, name start, name length, first property row, property count.
+/// Type code, name mark, name start, name length, first property row, property count, level, and the parent's row, [`NO_PARENT`] at level 0.
 pub type ControlRow = [u32; CONTROL_WORDS];
 /// Id, value mark, low, high, start of the value's bytes in the stream, their length.
 pub type PropertyRow = [u32; PROPERTY_WORDS];
-/// Type code, index, name start, name length.
+/// Type code, index, name start, name length, and 1 where the stream's end cut the name.
 pub type TypeInfoRow = [u32; TYPE_INFO_WORDS];
 
-/// Reads a Blob by a code table. Rows behind those that are written keep their words.
+/// Reads a Blob by a code table. Rows after those that are written keep their words.
 ///
 /// To learn how many rows there are, lend none:
 ///
@@ -47,7 +47,7 @@ pub fn read_later(layout: u32, stream: &[u8], controls: &mut [ControlRow], prope
     of_blob(archive::read_later(layout, stream, controls.as_flattened_mut(), properties.as_flattened_mut()))
 }
 
-/// Reads TypeInfo, and says how many rows it has. Rows behind them keep their words.
+/// Reads TypeInfo, and says how many rows it has. Rows after them keep their words.
 pub fn read_type_info(stream: &[u8], rows: &mut [TypeInfoRow]) -> Result<usize, Refused> {
     of_type_info(archive::read_type_info(stream, rows.as_flattened_mut()))
 }
@@ -76,7 +76,7 @@ pub fn label_text(n: u32, out: &mut [u8]) -> Result<usize, Refused> {
 }
 
 /// Writes the code table that holds every scope and row of either, and says how many bytes it has: [`TABLE_LONGEST`] at most, and no more than both.
-/// Bytes behind it keep their values. [`CodeTable::join`](crate::CodeTable::join) does the same with room of its own.
+/// Bytes after it keep their values. [`CodeTable::join`](crate::CodeTable::join) does the same with room of its own.
 pub fn join(one: &[u8], other: &[u8], out: &mut [u8]) -> Result<usize, Refused> {
     of_written(archive::join(one, other, out))
 }

@@ -48,7 +48,7 @@ pub struct TypeInfoEntry<'a> {
     pub name: &'a [u8],
     /// Where it starts in the stream.
     pub start: usize,
-    /// Whether the stream's end cut the name off: no NUL stands behind it, so it may have been longer. Only the last entry can be cut.
+    /// Whether the stream's end cut the name off: no NUL stands after it, so it may have been longer. Only the last entry can be cut.
     ///
     /// ```
     /// use oskuramos::TypeInfo;

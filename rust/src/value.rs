@@ -121,7 +121,7 @@ impl Display for Value<'_> {
     }
 }
 
-/// The kind of a code table's row: what bytes behind a length are read as, if they can be.
+/// The kind of a code table's row: what bytes after a length are read as, if they can be.
 #[derive(Clone, Copy, Debug, PartialEq, Eq, Hash)]
 #[repr(u8)]
 pub enum Kind {

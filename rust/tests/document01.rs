@@ -53,7 +53,7 @@ fn k1_word_for_word() {
     for rooms in [[2, 3], [3, 4], [10, 10]] {
         let (answer, controls, properties) = blob_answer(&TABLE, &BLOB, rooms, [2, 3]);
         assert_eq!(answer, Ok(NEEDED));
-        assert_eq!(controls[GUARD..GUARD + 2], [[0x98, 1, 0, 9, 1, 0], [0x64, 0, 23, 2, 1, 2]]);
+        assert_eq!(controls[GUARD..GUARD + 2], [[0x98, 1, 0, 9, 1, 0, 0, NO_PARENT], [0x64, 0, 23, 2, 1, 2, 1, 0]]);
         let rows = [[0x8031, 2, 5, 0, 11, 1], [0x36, 2, 0xFFFF_FFFF, 0, 19, 2], [0x14, 6, 0, 0, 23, 2]];
         assert_eq!(properties[GUARD..GUARD + 3], rows);
     }
@@ -90,7 +90,10 @@ fn refusals_of_a_blob() {
 }
 
 /// A reader's answer with nothing written, refused or not.
-fn reader_answer(read: impl Fn(&mut [ControlRow], &mut [PropertyRow]) -> Result<Counts, Refused>, rooms: [usize; 2]) -> Result<Counts, Refused> {
+fn reader_answer(
+    read: impl Fn(&mut [ControlRow], &mut [PropertyRow]) -> Result<Counts, Refused>,
+    rooms: [usize; 2],
+) -> Result<Counts, Refused> {
     let (mut controls, mut properties) = (rows(rooms[0]), rows(rooms[1]));
     let answer = read(between(&mut controls), between(&mut properties));
     assert!(kept(rooms[0], &controls, 0) && kept(rooms[1], &properties, 0), "{answer:?} wrote");

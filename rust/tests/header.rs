@@ -37,6 +37,8 @@ fn numbers_are_the_headers() {
     for (name, number) in mine {
         assert_eq!(numbers[name], number as u64, "{name}");
     }
+    // an enum of C holds no number of 32 bits with the highest set
+    assert!(header.contains(&format!("#define OSKURAMOS_NO_PARENT UINT32_C(0x{:08X})", lent::NO_PARENT)));
     let refusals = [
         ("TOO_SHORT", Refused::TooShort),
         ("OTHER_MAGIC", Refused::OtherMagic),

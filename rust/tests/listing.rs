@@ -14,7 +14,8 @@ fn control_line(number: usize, first: usize, control: &Control) -> String {
         ControlName::Loose(loose) => (loose.0.len() / 2).to_string(),
     };
     let name = or_dash(control.type_name());
-    format!("C {number} {:04X} {name} {characters} {first} {}\n", control.type_code, control.properties.len())
+    let parent = control.parent.map_or("-".into(), |n| n.to_string());
+    format!("C {number} {:04X} {name} {characters} {first} {} {} {parent}\n", control.type_code, control.properties.len(), control.level)
 }
 
 fn property_line(number: usize, property: &Property) -> String {
@@ -45,7 +46,7 @@ fn examples_are_listed_alike() {
     let root = concat!(env!("CARGO_MANIFEST_DIR"), "/..");
     let table = fs::read(format!("{root}/data/access2000.codes")).unwrap();
     assert_eq!(table, ACCESS_2000_CODES);
-    for name in ["form-2000", "report-2000", "later-tree", "later-scan"] {
+    for name in ["form-2000", "panel-2000", "report-2000", "later-tree", "later-scan"] {
         let stream = fs::read(format!("{root}/examples/{name}.blob")).unwrap();
         let list = fs::read_to_string(format!("{root}/examples/{name}.list")).unwrap();
         assert_eq!(listed(&table, &stream), list, "{name}");

@@ -21,7 +21,7 @@ static bool is(oskuramos_answer a, uint32_t number, uint32_t first, uint32_t sec
 static const uint8_t table[17] = {0x2A, 0, 1, 0, 2, 0x64, 0, 2, 0, 0x60, 0x36, 0, 0, 0xDC, 0x14, 0, 1};
 static const uint8_t blob[26] = {0x2A, 0,    0, 0,    0,    0, 0,    0,    0,    0,    0x31, 5,    0xFE,
                                  0x98, 0,    0xFE, 0x64, 0, 0x60, 0xFF, 0xFF, 0xDC, 2, 0x41, 0,    0xFD};
-static const uint32_t control_rows[12] = {0x98, 1, 0, 9, 1, 0, 0x64, 0, 23, 2, 1, 2};
+static const uint32_t control_rows[16] = {0x98, 1, 0, 9, 1, 0, 0, OSKURAMOS_NO_PARENT, 0x64, 0, 23, 2, 1, 2, 1, 0};
 static const uint32_t property_rows[18] = {0x8031, 2, 5, 0, 11, 1, 0x36, 2, 0xFFFFFFFF, 0, 19, 2, 0x14, 6, 0, 0, 23, 2};
 
 static oskuramos_answer read_example(words *c, size_t controls_length, words *p, size_t properties_length) {
@@ -32,12 +32,12 @@ static bool example_read(size_t controls_length, size_t properties_length) {
     words c, p;
     oskuramos_answer a = read_example(&c, controls_length, &p, properties_length);
     return is(a, 0, 2, 3, 1) && memcmp(c.word + GUARD, control_rows, sizeof control_rows) == 0 &&
-           memcmp(p.word + GUARD, property_rows, sizeof property_rows) == 0 && words_kept(&c, 12) && words_kept(&p, 18);
+           memcmp(p.word + GUARD, property_rows, sizeof property_rows) == 0 && words_kept(&c, 16) && words_kept(&p, 18);
 }
 
 static void worked_example(void) {
-    check(example_read(12, 18), "K1 with room for its rows: each word, and the guards");
-    check(example_read(17, 23), "K1 with five words more: no row fits there, and they stay");
+    check(example_read(16, 18), "K1 with room for its rows: each word, and the guards");
+    check(example_read(21, 23), "K1 with five words more: no row fits there, and they stay");
     check(example_read(ROOM, ROOM), "K1 with much room: rows beyond the count stay");
 }
 
@@ -49,8 +49,11 @@ static void print_control(uint32_t n, const uint32_t *row) {
     uint8_t type[OSKURAMOS_NAME_ROOM];
     print_name(oskuramos_control_type_name((uint16_t)row[0], type, sizeof type), type);
     oskuramos_part part = oskuramos_control_name(blob, sizeof blob, NULL, 0, row[1], row[2], row[3]);
-    if (row[1] == 1) printf(" - %u %u\n", row[4], row[5]);
-    else printf(" %u %u %u\n", part.length / 2, row[4], row[5]);
+    if (row[1] == 1) printf(" -");
+    else printf(" %u", part.length / 2);
+    printf(" %u %u %u", row[4], row[5], row[OSKURAMOS_CONTROL_LEVEL]);
+    if (row[OSKURAMOS_CONTROL_PARENT] == OSKURAMOS_NO_PARENT) printf(" -\n");
+    else printf(" %u\n", row[OSKURAMOS_CONTROL_PARENT]);
 }
 
 static void print_property(uint32_t n, const uint32_t *row) {
@@ -94,9 +97,9 @@ static void blob_refusals(const uint8_t *large) {
     check(blob_refused(table, sizeof table, large, OSKURAMOS_LONGEST + 1, 5), "5 for a Blob of 16,777,217 bytes");
     check(longest_counted(large), "not 5 for a Blob of 16,777,216 bytes: its 932,066 properties are counted");
     check(blob_refused(table, sizeof table - 1, large, OSKURAMOS_LONGEST + 1, 5), "5 before 8");
-    check(example_lacks_room(11, ROOM, 6), "6 for controls that lack a word");
+    check(example_lacks_room(15, ROOM, 6), "6 for controls that lack a word");
     check(example_lacks_room(ROOM, 17, 7), "7 for properties that lack a word");
-    check(example_lacks_room(11, 17, 6), "6 before 7");
+    check(example_lacks_room(15, 17, 6), "6 before 7");
     check(example_lacks_room(0, 0, 6), "6 where nothing is lent");
     check(blob_refused(table, sizeof table - 1, blob, sizeof blob, 8), "8 for a table whose last byte is missing");
     check(blob_refused(table, sizeof table - 1, blob, 1, 8), "8 before 4");
@@ -122,7 +125,7 @@ static bool example_read_2000(void) {
     words c, p;
     oskuramos_answer a = oskuramos_read_2000(table, sizeof table, blob, sizeof blob, lend_words(&c), ROOM, lend_words(&p), ROOM);
     return is(a, 0, 2, 3, 1) && memcmp(c.word + GUARD, control_rows, sizeof control_rows) == 0 &&
-           memcmp(p.word + GUARD, property_rows, sizeof property_rows) == 0 && words_kept(&c, 12) && words_kept(&p, 18);
+           memcmp(p.word + GUARD, property_rows, sizeof property_rows) == 0 && words_kept(&c, 16) && words_kept(&p, 18);
 }
 
 static bool later_read(uint32_t layout) {
@@ -140,7 +143,7 @@ static void readers(const uint8_t *large) {
     check(answers_2000(table, sizeof table - 1, later, sizeof later, ROOM, bad_table), "8 before 15");
     check(answers_2000(table, sizeof table, large, OSKURAMOS_LONGEST + 1, ROOM, long_one), "5 of read_2000 before 15");
     check(answers_2000(table, sizeof table, blob, sizeof blob - 1, ROOM, no_reading), "4 of read_2000 for a Blob whose last byte is missing");
-    check(answers_2000(table, sizeof table, blob, sizeof blob, 11, six), "6 of read_2000, with the counts");
+    check(answers_2000(table, sizeof table, blob, sizeof blob, 15, six), "6 of read_2000, with the counts");
     check(later_read(0x2A), "read_later: each word, and the guards");
     check(later_read(0x12B), "read_later with a number above 255 whose low byte is the first byte");
     check(answers_later(0x2A, blob, sizeof blob, ROOM, other), "15 of read_later for an Access 2000 stream");
@@ -206,6 +209,15 @@ static size_t chain(uint8_t *s, size_t entries) {
     return at + 1;
 }
 
+/* Row i of a chain stands in row i - 1. */
+static bool chain_nested(const uint32_t *controls, uint32_t entries) {
+    for (uint32_t i = 0; i < entries; i++) {
+        const uint32_t *row = controls + i * OSKURAMOS_CONTROL_WORDS;
+        if (row[OSKURAMOS_CONTROL_LEVEL] != i || row[OSKURAMOS_CONTROL_PARENT] != (i > 0 ? i - 1 : OSKURAMOS_NO_PARENT)) return false;
+    }
+    return true;
+}
+
 /* Read with the room for its length, which has no control row to spare. */
 static bool chain_fits(uint32_t entries) {
     static uint8_t s[3 * 256 + 11];
@@ -214,13 +226,13 @@ static bool chain_fits(uint32_t entries) {
     oskuramos_rows room = oskuramos_room(length);
     size_t c = OSKURAMOS_CONTROL_WORDS * room.controls, p = OSKURAMOS_PROPERTY_WORDS * room.properties;
     return rows_are(room, entries, 3 * entries) && is(oskuramos_read_blob(table, sizeof table, s, length, controls, c, properties, p), 0, entries, 0, 0) &&
-           is(oskuramos_read_blob(table, sizeof table, s, length, controls, c - 1, properties, p), 6, entries, 0, 0);
+           chain_nested(controls, entries) && is(oskuramos_read_blob(table, sizeof table, s, length, controls, c - 1, properties, p), 6, entries, 0, 0);
 }
 
 static void rooms(void) {
     bool all = true;
     for (uint32_t entries = 1; entries <= 256; entries++) all = all && chain_fits(entries);
-    check(all, "room for the length is enough for chains of 1 to 256 entries, and a word less isn't");
+    check(all, "chains of 1 to 256 entries: the room for the length is enough and a word less isn't, each stands in the one before");
     check(rows_are(oskuramos_room(0), 0, 0) && rows_are(oskuramos_room(13), 0, 2) && rows_are(oskuramos_room(14), 1, 3), "room for 0, 13 and 14 bytes");
     check(rows_are(oskuramos_room(10240), 3409, 10229) && rows_are(oskuramos_room_2000(10240), 3409, 10229), "room for 10 KB");
     check(rows_are(oskuramos_room_later(31), 0, 0) && rows_are(oskuramos_room_later(32), 1, 1), "room for 31 and 32 bytes of the later layout");

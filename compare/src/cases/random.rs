@@ -34,7 +34,8 @@ fn set_room(rng: &mut Rng, case: &mut Case) {
     let found = table.and_then(|codes| plain::reading(&codes, &case.bytes));
     let counts = found.map_or([1, 1, 0], |found| plain::rows(&found).answer.counts);
     for (i, words) in case.numbers.iter_mut().enumerate() {
-        let around = (6 * counts[i] + rng.below(13) as u32).saturating_sub(7);
+        let width = [plain::CONTROL_WORDS, plain::PROPERTY_WORDS][i];
+        let around = (width as u32 * counts[i] + rng.below(2 * width + 1) as u32).saturating_sub(width as u32 + 1);
         *words = around.min([listing::CONTROL_WORDS, listing::PROPERTY_WORDS][i] as u32);
     }
 }

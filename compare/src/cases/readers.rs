@@ -44,7 +44,7 @@ pub fn telling(out: Sink) {
                 out(Case { table: Some(table.into()), ..case.clone() }.read_2000("readers"));
             }
         }
-        for numbers in [[0, 0], [5, 6], [6, 5], [6, 6]] {
+        for numbers in [[0, 0], [7, 6], [8, 5], [8, 6]] {
             let case = Case { numbers, ..Case::blob("", stream.clone()) };
             out(case.clone().read_2000("readers"));
             [u32::from(own), 0].into_iter().for_each(|layout| out(case.clone().read_later("readers", layout)));

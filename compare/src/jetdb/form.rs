@@ -33,6 +33,25 @@ pub(crate) fn reads_as_tree(data: &[u8]) -> bool {
     end.and_then(|end| controls_of_tree(data, pos, end)).is_some()
 }
 
+/// The level of each reported node and the number of the node that holds it, by `parse_nodes`' tree and the choice of `controls_of_tree`.
+pub(crate) fn nesting(data: &[u8]) -> Option<Vec<(u32, Option<u32>)>> {
+    let (_, mut pos, end) = parse_group(data, 14, data.len());
+    let nodes = parse_nodes(data, &mut pos, end?, 0)?;
+    let mut all = Vec::new();
+    for top in nodes.iter().filter(|n| SECTIONS.contains(&n.type_code) || !n.children.is_empty()) {
+        push_nested(top, 0, None, &mut all);
+    }
+    Some(all)
+}
+
+fn push_nested(node: &BlobNode, level: u32, parent: Option<u32>, all: &mut Vec<(u32, Option<u32>)>) {
+    let own = all.len() as u32;
+    all.push((level, parent));
+    for child in &node.children {
+        push_nested(child, level + 1, Some(own), all);
+    }
+}
+
 /// `name_in_blob`: the name in the properties, `None` where the control is numbered.
 pub(crate) fn stored_name(props: &[BlobProperty]) -> Option<String> {
     name_in_blob(props)

@@ -40,19 +40,31 @@ pub(crate) fn property_step(data: &[u8], pos: usize) -> Option<(u8, usize)> {
 
 /// The stored types of the reported entries, in output order: `Reader`'s tree, `is_section`'s choice.
 pub(crate) fn stored_types(data: &[u8]) -> Option<Vec<u16>> {
+    Some(reported(data)?.into_iter().map(|(type_code, _)| type_code).collect())
+}
+
+/// The level of each reported entry and the number of the entry that holds it, by the same tree.
+pub(crate) fn nesting(data: &[u8]) -> Option<Vec<(u32, Option<u32>)>> {
+    Some(reported(data)?.into_iter().map(|(_, nested)| nested).collect())
+}
+
+type Nested = (u16, (u32, Option<u32>));
+
+fn reported(data: &[u8]) -> Option<Vec<Nested>> {
     let mut reader = Reader { data, pos: 10 };
     reader.props()?;
     let entries = reader.list(0)?;
-    let mut types = Vec::new();
+    let mut all = Vec::new();
     for top in entries.iter().filter(|e| is_section(e)) {
-        push_types(top, &mut types);
+        push_nested(top, 0, None, &mut all);
     }
-    Some(types)
+    Some(all)
 }
 
-fn push_types(entry: &Entry, types: &mut Vec<u16>) {
-    types.push(entry.type_code);
+fn push_nested(entry: &Entry, level: u32, parent: Option<u32>, all: &mut Vec<Nested>) {
+    let own = all.len() as u32;
+    all.push((entry.type_code, (level, parent)));
     for child in entry.children.iter().flatten() {
-        push_types(child, types);
+        push_nested(child, level + 1, Some(own), all);
     }
 }

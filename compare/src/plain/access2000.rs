@@ -113,6 +113,7 @@ fn control(codes: &Codes, s: &[u8], report: bool, entry: &Entry) -> Control {
     let prefix = if report { 0x1900 } else { 0x1800 };
     let is_header = codes.header.contains(&entry.type_code);
     Control {
+        level: entry.level,
         type_code: entry.type_code | if is_header { prefix } else { 0 },
         name: name(s, entry),
         properties: entry.run.iter().map(|p| property(codes, s, (2, entry.type_code), p)).collect(),

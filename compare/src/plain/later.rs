@@ -123,7 +123,7 @@ fn reported(nodes: Vec<Node>) -> Vec<Control> {
         }
         if shown {
             let name = name_in_tree(&node.properties);
-            controls.push(Control { type_code: node.type_code, name, properties: node.properties });
+            controls.push(Control { level: node.level, type_code: node.type_code, name, properties: node.properties });
         }
     }
     controls
@@ -144,7 +144,7 @@ fn scan(s: &[u8], start: usize) -> Vec<Control> {
     }
     let ends = matches.iter().skip(1).copied().chain([s.len()]);
     let groups = matches.iter().zip(ends).map(|(&from, end)| group(s, from, end).properties);
-    groups.filter_map(|properties| Some(Control { type_code: 0, name: text(properties.first()?), properties })).collect()
+    groups.filter_map(|properties| Some(Control { level: 0, type_code: 0, name: text(properties.first()?), properties })).collect()
 }
 
 // ---- names

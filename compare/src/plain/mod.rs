@@ -52,6 +52,8 @@ pub enum Name {
 
 #[derive(Debug, Clone)]
 pub struct Control {
+    /// How many entries it stands in, the reported top entry among them; that one has level 0.
+    pub level: usize,
     pub type_code: u16,
     pub name: Name,
     pub properties: Vec<Property>,
@@ -73,12 +75,22 @@ pub struct Reading {
     pub controls: Vec<Control>,
 }
 
-/// Rows as they are lent, six words each.
+/// Type code, name mark, name start, name length, first property row, property count, level, parent.
+pub type ControlRow = [u32; CONTROL_WORDS];
+/// Id, value mark, low, high, start, length.
+pub type PropertyRow = [u32; PROPERTY_WORDS];
+
+pub const CONTROL_WORDS: usize = 8;
+pub const PROPERTY_WORDS: usize = 6;
+/// The parent's word of a control that has none.
+pub const NO_PARENT: u32 = 0xFFFF_FFFF;
+
+/// Rows as they are lent.
 #[derive(Debug, Clone, PartialEq, Eq)]
 pub struct Rows {
     pub answer: Answer,
-    pub controls: Vec<[u32; 6]>,
-    pub properties: Vec<[u32; 6]>,
+    pub controls: Vec<ControlRow>,
+    pub properties: Vec<PropertyRow>,
 }
 
 impl Rows {
@@ -109,13 +121,14 @@ pub fn read_blob(table: &[u8], stream: &[u8], control_words: usize, property_wor
     let Some(found) = reading(&codes, stream) else {
         return Rows::refusal(Answer::refusal(4));
     };
-    fit(rows(&found), control_words / 6, property_words / 6)
+    fit(rows(&found), [control_words, property_words])
 }
 
-fn fit(rows: Rows, controls: usize, properties: usize) -> Rows {
-    let number = if rows.controls.len() > controls {
+/// What is answered where so many words are lent for each kind of row.
+fn fit(rows: Rows, words: [usize; 2]) -> Rows {
+    let number = if rows.controls.len() > words[0] / CONTROL_WORDS {
         6
-    } else if rows.properties.len() > properties {
+    } else if rows.properties.len() > words[1] / PROPERTY_WORDS {
         7
     } else {
         return rows;
@@ -125,27 +138,33 @@ fn fit(rows: Rows, controls: usize, properties: usize) -> Rows {
 
 /// All rows of a reading, with answer 0.
 pub fn rows(found: &Reading) -> Rows {
-    let mut properties: Vec<[u32; 6]> = found.own.iter().map(property_row).collect();
+    let mut properties: Vec<PropertyRow> = found.own.iter().map(property_row).collect();
     let mut controls = Vec::new();
+    // the last row at each level that is open
+    let mut above = Vec::new();
     for (n, control) in found.controls.iter().enumerate() {
-        controls.push(control_row(n as u32, properties.len() as u32, control));
+        above.truncate(control.level);
+        let parent = above.last().copied().unwrap_or(NO_PARENT);
+        above.push(n as u32);
+        controls.push(control_row(n as u32, properties.len() as u32, control, parent));
         properties.extend(control.properties.iter().map(property_row));
     }
     let counts = [controls.len() as u32, properties.len() as u32, found.own.len() as u32];
     Rows { answer: Answer { number: 0, counts }, controls, properties }
 }
 
-fn property_row(p: &Property) -> [u32; 6] {
+fn property_row(p: &Property) -> PropertyRow {
     [p.id as u32, p.value.mark, p.value.low, p.value.high, p.start as u32, p.length as u32]
 }
 
-fn control_row(n: u32, first: u32, control: &Control) -> [u32; 6] {
+fn control_row(n: u32, first: u32, control: &Control, parent: u32) -> ControlRow {
     let (mark, start, length) = match control.name {
         Name::Text { start, length } => (0, start as u32, length as u32),
         Name::Numbered => (1, n, label(n).len() as u32),
         Name::Loose { start, length } => (2, start as u32, length as u32),
     };
-    [control.type_code as u32, mark, start, length, first, control.properties.len() as u32]
+    let (count, level) = (control.properties.len() as u32, control.level as u32);
+    [control.type_code as u32, mark, start, length, first, count, level, parent]
 }
 
 pub fn label(n: u32) -> String {

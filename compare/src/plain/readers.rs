@@ -13,7 +13,7 @@ pub fn read_2000(table: &[u8], stream: &[u8], words: [usize; 2]) -> Rows {
     if stream.first() != Some(&codes.layout) {
         return refusal(15);
     }
-    access2000::reading(&codes, stream).map_or(refusal(4), |found| fit(rows(&found), words[0] / 6, words[1] / 6))
+    access2000::reading(&codes, stream).map_or(refusal(4), |found| fit(rows(&found), words))
 }
 
 /// What the reader of the later layout answers, which is told the layout byte as a number: 5, 15, 6, 7.
@@ -24,7 +24,7 @@ pub fn read_later(layout: u32, stream: &[u8], words: [usize; 2]) -> Rows {
     if stream.iter().take(1).any(|&first| u32::from(first) == layout) {
         return Rows::refusal(Answer::refusal(15));
     }
-    fit(rows(&later::reading(stream)), words[0] / 6, words[1] / 6)
+    fit(rows(&later::reading(stream)), words)
 }
 
 /// 15 where the table is taken, the stream isn't too long and its first byte is another than the table's; else what is given without a register.

@@ -23,7 +23,7 @@ use Rattle.rows.proofs.GetLaws.{word-in}
 use Rattle.listing.specs.Shown.{linesTo, shown}
 use Rattle.listing.specs.Bound.{longestAnswer, longestControl, longestProperty}
 use Rattle.listing.proofs.Printed.{Stated, outcome-stated, printed-shown}
-use Rattle.listing.proofs.Longest.{Word32, answer-short, chars-by, control-short, property-short, lines-short}
+use Rattle.listing.proofs.Longest.{Word32, answer-short, control-short, property-short, lines-short}
 use Rattle.bloblines.specs.Blobs.{linesIn, mostIn, Written}
 
 -- ---- counts with the answer 0 are within the room
@@ -68,9 +68,7 @@ module _ (t s cs ps : List ℕ) (a : Answer) (cs′ ps′ : List ℕ) (x : exite
     controls-most : length (linesTo controlLine controlWidth (a .first) cs′) ≤ a .first * longestControl
     controls-most =
         lines-short controlLine longestControl controlWidth cs′ (a .first) λ i l.
-        let row = rowAt controlWidth i cs′ in
-        control-short i row (omega (arith, w .first)) (chars-by (word row 1) (word row 3) (control-word i 3 (omega arith)) (eqb (word row 1) 1) refl)
-        (control-word i 4 (omega arith)) (control-word i 5 (omega arith))
+        control-short i (rowAt controlWidth i cs′) (omega (arith, w .first)) (control-word i)
 
     properties-most : length (linesTo (propertyLine s) propertyWidth (a .second) ps′) ≤ a .second * longestProperty
     properties-most =

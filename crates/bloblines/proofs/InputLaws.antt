@@ -14,7 +14,7 @@ use Rattle.listing.specs.Bound.{longestAnswer}
 use Rattle.listing.proofs.Longest.{answer-short}
 use Rattle.bloblines.specs.Blobs.{longestBlob, blobListed, linesIn, listedIn, mostIn, Written}
 
-refusal-short : (k : ℕ) → k < 11 → length (answerLine (refusal k)) ≤ longestAnswer
+pub refusal-short : (k : ℕ) → k < 11 → length (answerLine (refusal k)) ≤ longestAnswer
 refusal-short k h = answer-short (refusal k) (omega arith) (omega arith) (omega arith) (omega arith)
 
 listed-is : (input cs ps : List ℕ) → 4 ≤ length input → 4 + tableLength input ≤ length input → length (blobIn input) ≤ longestBlob

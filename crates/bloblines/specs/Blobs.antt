@@ -1,5 +1,5 @@
 -- The listing of a larger Blob: the bytes that `bloblist` prints. The lines are those of `formlist`.
-use Prim.Native.Nat.{ℕ, _+_, _*_, _≤_}
+use Prim.Native.Nat.{ℕ, _+_, _≤_}
 use mathlib.Core.Bool.{cond}
 use mathlib.Core.List.{List}
 use lib.Dec.{ltb}
@@ -9,7 +9,7 @@ use Rattle.rules.specs.Rows.{controlWidth, propertyWidth, room}
 use Rattle.rules.specs.Blob.{outcome}
 use Rattle.rules.specs.Listing.{answerLine, printed, tableLength, tableIn, blobIn}
 use Rattle.text.specs.Writer.{Wrote}
-use Rattle.listing.specs.Bound.{longestAnswer, longestControl, longestProperty}
+use Rattle.listing.specs.Bound.{longestLines}
 
 -- the longest Blob that is listed, and how many controls and properties there is room for
 abbrev pub longestBlob : ℕ
@@ -36,10 +36,6 @@ longestInput = 4 + 65536 + longestBlob
 unfoldable pub blobListing : List ℕ → List ℕ
 blobListing input = cond (ltb longestInput (length input)) (answerLine (refusal tooLong)) (blobListed input controlRoom propertyRoom)
 
--- the longest listing
-abbrev pub blobMost : ℕ → ℕ → ℕ
-blobMost controls properties = longestAnswer + (controls * longestControl + properties * longestProperty)
-
 -- ---- by the slices lent for controls and properties
 abbrev pub linesIn : List ℕ → List ℕ → List ℕ → List ℕ → List ℕ
 linesIn table stream controls properties = printed stream (outcome table stream (room controlWidth controls) (room propertyWidth properties))
@@ -48,7 +44,7 @@ abbrev pub listedIn : List ℕ → List ℕ → List ℕ → List ℕ
 listedIn input controls properties = blobListed input (room controlWidth controls) (room propertyWidth properties)
 
 abbrev pub mostIn : List ℕ → List ℕ → ℕ
-mostIn controls properties = blobMost (room controlWidth controls) (room propertyWidth properties)
+mostIn controls properties = longestLines (room controlWidth controls) (room propertyWidth properties)
 
 -- a text written from the start of a buffer on, and no longer than `most`
 pub record Written (old text : List ℕ) (most : ℕ) (new : List ℕ) (end : ℕ) : Type 0 where

@@ -6,7 +6,7 @@ use rows::PROPERTY_WIDTH;
 use rules::BAD_TABLE;
 use rules::TOO_LONG;
 ghost use Rattle.names.specs.Lookup.{Lent};
-ghost use Rattle.text.specs.Writer.{Wrote};
+ghost use Rattle.listing.specs.Bound.{longestListing};
 ghost use Rattle.bloblines.specs.Blobs.{linesIn, listedIn, mostIn, Written};
 ghost use Rattle.bloblines.specs.Listed.{listed};
 
@@ -19,6 +19,9 @@ const LONGEST_INPUT: usize = 32768;
 const CONTROL_ROOM: usize = 256;
 
 const PROPERTY_ROOM: usize = 1024;
+
+// No listing of that program is longer.
+pub const LONGEST_LISTING: usize = 120371;
 
 // Reads a Blob into the lent rows and writes its lines.
 fn blob_lines(
@@ -104,7 +107,7 @@ pub fn write_form_listing(
     out: &mut [u8],
 ) -> usize
     requires { ⌜ Lent (now index) (now letters) ⌝ }
-    ensures { λ r. ⌜ Wrote (now (out .entry)) 0 (listed (now (input .entry)) more) (now (out .exit)) r ⌝ }
+    ensures { λ r. ⌜ Written (now (out .entry)) (listed (now (input .entry)) more) longestListing (now (out .exit)) r ⌝ }
 {
     if more {
         return refusal_line(out, TOO_LONG);

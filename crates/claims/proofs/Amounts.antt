@@ -6,7 +6,7 @@ use mathlib.Core.Bool.{Bool, true, false, cond}
 use mathlib.Core.List.{List, [], _∷_, _++_, map}
 use lib.ListN.{length, length-append}
 use Rattle.rules.specs.Lists.{concat}
-use Rattle.rules.specs.Tree.{Entry, plain, parent, Entries, end, more, Node, isReported, reported, preorder1, preorder, nodesOf}
+use Rattle.rules.specs.Tree.{Entry, plain, parent, Entries, end, more, Node, noParent, isReported, reported, preorder1, preorder, nodesOf}
 
 module _ {P : Type 0} where
   -- with all below them
@@ -44,16 +44,18 @@ module _ {P : Type 0} where
   mutual
     unfolding preorder1 preorder
 
-    order-many1 : (e : Entry P) → Same (preorder1 e) (entriesIn1 e) (propsIn1 e)
-    order-many1 (plain t qs) = (refl, omega arith)
-    order-many1 (parent t qs es) = let h = order-many es in (omega arith, omega arith)
+    pub order-many1 : (level up n : ℕ) (e : Entry P) → Same (preorder1 level up n e) (entriesIn1 e) (propsIn1 e)
+    order-many1 level up n (plain t qs) = (refl, omega arith)
+    order-many1 level up n (parent t qs es) = let h = order-many (suc level) n (suc n) es in (omega arith, omega arith)
 
-    order-many : (es : Entries P) → Same (preorder es) (entriesIn es) (propsIn es)
-    order-many end = (refl, refl)
-    order-many (more e es) =
-        let h = order-many1 e in
-        let k = order-many es in
-        (omega (arith, length-append (preorder1 e) (preorder es)), omega (arith, props-append (preorder1 e) (preorder es)))
+    pub order-many : (level up n : ℕ) (es : Entries P) → Same (preorder level up n es) (entriesIn es) (propsIn es)
+    order-many level up n end = (refl, refl)
+    order-many level up n (more e es) =
+        let these = preorder1 level up n e in
+        let rest = preorder level up (n + length these) es in
+        let h = order-many1 level up n e in
+        let k = order-many level up (n + length these) es in
+        (omega (arith, length-append these rest), omega (arith, props-append these rest))
 
   -- no more are reported than there are
   abbrev Less : Entries P → Entries P → Type 0
@@ -70,7 +72,7 @@ module _ {P : Type 0} where
 
   pub nodes-many : (es : Entries P) → Same (nodesOf es) (entriesIn (reported es)) (propsIn (reported es))
   unfolding nodesOf
-  nodes-many es = order-many (reported es)
+  nodes-many es = order-many 0 noParent 0 (reported es)
 
   -- something for each property of each node
   pub each-long : {A : Type 0} (f : Node P → List A) → ((n : Node P) → length (f n) ≡ length (n .props)) → (ns : List (Node P)) → length (concat (map f ns)) ≡ propsOf ns

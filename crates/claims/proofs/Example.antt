@@ -29,17 +29,17 @@ successor = record {
 
 -- room for two controls and three properties, with other words in it and some left over
 abbrev lent : Lent
-lent = record { controls = replicate 12 old; properties = replicate 20 old }
+lent = record { controls = replicate 16 old; properties = replicate 20 old }
 
 abbrev lent′ : Lent
-lent′ = record { controls = replicate 13 7; properties = replicate 18 9 }
+lent′ = record { controls = replicate 17 7; properties = replicate 18 9 }
 
 both : SameBut table newer blob lent lent′ (exitOf table blob lent) (exitOf newer blob lent′)
 unfolding rules-open
 both = demand3 .chosen-same-but table newer blob lent lent′ successor (record { of-controls = refl; of-properties = refl }) refl
 
 -- what the newer writes: the first row has its target in the place of 0x8031
-new-words : exit newer blob (replicate 12 old) (replicate 20 old) .properties
+new-words : exit newer blob (replicate 16 old) (replicate 20 old) .properties
     ≡ 0x2D ∷ 2 ∷ 5 ∷ 0 ∷ 11 ∷ 1
     ∷ 0x36 ∷ 2 ∷ 0xFFFFFFFF ∷ 0 ∷ 19 ∷ 2
     ∷ 0x14 ∷ 6 ∷ 0 ∷ 0 ∷ 23 ∷ 2

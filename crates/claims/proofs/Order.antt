@@ -1,16 +1,16 @@
 -- Values that stand in stream order: those of either layout do, all of them, from the object's first to the last control's last.
 use Prim.Native.Nat.{ℕ, zero, suc, _+_, _≤_, _<_}
 use native.Mathlib.Omega.{arith}
-use mathlib.Core.Path.{_≡_, refl, ap, _∙_}
+use mathlib.Core.Path.{_≡_, refl, sym, ap, ap₂, _∙_}
 use mathlib.Core.Bool.{Bool, true, false, cond, not}
-use mathlib.Core.List.{List, [], _∷_, _++_, map}
+use mathlib.Core.List.{List, [], _∷_, _++_, map, append-nil}
 use mathlib.Core.Option.{Option, none, some}
 use lib.Dec.{ltb, leb, eqb}
 use lib.ListN.{length, getD}
 use borrow.Author.Tests.{leb-true, ltb-false, eqb-true}
 use Rattle.rules.specs.Lists.{_>>=_, concat, keep}
 use Rattle.rules.specs.Bytes.{byte, byteAt, halfAt, u16}
-use Rattle.rules.specs.Tree.{Entry, plain, parent, Entries, end, more, Node, node, isReported, reported, preorder1, preorder, nodesOf, levelsAt, levels}
+use Rattle.rules.specs.Tree.{Entry, plain, parent, Entries, end, more, Node, noParent, nodeIn, isReported, reported, preorder1, preorder, nodesOf, levelsAt, levels}
 use Rattle.rules.specs.Access2000 as old
 use Rattle.rules.specs.Later as later
 use Rattle.rules.proofs.ListLaws.{Every, every-if, every-then, every-when, and-l, and-r, map-append, concat-append}
@@ -67,37 +67,55 @@ module _ {P : Type 0} (place : P → ℕ × ℕ) where
   places-append : (a b : List (Node P)) → placesIn (a ++ b) ≡ placesIn a ++ placesIn b
   places-append a b = ap concat (map-append _ a b) ∙ concat-append (map (λ n. places (n .props)) a) (map (λ n. places (n .props)) b)
 
+  -- the values of entries with all below them
+  abbrev mutual
+    pub placesOf1 : Entry P → List (ℕ × ℕ)
+    placesOf1 (plain t qs) = places qs
+    placesOf1 (parent t qs es) = places qs ++ placesOf es
+
+    pub placesOf : Entries P → List (ℕ × ℕ)
+    placesOf end = []
+    placesOf (more e es) = placesOf1 e ++ placesOf es
+
+  mutual
+    unfolding preorder1 preorder concat
+
+    order-places1 : (level up n : ℕ) (e : Entry P) → placesIn (preorder1 level up n e) ≡ placesOf1 e
+    order-places1 level up n (plain t qs) = append-nil (places qs)
+    order-places1 level up n (parent t qs es) = ap (λ l. places qs ++ l) (order-places (suc level) n (suc n) es)
+
+    order-places : (level up n : ℕ) (es : Entries P) → placesIn (preorder level up n es) ≡ placesOf es
+    order-places level up n end = refl
+    order-places level up n (more e es) =
+        let these = preorder1 level up n e in
+        let m = n + length these in
+        places-append these (preorder level up m es) ∙ ap₂ _++_ (order-places1 level up n e) (order-places level up m es)
+
+  nodes-places : (es : Entries P) → placesIn (nodesOf es) ≡ placesOf (reported es)
+  unfolding nodesOf
+  nodes-places es = order-places 0 noParent 0 (reported es)
+
   -- what a reader reads from p on stands in order, up to where it ends
   abbrev pub One : ℕ → Entry P × ℕ → Type 0
-  One p x = Ordered p (placesIn (preorder1 (x .0))) (x .1)
+  One p x = Ordered p (placesOf1 (x .0)) (x .1)
 
   abbrev pub Many : ℕ → Entries P × ℕ → Type 0
-  Many p x = Ordered p (placesIn (preorder (x .0))) (x .1)
-
-  more-ordered : (x : Entry P × ℕ) (y : Entries P × ℕ) (p : ℕ) → One p x → Many (x .1) y → Many p (more (x .0) (y .0), y .1)
-  unfolding preorder
-  more-ordered x y p h k = rw (places-append (preorder1 (x .0)) (preorder (y .0))) (join (placesIn (preorder1 (x .0))) (placesIn (preorder (y .0))) p (x .1) (y .1) h k)
-
-  none-ordered : (p : ℕ) → Many p (end, p)
-  unfolding preorder concat
-  none-ordered p = omega arith
+  Many p x = Ordered p (placesOf (x .0)) (x .1)
 
   pub levels-ordered : (one : (ℕ → ℕ → Option (Entries P × ℕ)) → ℕ → Option (Entry P × ℕ))
       → ((below : ℕ → ℕ → Option (Entries P × ℕ)) → ((n p : ℕ) → Every (Many p) (below n p)) → (p : ℕ) → Every (One p) (one below p))
       → (n p : ℕ) → Every (Many p) (levelsAt one levels n p)
   levels-ordered one k =
-      levels-every one (λ level. One) (λ level n. Many) (λ level. none-ordered) (λ level n p x y l. more-ordered x y p) (λ level. k) 256 0 refl
+      levels-every one (λ level. One) (λ level n. Many) (λ level p. omega arith) (λ level n p x y l. join (placesOf1 (x .0)) (placesOf (y .0)) p (x .1) (y .1)) (λ level. k) 256 0 refl
 
-  pub reported-ordered : (es : Entries P) (p e : ℕ) → Ordered p (placesIn (preorder es)) e → Ordered p (placesIn (preorder (reported es))) e
-  unfolding reported preorder
+  pub reported-ordered : (es : Entries P) (p e : ℕ) → Ordered p (placesOf es) e → Ordered p (placesOf (reported es)) e
+  unfolding reported
   reported-ordered end p e h = h
-  reported-ordered (more x es) p e h =
-      let r = split (placesIn (preorder1 x)) (placesIn (preorder es)) p e (rw (places-append (preorder1 x) (preorder es)) at h) in
-      go (isReported x) (r .0) (r .1) (reported-ordered es (r .0) e (r .2))
+  reported-ordered (more x es) p e h = let r = split (placesOf1 x) (placesOf es) p e h in go (isReported x) (r .0) (r .1) (reported-ordered es (r .0) e (r .2))
     where
-      go : (b : Bool) (m : ℕ) → Ordered p (placesIn (preorder1 x)) m → Ordered m (placesIn (preorder (reported es))) e → Ordered p (placesIn (preorder (cond b (more x (reported es)) (reported es)))) e
-      go true m h k = rw (places-append (preorder1 x) (preorder (reported es))) (join (placesIn (preorder1 x)) (placesIn (preorder (reported es))) p m e h k)
-      go false m h k = earlier (placesIn (preorder (reported es))) p m e (to-end (placesIn (preorder1 x)) p m h) k
+      go : (b : Bool) (m : ℕ) → Ordered p (placesOf1 x) m → Ordered m (placesOf (reported es)) e → Ordered p (placesOf (cond b (more x (reported es)) (reported es))) e
+      go true m h k = join (placesOf1 x) (placesOf (reported es)) p m e h k
+      go false m h k = earlier (placesOf (reported es)) p m e (to-end (placesOf1 x) p m h) k
 
 -- where a value stands
 abbrev pub oldPlace : old.Prop → ℕ × ℕ
@@ -142,7 +160,7 @@ module _ (s : List ℕ) where
       every-if (Behind p) (eqb b 0xFF) _ none (λ _. every-when (Behind p) (halfAt s (p + 1)) _ λ n _. omega arith) λ _. tt
 
   entry-ordered : (below : ℕ → ℕ → Option (Entries old.Prop × ℕ)) → ((n p : ℕ) → Every (Many oldPlace p) (below n p)) → (p : ℕ) → Every (One oldPlace p) (old.entryAt s below p)
-  unfolding old.entryAt old.closeAt preorder1 concat
+  unfolding old.entryAt old.closeAt
   entry-ordered below deep p =
       every-when (One oldPlace p) (halfAt s p) _ λ type _.
       every-then (Run (p + 2)) (One oldPlace p) (old.runAt s (p + 2)) _ (run-ordered (p + 2)) λ x h.
@@ -151,10 +169,10 @@ module _ (s : List ℕ) where
     where
       go : (type : ℕ) (qs : List old.Prop) (m : ℕ) → Ordered p (places oldPlace qs) m → (o : Option ℕ) (e : ℕ) → m ≤ e
           → Every (One oldPlace p) (elim o [ none ↦ some (plain type qs, e) | some n ↦ below n e >>= λ l. some (parent type qs (l .0), l .1) ])
-      go type qs m h none e l = join (places oldPlace qs) [] p m e h l
+      go type qs m h none e l = rw (append-nil (places oldPlace qs)) at (join (places oldPlace qs) [] p m e h l)
       go type qs m h (some n) e l =
           every-then (Many oldPlace e) (One oldPlace p) (below n e) _ (deep n e) λ x k.
-          let es = placesIn oldPlace (preorder (x .0)) in
+          let es = placesOf oldPlace (x .0) in
           join (places oldPlace qs) es p m (x .1) h (earlier es m e (x .1) l k)
 
   -- all of the object's properties, and those of nodes
@@ -165,7 +183,7 @@ module _ (s : List ℕ) where
   OldOrdered x = AllOld (x .0) (nodesOf (x .1))
 
   pub old-ordered : Every OldOrdered (old.streamOf s)
-  unfolding old.streamOf old.entriesAt nodesOf
+  unfolding old.streamOf old.entriesAt
   old-ordered =
       every-then (Run 10) OldOrdered (old.runAt s 10) _ (run-ordered 10) λ x h.
       every-then (Behind (x .1)) OldOrdered (old.headAt s (x .1)) _ (head-behind (x .1)) λ y l.
@@ -174,9 +192,9 @@ module _ (s : List ℕ) where
       every-if OldOrdered (eqb (z .1) (length s)) (some (x .0, z .0)) none
       (λ t. let e : z .1 ≡ length s = eqb-true _ _ t in
       let own = places oldPlace (x .0) in
-      let ns = placesIn oldPlace (preorder (reported (z .0))) in
+      let ns = placesOf oldPlace (reported (z .0)) in
       let r = reported-ordered oldPlace (z .0) (y .1) (length s) (rw e at k) in
-      join own ns 0 (x .1) (length s) (earlier own 0 10 (x .1) (omega arith) h) (earlier ns (x .1) (y .1) (length s) l r))
+      rw (nodes-places oldPlace (z .0)) (join own ns 0 (x .1) (length s) (earlier own 0 10 (x .1) (omega arith) h) (earlier ns (x .1) (y .1) (length s) l r)))
       λ _. tt
 
   -- ---- the later layout
@@ -204,38 +222,37 @@ module _ (s : List ℕ) where
       every-if (Behind p) (eqb t 254) _ _ (λ _. omega arith) λ _.
       every-if (Behind p) (leb (p + 2) (length s)) _ none (λ _. omega arith) λ _. tt
 
-  with-order : (type : ℕ) (qs : List later.Prop) (es : Entries later.Prop) → preorder1 (later.withChildren type qs es) ≡ node type qs ∷ preorder es
-  unfolding preorder1 preorder
-  with-order type qs end = refl
-  with-order type qs (more e es) = refl
+  with-places : (type : ℕ) (qs : List later.Prop) (es : Entries later.Prop) → placesOf1 laterPlace (later.withChildren type qs es) ≡ places laterPlace qs ++ placesOf laterPlace es
+  with-places type qs end = sym (append-nil (places laterPlace qs))
+  with-places type qs (more e es) = refl
 
   node-ordered : (below : ℕ → ℕ → Option (Entries later.Prop × ℕ)) → ((n p : ℕ) → Every (Many laterPlace p) (below n p)) → (p : ℕ) → Every (One laterPlace p) (later.nodeAt s below p)
-  unfolding later.nodeAt concat
+  unfolding later.nodeAt
   node-ordered below deep p =
       let g = later.groupAt s (length s) (p + 6) in
       every-when (One laterPlace p) (g .trailer) _ λ t _.
       every-then (Behind (g .stop)) (One laterPlace p) (later.childrenAt s t (g .stop)) _ (children-behind t (g .stop)) λ y l.
       every-then (Many laterPlace (y .1)) (One laterPlace p) (below (y .0) (y .1)) _ (deep (y .0) (y .1)) λ z k.
       let qs = places laterPlace (g .props) in
-      let es = placesIn laterPlace (preorder (z .0)) in
-      rw (with-order (u16 s p) (g .props) (z .0)) (join qs es p (g .stop) (z .1) (earlier qs p (p + 6) (g .stop) (omega arith) (group-ordered (length s) (p + 6))) (earlier es (g .stop) (y .1) (z .1) l k))
+      let es = placesOf laterPlace (z .0) in
+      rw (with-places (u16 s p) (g .props) (z .0)) (join qs es p (g .stop) (z .1) (earlier qs p (p + 6) (g .stop) (omega arith) (group-ordered (length s) (p + 6))) (earlier es (g .stop) (y .1) (z .1) l k))
 
   -- what is reported stands behind the object's group
   abbrev Reported : List (Node later.Prop) → Type 0
   Reported ns = Ordered (later.objectGroup s .stop) (placesIn laterPlace ns) (length s)
 
   tree-ordered : Every (λ es. Reported (nodesOf es)) (later.treeOf s)
-  unfolding later.treeOf later.nodesAt nodesOf
+  unfolding later.treeOf later.nodesAt
   tree-ordered =
       let g = later.objectGroup s in
-      let R : Entries later.Prop → Type 0 = λ es. Reported (preorder (reported es)) in
+      let R : Entries later.Prop → Type 0 = λ es. Reported (nodesOf es) in
       every-when R (g .trailer) _ λ t _.
       every-then (Behind (g .stop)) R (later.childrenAt s t (g .stop)) _ (children-behind t (g .stop)) λ x l.
       every-then (Many laterPlace (x .1)) R (later.nodesAt 256 s (x .0) (x .1)) _ (levels-ordered laterPlace (later.nodeAt s) node-ordered (x .0) (x .1)) λ y k.
       every-if R (eqb (y .1) (length s)) (some (y .0)) none
       (λ t. let e : y .1 ≡ length s = eqb-true _ _ t in
       let r = reported-ordered laterPlace (y .0) (x .1) (length s) (rw e at k) in
-      earlier (placesIn laterPlace (preorder (reported (y .0)))) (g .stop) (x .1) (length s) l r)
+      rw (nodes-places laterPlace (y .0)) (earlier (placesOf laterPlace (reported (y .0))) (g .stop) (x .1) (length s) l r))
       λ _. tt
 
   -- the matches of a scan from p on: each from p on, behind the one before it and inside
@@ -273,7 +290,7 @@ module _ (s : List ℕ) where
   found-ordered (a ∷ b ∷ r) p l h = group-then a p b _ (h .0) (h .2 .0) (found-ordered (b ∷ r) b (h .2 .1) (omega arith, h .2 .1, h .2 .2))
 
   -- a group without a property has no value
-  kept-places : (gs : List (List later.Prop)) → placesIn laterPlace (map (node 0) (keep (λ qs. not (later.isEmpty qs)) gs)) ≡ concat (map (places laterPlace) gs)
+  kept-places : (gs : List (List later.Prop)) → placesIn laterPlace (map (nodeIn 0 noParent 0) (keep (λ qs. not (later.isEmpty qs)) gs)) ≡ concat (map (places laterPlace) gs)
   unfolding keep concat
   kept-places [] = refl
   kept-places ([] ∷ gs) = kept-places gs

@@ -2,25 +2,33 @@
 use Prim.Native.Nat.{ℕ, zero, suc, _+_, _≤_, _<_}
 use native.Mathlib.Omega.{arith}
 use mathlib.Core.Path.{_≡_, refl, ap, ap₂, _∙_}
+use mathlib.Core.Bool.{true}
 use mathlib.Core.List.{List, [], _∷_, _++_, map}
+use mathlib.Core.Option.{some}
 use lib.ListN.{length, getD, take, List·getD-append, length-append}
 use lib.Seq.{getD-append-add}
+use borrow.Author.Tests.{le-ltb}
 use Rattle.rules.specs.Lists.{concat}
 use Rattle.rules.specs.Value.{value}
 use Rattle.rules.specs.Rows.{controlWidth, propertyWidth, room, rowAt}
 use Rattle.rules.specs.Reading.{Control, Reading, properties, propertiesOf, nameWords, controlRow, controlRowsFrom, controlRows, propertyRow, propertyRows}
-use Rattle.rules.specs.Blob.{Exit, read, exitBy}
+use Rattle.rules.specs.Answer.{longest}
+use Rattle.rules.specs.CodeTable.{wellFormed}
+use Rattle.rules.specs.Blob.{Exit, read, readingOf, answerOf, outcome, exitBy, exit}
+use Rattle.rules.specs.declared.Answer.{Answer}
 use Rattle.rules.specs.declared.Property.{Property}
 use Rattle.rules.specs.declared.Name.{Name}
 use Rattle.rules.specs.declared.Name.the-variants.{Text, Numbered, Loose}
 use Rattle.rules.proofs.ListLaws.{getD-map}
 use Rattle.rules.proofs.RowsLaws.{row-written}
+use Rattle.claims.specs.Answers.{BlobAnswer}
+use Rattle.claims.proofs.Answers.{blob-told}
 use Rattle.rules.proofs.ReadingLaws.{total, controls-wide, properties-wide, controls-counted, properties-counted}
-use Rattle.claims.specs.RowChecks.{firstRow, propertyCount}
+use Rattle.claims.specs.RowChecks.{firstRow, propertyCount, level, parentRow}
 
 -- only asked for where there is one
 abbrev pub no-control : Control
-no-control = record { type = 0; name = Numbered; properties = [] }
+no-control = record { type = 0; name = Numbered; properties = []; level = 0; parent = 0 }
 
 abbrev pub no-property : Property
 no-property = record { id = 0; value = value 0 0 0; start = 0; size = 0 }
@@ -46,24 +54,24 @@ total-many [] = refl
 total-many (c ∷ cs) = omega (arith, total-many cs, length-append (c .properties) (concat (map propertiesOf cs)))
 
 -- the words of a control's row
-module _ (n first : ℕ) (c : Control) where
-  row-first : getD (controlRow n first c) 4 0 ≡ first
-  unfolding controlRow
-  row-first = go (c .name)
-    where
-      go : (m : Name) → getD (c .type ∷ nameWords n m ++ (first ∷ length (c .properties) ∷ [])) 4 0 ≡ first
-      go (Text a b) = refl
-      go Numbered = refl
-      go (Loose a b) = refl
+abbrev pub wordsOf : ℕ → ℕ → Control → Name → List ℕ
+wordsOf n first c m = c .type ∷ nameWords n m ++ (first ∷ length (c .properties) ∷ c .level ∷ c .parent ∷ [])
 
-  row-count : getD (controlRow n first c) 5 0 ≡ length (c .properties)
-  unfolding controlRow
-  row-count = go (c .name)
-    where
-      go : (m : Name) → getD (c .type ∷ nameWords n m ++ (first ∷ length (c .properties) ∷ [])) 5 0 ≡ length (c .properties)
-      go (Text a b) = refl
-      go Numbered = refl
-      go (Loose a b) = refl
+-- those after the name
+record Words (first : ℕ) (c : Control) (row : List ℕ) : Type 0 where
+  its-first : getD row 4 0 ≡ first
+  its-count : getD row 5 0 ≡ length (c .properties)
+  its-level : getD row 6 0 ≡ c .level
+  its-parent : getD row 7 0 ≡ c .parent
+
+row-words : (n first : ℕ) (c : Control) → Words first c (controlRow n first c)
+unfolding controlRow
+row-words n first c = go (c .name)
+  where
+    go : (m : Name) → Words first c (wordsOf n first c m)
+    go (Text a b) = record { its-first = refl; its-count = refl; its-level = refl; its-parent = refl }
+    go Numbered = record { its-first = refl; its-count = refl; its-level = refl; its-parent = refl }
+    go (Loose a b) = record { its-first = refl; its-count = refl; its-level = refl; its-parent = refl }
 
 -- the k-th property of control i among all
 in-controls : (cs : List Control) (i k : ℕ) → i < length cs → k < length (getD cs i no-control .properties)
@@ -122,12 +130,44 @@ rows-seen cs ps r room-c room-p = record {
 
 module _ {r : Reading} {seen : Exit} (rows : Rows r seen) where
   pub first-is : (i : ℕ) → i < length (r .controls) → firstRow seen i ≡ firstOf r i
-  first-is i l = ap (λ w. getD w 4 0) (rows .control-row i l) ∙ row-first i (firstOf r i) (controlOf r i)
+  first-is i l = ap (λ w. getD w 4 0) (rows .control-row i l) ∙ row-words i (firstOf r i) (controlOf r i) .its-first
 
   pub count-is : (i : ℕ) → i < length (r .controls) → propertyCount seen i ≡ length (controlOf r i .properties)
-  count-is i l = ap (λ w. getD w 5 0) (rows .control-row i l) ∙ row-count i (firstOf r i) (controlOf r i)
+  count-is i l = ap (λ w. getD w 5 0) (rows .control-row i l) ∙ row-words i (firstOf r i) (controlOf r i) .its-count
+
+  pub level-is : (i : ℕ) → i < length (r .controls) → level seen i ≡ controlOf r i .level
+  level-is i l = ap (λ w. getD w 6 0) (rows .control-row i l) ∙ row-words i (firstOf r i) (controlOf r i) .its-level
+
+  pub parent-is : (i : ℕ) → i < length (r .controls) → parentRow seen i ≡ controlOf r i .parent
+  parent-is i l = ap (λ w. getD w 7 0) (rows .control-row i l) ∙ row-words i (firstOf r i) (controlOf r i) .its-parent
 
   -- the row of the k-th property of control i
   pub own-row : (i k : ℕ) → i < length (r .controls) → k < length (controlOf r i .properties)
       → rowAt propertyWidth (firstOf r i + k) (seen .properties) ≡ propertyRow (getD (controlOf r i .properties) k no-property)
   own-row i k l h = rows .property-row (firstOf r i + k) (omega (arith, reading-many r, total-below (r .controls) i l)) ∙ ap propertyRow (in-reading r i k l h)
+
+-- ---- on answer 0 there is a reading, and a caller sees its rows
+pub record Zero (t s cs ps : List ℕ) : Type 0 where
+  pub formed : wellFormed t ≡ true
+  pub reading : Reading
+  pub is-read : readingOf t s ≡ some reading
+  pub is-seen : exit t s cs ps ≡ exitBy (read reading) cs ps
+  pub rows : Rows reading (exitBy (read reading) cs ps)
+
+pub zero-read : (t s cs ps : List ℕ) → exit t s cs ps .answer .number ≡ 0 → Zero t s cs ps
+unfolding exit outcome
+zero-read t s cs ps e = go (answerOf (outcome t s (room controlWidth cs) (room propertyWidth ps))) (blob-told t s cs ps) e
+  where
+    go : (a : Answer) → BlobAnswer t s cs ps a → a .number ≡ 0 → Zero t s cs ps
+    go _ (BlobAnswer.five h) e = absurd (omega arith)
+    go _ (BlobAnswer.eight h w) e = absurd (omega arith)
+    go _ (BlobAnswer.four j o w) e = absurd (omega arith)
+    go _ (BlobAnswer.six j w h) e = absurd (omega arith)
+    go _ (BlobAnswer.seven j w h k) e = absurd (omega arith)
+    go _ (BlobAnswer.zero j {r} w h k) e = record {
+      formed = j .formed;
+      reading = r;
+      is-read = w;
+      is-seen = rw (le-ltb longest (length s) (j .not-long), j .formed, w, le-ltb (room controlWidth cs) (length (r .controls)) h, le-ltb (room propertyWidth ps) (length (properties r)) k);
+      rows = rows-seen cs ps r h k;
+    }

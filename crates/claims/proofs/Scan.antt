@@ -13,7 +13,7 @@ use lib.Seq.{take-all}
 use borrow.Author.Tests.{ltb-true, ltb-false, leb-true, le-leb, eqb-true}
 use Rattle.rules.specs.Lists.{keep}
 use Rattle.rules.specs.Bytes.{byte, byteAt, u16, u32}
-use Rattle.rules.specs.Tree.{Node, node}
+use Rattle.rules.specs.Tree.{Node, noParent, nodeIn}
 use Rattle.rules.specs.Later.{Prop, endAt, trailerAt, propertyAt, isInside, endsGroup, Group, groupOf, groupAt, matchAt, matchesOf, matchesFrom, groupsOf, isEmpty, scanFrom}
 use Rattle.rules.proofs.ListLaws.{and-l, and-r}
 use Rattle.rules.proofs.LaterLaws.{either, inside-true, group-none, group-begins}
@@ -23,7 +23,7 @@ use Rattle.claims.proofs.Has.{_has_from_to_, here, next, byte-there, by
 use Rattle.claims.proofs.LaterSound.{ends-range, goes-on}
 use Rattle.claims.proofs.Each.{Each, each-then}
 
-below-or : (a b : ℕ) → (a < b) ⊎ (b ≤ a)
+pub below-or : (a b : ℕ) → (a < b) ⊎ (b ≤ a)
 below-or a b = go (ltb a b) refl
   where
     go : (t : Bool) → ltb a b ≡ t → (a < b) ⊎ (b ≤ a)
@@ -35,7 +35,7 @@ no f t = let z : _≡_ {A = ℕ} 0 1 = cc in omega arith
 
 -- only asked for where there is one
 abbrev pub no-node : Node Prop
-no-node = node 0 []
+no-node = nodeIn 0 noParent 0 []
 
 -- behind the trailer of the last of some properties
 abbrev pub behind : ℕ → List Prop → ℕ
@@ -236,7 +236,7 @@ module _ (s : List ℕ) where
 
   -- ---- what is reported
   abbrev nodesOf : List ℕ → List (Node Prop)
-  nodesOf ms = map (node 0) (keep (λ qs. not (isEmpty qs)) (groupsOf s ms))
+  nodesOf ms = map (nodeIn 0 noParent 0) (keep (λ qs. not (isEmpty qs)) (groupsOf s ms))
 
   -- the node n is the group of the match at a, from p on
   pub record FromMatch (p a : ℕ) (n : Node Prop) : Type 0 where
@@ -251,19 +251,19 @@ module _ (s : List ℕ) where
   -- a match's group is reported, or it isn't since its first property isn't within it
   record Kept (a : ℕ) (r : List ℕ) : Type 0 where
     its : List Prop
-    reported : (p : ℕ) → p ≤ a → FromMatch p a (node 0 its)
-    nodes : nodesOf (a ∷ r) ≡ node 0 its ∷ nodesOf r
+    reported : (p : ℕ) → p ≤ a → FromMatch p a (nodeIn 0 noParent 0 its)
+    nodes : nodesOf (a ∷ r) ≡ nodeIn 0 noParent 0 its ∷ nodesOf r
 
   record Left (a : ℕ) (r : List ℕ) : Type 0 where
     outside : ¬ Reach a (endAt s a)
     nodes : nodesOf (a ∷ r) ≡ nodesOf r
 
   keep-some : (q : Prop) (qs rest : List Prop) (gs : List (List Prop)) → qs ≡ q ∷ rest
-      → map (node 0) (keep (λ qs. not (isEmpty qs)) (qs ∷ gs)) ≡ node 0 qs ∷ map (node 0) (keep (λ qs. not (isEmpty qs)) gs)
+      → map (nodeIn 0 noParent 0) (keep (λ qs. not (isEmpty qs)) (qs ∷ gs)) ≡ nodeIn 0 noParent 0 qs ∷ map (nodeIn 0 noParent 0) (keep (λ qs. not (isEmpty qs)) gs)
   unfolding keep
   keep-some q qs rest gs e = rw e
 
-  keep-none : (qs : List Prop) (gs : List (List Prop)) → qs ≡ [] → map (node 0) (keep (λ qs. not (isEmpty qs)) (qs ∷ gs)) ≡ map (node 0) (keep (λ qs. not (isEmpty qs)) gs)
+  keep-none : (qs : List Prop) (gs : List (List Prop)) → qs ≡ [] → map (nodeIn 0 noParent 0) (keep (λ qs. not (isEmpty qs)) (qs ∷ gs)) ≡ map (nodeIn 0 noParent 0) (keep (λ qs. not (isEmpty qs)) gs)
   unfolding keep
   keep-none qs gs e = rw e
 
@@ -290,12 +290,12 @@ module _ (s : List ℕ) where
               inside = limit-reach a r h (endAt s a) (inside-true s limit a i);
               read = group-read (Reach a) limit a (limit-inside a r h) λ e. (reach-limit a r h e, limit-reach a r h e);
             };
-            nodes = ap (λ gs. map (node 0) (keep (λ qs. not (isEmpty qs)) gs)) (groups-cons a r) ∙ keep-some (propertyAt s a) qs (x .rest) (groupsOf s r) (x .is);
+            nodes = ap (λ gs. map (nodeIn 0 noParent 0) (keep (λ qs. not (isEmpty qs)) gs)) (groups-cons a r) ∙ keep-some (propertyAt s a) qs (x .rest) (groupsOf s r) (x .is);
           })
       go false i =
           inr (record {
             outside = λ x. no i (inside-so limit a (reach-limit a r h (endAt s a) x));
-            nodes = ap (λ gs. map (node 0) (keep (λ qs. not (isEmpty qs)) gs)) (groups-cons a r)
+            nodes = ap (λ gs. map (nodeIn 0 noParent 0) (keep (λ qs. not (isEmpty qs)) gs)) (groups-cons a r)
                 ∙ keep-none qs (groupsOf s r) (ap (λ g. g .props) (group-none s limit a (limit-inside a r h) i));
           })
 

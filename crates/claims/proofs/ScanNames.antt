@@ -81,7 +81,7 @@ module _ (s : List ℕ) where
   unfolding controlOf
   same-controls none =
       let p = objectGroup s .stop in
-      each-same (Node-from s p) _ _ (scanFrom s p) (λ n m. ap (λ name. record { type = n .type; name = name; properties = map (propertyOf s) (n .props) }) (same-name p n m)) (scan-nodes s p)
+      each-same (Node-from s p) _ _ (scanFrom s p) (λ n m. ap (λ name. record { type = n .type; name = name; properties = map (propertyOf s) (n .props); level = n .level; parent = n .parent }) (same-name p n m)) (scan-nodes s p)
   same-controls (some es) = refl
 
   same-reading : readLater s ≡ readAlike s

@@ -1,5 +1,5 @@
 -- What the reader takes for the rows' properties is what is spelled.
-use Prim.Native.Nat.{ℕ, suc}
+use Prim.Native.Nat.{ℕ, suc, _+_}
 use mathlib.Core.Path.{_≡_, refl, sym, ap, ap₂, _∙_}
 use mathlib.Core.Bool.{Bool, true, false, cond}
 use mathlib.Core.List.{List, [], _∷_, _++_, map}
@@ -10,60 +10,56 @@ use Rattle.rules.specs.Lists.{_>>=_, concat, find}
 use Rattle.rules.specs.Bytes.{Bytes}
 use Rattle.rules.specs.Utf16.{isUtf16}
 use Rattle.rules.specs.Rows.{controlWidth, propertyWidth, room}
-use Rattle.rules.specs.Tree.{Entry, plain, parent, Entries, end, more, Node, reported, preorder1, preorder, nodesOf}
-use Rattle.rules.specs.Tree as tree
+use Rattle.rules.specs.Tree.{Entry, plain, parent, Entries, end, more, Node, noParent, reported, preorder1, preorder, nodesOf}
 use Rattle.rules.specs.Access2000.{Prop, streamOf}
 use Rattle.rules.specs.Read2000 as read2000
 use Rattle.rules.specs.Read2000.{ScopeKey, objectKey, entryKey, spotIn, nodeSpots, spotsOf}
 use Rattle.rules.specs.Blob.{is2000, readingOf, fit, answerOf, exit, spotsIn, spots}
 use Rattle.rules.specs.declared.Name.the-variants.{Text, Numbered}
 use Rattle.rules.proofs.ListLaws.{map-append, none-some}
-use Rattle.claims.specs.Grammar.{Property, Stream, one, _spells_}
+use Rattle.claims.specs.Grammar.{Property, Stream, _spells_}
 use Rattle.claims.specs.Contents as contents
-use Rattle.claims.specs.Shown.{isReported, shown}
+use Rattle.claims.specs.Shown.{Placed, placed, shown}
 use Rattle.claims.specs.Demand2.{Given}
 use Rattle.claims.specs.RowChecks.{SeenItems}
 use Rattle.claims.specs.Stored as Stored
 use Rattle.claims.specs.Stored.{Scope, objectScope, inScope, inOrder1, inOrder, storedIn, storedOf, spotSays, typeSays, isName, nameBy, controlSays, nameShows, controlShows}
-use Rattle.claims.proofs.Reported.{Top, shown-same}
 use Rattle.claims.proofs.Fits.{fit-read, answer-is, outcome-is}
 use Rattle.claims.proofs.Counts.{counts-hold}
-use Rattle.claims.proofs.Demand2.{demand2}
+use Rattle.claims.proofs.Demand2.{complete, reported-is-shown, demand2}
 
 abbrev scopeOf : ScopeKey → Scope
 scopeOf w = record { kind = w .kind; code = w .code }
 
 module _ (s : List ℕ) where
-  -- a node by its type and the contents of its properties
-  abbrev shownAs : Node Prop → ℕ × List Property
-  shownAs n = (n .type, contents.run s (n .props))
+  -- a node by its level, its type and the contents of its properties
+  abbrev shownAs : Node Prop → Placed Property
+  shownAs n = placed (n .level) (n .type) (contents.run s (n .props))
 
   mutual
     unfolding preorder1 preorder
 
-    order-same1 : (e : Entry Prop) → map shownAs (preorder1 e) ≡ inOrder1 (contents.item s e)
-    order-same1 (plain t qs) = refl
-    order-same1 (parent t qs es) = ap (λ l. (t, contents.run s qs) ∷ l) (order-same es)
+    order-same1 : (level up n : ℕ) (e : Entry Prop) → map shownAs (preorder1 level up n e) ≡ inOrder1 level (contents.item s e)
+    order-same1 level up n (plain t qs) = refl
+    order-same1 level up n (parent t qs es) = ap (λ l. placed level t (contents.run s qs) ∷ l) (order-same (suc level) n (suc n) es)
 
-    order-same : (es : Entries Prop) → map shownAs (preorder es) ≡ inOrder (contents.items s es)
-    order-same end = refl
-    order-same (more e es) = map-append shownAs (preorder1 e) (preorder es) ∙ ap₂ _++_ (order-same1 e) (order-same es)
-
-  reported-same : (e : Entry Prop) → tree.isReported e ≡ isReported (contents.item s e)
-  reported-same (plain t qs) = refl
-  reported-same (parent t qs es) = refl
-
-  all-same : (es : Entries Prop) → Top (λ e. tree.isReported e ≡ isReported (contents.item s e)) es
-  all-same end = tt
-  all-same (more e es) = (reported-same e, all-same es)
-
-  reported-is-shown : (es : Entries Prop) → contents.items s (reported es) ≡ shown (contents.items s es)
-  unfolding shown
-  reported-is-shown es = shown-same (contents.item s) (contents.items s) one isReported shown (λ e es. refl) refl (λ i is. refl) es (all-same es)
+    order-same : (level up n : ℕ) (es : Entries Prop) → map shownAs (preorder level up n es) ≡ inOrder level (contents.items s es)
+    order-same level up n end = refl
+    order-same level up n (more e es) =
+        let these = preorder1 level up n e in
+        let m = n + length these in
+        map-append shownAs these (preorder level up m es) ∙ ap₂ _++_ (order-same1 level up n e) (order-same level up m es)
 
   nodes-same : (x : List Prop × Entries Prop) → map shownAs (nodesOf (x .1)) ≡ Stored.reported (contents.stream s x)
   unfolding nodesOf
-  nodes-same x = order-same (reported (x .1)) ∙ ap inOrder (reported-is-shown (x .1))
+  nodes-same x = order-same 0 noParent 0 (reported (x .1)) ∙ ap (inOrder 0) (reported-is-shown s (x .1))
+
+  -- the reported items of what is spelled are those of the entries that are read
+  pub list-shown : (t : Stream) → drop 10 s spells t → (x : List Prop × Entries Prop) → streamOf s ≡ some x → contents.items s (reported (x .1)) ≡ shown (t .list)
+  list-shown t h x e =
+      let c = complete s t h in
+      let same : contents.stream s x ≡ t = cc in
+      reported-is-shown s (x .1) ∙ ap (λ u. shown (u .list)) same
 
   -- ---- stored properties
   run-says : (w : ScopeKey) (qs : List Prop) → map (spotSays s) (map (spotIn w) qs) ≡ map (inScope (scopeOf w)) (contents.run s qs)
@@ -116,7 +112,7 @@ module _ (s : List ℕ) where
     unfolding read2000.controlOf read2000.nameOf read2000.typeCode read2000.isReport
     control-shows n =
         let many : length (map (read2000.propertyIn table s (entryKey (n .type))) (n .props)) ≡ length (contents.run s (n .props)) = simp length-map (sym (run-many (n .props))) in
-        λ i. (typeSays table s (n .type), name-shows (n .type) (n .props) i, many i)
+        λ i. (typeSays table s (n .type), name-shows (n .type) (n .props) i, many i, n .level)
 
     controls-show : (ns : List (Node Prop)) → map (controlShows s) (map (read2000.controlOf table s) ns) ≡ map (controlSays table s) (map shownAs ns)
     controls-show [] = refl

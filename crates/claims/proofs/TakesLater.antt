@@ -10,7 +10,7 @@ use lib.ListN.{length, length-append, length-map}
 use borrow.Author.Tests.{leb-true, eqb-true, le-ltb, lt-ltb}
 use Rattle.rules.specs.Lists.{concat, keep}
 use Rattle.rules.specs.Bytes.{u16}
-use Rattle.rules.specs.Tree.{Entry, Entries, end, more, isReported, reported, Node, node, nodesOf}
+use Rattle.rules.specs.Tree.{Entry, Entries, end, more, isReported, reported, Node, noParent, nodeIn, nodesOf}
 use Rattle.rules.specs.Later.{Prop, endAt, trailerAt, isInside, endsGroup, Group, groupOf, groupAt, childrenAt, withChildren, nodeAt, nodesAt, objectGroup, treeOf, matchAt, matchesOf, matchesFrom, groupsOf, isEmpty, scanFrom, nodesBy, laterOf}
 use Rattle.rules.specs.Reading.{properties, propertiesOf}
 use Rattle.rules.specs.ReadLater.{propertyOf, nameIn, controlOf, readLater}
@@ -137,7 +137,7 @@ module _ (s : List ℕ) where
       omega (arith, g .past, g .within (k .0), groups-take b (b ∷ r) (k .1) (omega arith, k .1, k .2))
 
   -- the groups that are kept have all the properties, and one each at least
-  kept : (gs : List (List Prop)) → (propsOf (map (node 0) (keep (λ qs. not (isEmpty qs)) gs)) ≡ sum gs) × (length (map {A = List Prop} (node 0) (keep (λ qs. not (isEmpty qs)) gs)) ≤ sum gs)
+  kept : (gs : List (List Prop)) → (propsOf (map (nodeIn 0 noParent 0) (keep (λ qs. not (isEmpty qs)) gs)) ≡ sum gs) × (length (map {A = List Prop} (nodeIn 0 noParent 0) (keep (λ qs. not (isEmpty qs)) gs)) ≤ sum gs)
   unfolding keep
   kept [] = (refl, omega arith)
   kept ([] ∷ gs) = let h = kept gs in (omega arith, omega arith)

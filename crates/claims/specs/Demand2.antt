@@ -45,7 +45,7 @@ pub record Judges (table stream : List ℕ) (a : Answer) : Type 0 where
 
 -- of a list of bytes, which every stream that is lent to a call is: `Calls.antt` says it of calls without asking that
 pub record Demand2 : Type 0 where
-  -- with room enough, answer 0 exactly when the bytes are spelled so
+  -- with room enough, answer 0 exactly when the bytes are spelled so. (Wish 1 of document 02: "Room for controls is then the lent length divided by eight.")
   pub accepted : (table stream controls properties : List ℕ) → Bytes stream → Given table stream
       → Enough stream (room controlWidth controls) (room propertyWidth properties)
       → (exit table stream controls properties .answer .number ≡ 0) ↔ Spelled stream

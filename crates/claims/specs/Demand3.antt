@@ -75,7 +75,8 @@ pub record Unchanged (lent : Lent) (e : Exit) : Type 0 where
 pub record Alike (lent lent′ : Lent) (a b : Exit) : Type 0 where
   -- the answer number and the three counts
   pub same-answer : a .answer ≡ b .answer
-  -- on answer 0: every word of the control rows is the same; a name is told by words of its row, so these are the names too
+  -- on answer 0: all eight words of each control row are the same. A name is told by words of its row, so these are the names too; and so are level and parent
+  -- (wish 1 of document 02), in which the table has no part
   pub same-controls : a .answer .number ≡ 0 → controlWords (a .answer .first) (a .controls) ≡ controlWords (a .answer .first) (b .controls)
   -- and what stands behind the rows is each one's own
   pub behind : a .answer .number ≡ 0 → Behind lent a × Behind lent′ b

@@ -74,7 +74,7 @@ pub record ControlAt (stream : List ℕ) (seen : Exit) (i p : ℕ) : Type 0 wher
   pub name-start : nameStart seen i ≡ p + 14
   pub name-length : nameLength seen i ≡ sizeAt stream p
 
--- what a caller sees on answer 0: with RowChecks, every word of every row. (The counts of 6 and 7 are those of the same reading: Answers)
+-- what a caller sees on answer 0: with RowChecks and `Nesting.lists-later`, every word of every row. (The counts of 6 and 7 are those of the same reading: Answers)
 pub record Scanned (stream : List ℕ) (seen : Exit) : Type 0 where
   -- "The object's group starts at 14." "Object rows stay in both."
   pub own : Group stream seen (λ e. e ≤ length stream) 0 (seen .answer .third) 14

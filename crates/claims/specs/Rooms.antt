@@ -99,9 +99,9 @@ abbrev pub bare : List ℕ
 bare = 0x2A ∷ 0 ∷ 0 ∷ 0 ∷ []
 
 pub record LaterTight : Type 0 where
-  pub tree : exit bare tightTree (replicate 6 0) (replicate 12 0) .answer ≡ answer 0 1 2 1
+  pub tree : exit bare tightTree (replicate 8 0) (replicate 12 0) .answer ≡ answer 0 1 2 1
   pub tree-meets : 6 * 1 + 18 * 2 + 14 ≡ length tightTree
-  pub scan : exit bare tightScan (replicate 6 0) (replicate 12 0) .answer ≡ answer 0 1 2 1
+  pub scan : exit bare tightScan (replicate 8 0) (replicate 12 0) .answer ≡ answer 0 1 2 1
   pub scan-meets : 18 * 2 + 14 ≡ length tightScan
 
 pub record Rooms : Type 0 where

@@ -2,7 +2,7 @@
 -- descendants in preorder."
 use Prim.Native.Nat.{ℕ, _+_}
 use mathlib.Core.Bool.{Bool, true, cond, _&&_}
-use mathlib.Core.List.{List}
+use mathlib.Core.List.{List, [], _∷_, _++_}
 use lib.Dec.{leb}
 use lib.ListN.{length}
 use Rattle.claims.specs.Grammar.{Property, Item, leaf, branch, Items, none, one}
@@ -26,6 +26,25 @@ abbrev mutual
   pub propertiesIn : Items → ℕ
   propertiesIn none = 0
   propertiesIn (one i is) = propertiesIn1 i + propertiesIn is
+
+-- how many rows the list of each takes, in output order: an item without a list has none
+abbrev mutual
+  pub listRows1 : Item → List ℕ
+  listRows1 (leaf type qs) = 0 ∷ []
+  listRows1 (branch type qs is) = itemsIn is ∷ listRows is
+
+  pub listRows : Items → List ℕ
+  listRows none = []
+  listRows (one i is) = listRows1 i ++ listRows is
+
+-- what is reported of an item. Wish 1 of document 02: "the level below the reported top entry (0 for it)"
+pub record Placed (Q : Type 0) : Type 0 where
+  pub level : ℕ
+  pub type : ℕ
+  pub properties : List Q
+
+abbrev pub placed : {Q : Type 0} → ℕ → ℕ → List Q → Placed Q
+placed level type qs = record { level = level; type = type; properties = qs }
 
 -- an item of the top list is reported by its type, or because it has a list
 abbrev pub isReported : Item → Bool

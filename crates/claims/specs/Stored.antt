@@ -1,5 +1,5 @@
--- What an Access 2000 stream reports, by what its bytes spell: its items with their types and names, and its stored properties, each in its scope.
-use Prim.Native.Nat.{ℕ}
+-- What an Access 2000 stream reports, by what its bytes spell: its items with their levels, types and names, and its stored properties, each in its scope.
+use Prim.Native.Nat.{ℕ, suc}
 use mathlib.Core.Bool.{Bool, cond, _&&_}
 use mathlib.Core.List.{List, [], _∷_, _++_, map}
 use mathlib.Core.Option.{Option, none, some}
@@ -15,21 +15,21 @@ use Rattle.rules.specs.Read2000.{Spot}
 use Rattle.rules.specs.declared.Name.{Name}
 use Rattle.rules.specs.declared.Name.the-variants.{Text, Numbered, Loose}
 use Rattle.claims.specs.Grammar.{Property, Item, leaf, branch, Items, one, Stream}
-use Rattle.claims.specs.Shown.{shown}
+use Rattle.claims.specs.Shown.{Placed, placed, shown}
 
--- items with all below them in preorder, each with its type and its properties
+-- items at a level with all below them in preorder, each with its level, its type and its properties
 abbrev mutual
-  pub inOrder1 : Item → List (ℕ × List Property)
-  inOrder1 (leaf type qs) = (type, qs) ∷ []
-  inOrder1 (branch type qs is) = (type, qs) ∷ inOrder is
+  pub inOrder1 : ℕ → Item → List (Placed Property)
+  inOrder1 level (leaf type qs) = placed level type qs ∷ []
+  inOrder1 level (branch type qs is) = placed level type qs ∷ inOrder (suc level) is
 
-  pub inOrder : Items → List (ℕ × List Property)
-  inOrder Items.none = []
-  inOrder (one i is) = inOrder1 i ++ inOrder is
+  pub inOrder : ℕ → Items → List (Placed Property)
+  inOrder level Items.none = []
+  inOrder level (one i is) = inOrder1 level i ++ inOrder level is
 
--- what is reported
-abbrev pub reported : Stream → List (ℕ × List Property)
-reported t = inOrder (shown (t .list))
+-- what is reported: "the level below the reported top entry (0 for it)"
+abbrev pub reported : Stream → List (Placed Property)
+reported t = inOrder 0 (shown (t .list))
 
 -- ---- scopes
 -- by kind and code, as a code table lists them. Kinds: 0 form, 1 report, 2 entry. A scope's code is 0, or an entry's type; a property's code is its `id`
@@ -52,8 +52,8 @@ entryScope type = record { kind = 2; code = type }
 abbrev pub inScope : Scope → Property → Scope × Property
 inScope scope q = (scope, q)
 
-abbrev pub storedIn : ℕ × List Property → List (Scope × Property)
-storedIn n = map (inScope (entryScope (n .0))) (n .1)
+abbrev pub storedIn : Placed Property → List (Scope × Property)
+storedIn n = map (inScope (entryScope (n .type))) (n .properties)
 
 -- "The object's rows stand first, then each control's."
 abbrev pub storedOf : List ℕ → Stream → List (Scope × Property)
@@ -64,7 +64,7 @@ abbrev pub spotSays : List ℕ → Spot → Scope × Property
 spotSays stream x =
     (record { kind = x .scope .kind; code = x .scope .code }, record { id = x .prop .id; value = part stream (x .prop .start) (x .prop .size) })
 
--- ---- controls: type, name, and how many properties
+-- ---- controls: type, name, how many properties, and level
 -- "A header code gets 0x1800 joined by OR for a form, 0x1900 for a report."
 abbrev pub typeSays : List ℕ → List ℕ → ℕ → ℕ
 typeSays table stream type = cond (has type (header table)) (bitOr (cond (isReport stream) 0x1900 0x1800) type) type
@@ -77,8 +77,8 @@ abbrev pub nameBy : Option Property → ℕ × List ℕ
 nameBy none = (1, [])
 nameBy (some q) = cond (isUtf16 (q .value)) (0, q .value) (1, [])
 
-abbrev pub controlSays : List ℕ → List ℕ → ℕ × List Property → ℕ × (ℕ × List ℕ) × ℕ
-controlSays table stream n = (typeSays table stream (n .0), nameBy (find (isName (n .0)) (n .1)), length (n .1))
+abbrev pub controlSays : List ℕ → List ℕ → Placed Property → ℕ × (ℕ × List ℕ) × ℕ × ℕ
+controlSays table stream n = (typeSays table stream (n .type), nameBy (find (isName (n .type)) (n .properties)), length (n .properties), n .level)
 
 -- and what a reading's control shows. Of a name: its mark, and the bytes that its start and length name, where it is a part of the stream
 abbrev pub nameShows : List ℕ → Name → ℕ × List ℕ
@@ -86,5 +86,5 @@ nameShows stream (Text start size) = (0, part stream start size)
 nameShows stream Numbered = (1, [])
 nameShows stream (Loose start size) = (2, part stream start size)
 
-abbrev pub controlShows : List ℕ → Control → ℕ × (ℕ × List ℕ) × ℕ
-controlShows stream c = (c .type, nameShows stream (c .name), length (c .properties))
+abbrev pub controlShows : List ℕ → Control → ℕ × (ℕ × List ℕ) × ℕ × ℕ
+controlShows stream c = (c .type, nameShows stream (c .name), length (c .properties), c .level)

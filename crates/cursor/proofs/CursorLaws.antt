@@ -10,10 +10,9 @@ use lib.ListN.{length}
 use Rattle.rules.specs.Lists.{_>>=_}
 use Rattle.rules.specs.Tree.{Entry, levels, levelsAt}
 use Rattle.rules.proofs.ListLaws.{Every}
-use Rattle.rows.specs.Acts.{Held}
+use Rattle.rows.specs.Acts.{Nodes, Held}
 use Rattle.rows.proofs.LevelLaws.{levels-deep}
-use Rattle.cursor.specs.Visits.{visited}
-use Rattle.cursor.specs.Walk.{Step, Steps, frame, entryBy, Visits, _before_, restAt, behind}
+use Rattle.cursor.specs.Walk.{Step, nodeOf, Steps, frame, entryBy, _before_, restAt, behind}
 use Rattle.cursor.specs.Stack.{outer, moved, countOf, Moved}
 use Rattle.cursor.specs.Cursors.{cursor, restBy, topAt, Picked, Passed}
 use Rattle.cursor.specs.declared.Cursor.{Cursor}
@@ -22,7 +21,7 @@ use Rattle.cursor.proofs.StackLaws.{outer-length, outer-empty, rest-mov
 
 module _ {P : Type 0} (step : Steps P) (pick : Entry P → Bool) where
   -- what is left after the entry x at c, of row n
-  abbrev pub leftBehind : ℕ → List ℕ → Cursor → Step P → Visits P
+  abbrev pub leftBehind : ℕ → List ℕ → Cursor → Step P → Nodes P
   leftBehind n a c x = behind step pick (255 - c .level) n (frame (c .left - 1) (c .parent)) (outer a (c .level)) (x .children) (x .next)
 
   pub rest-behind : (n : ℕ) (a : List ℕ) (c : Cursor) (x : Step P) (a′ : List ℕ) (r : Cursor) → c .level < 256 → Moved a c n (countOf (x .children)) (x .next) a′ r
@@ -39,7 +38,7 @@ module _ {P : Type 0} (step : Steps P) (pick : Entry P → Bool) where
     pub entry : Step P
     pub read : step (c .at) ≡ some entry
     pub low : c .level < 256
-    pub is : restBy step pick n a c ≡ (visited (c .level) (c .parent) (entry .node) ∷ [] before leftBehind n a c entry)
+    pub is : restBy step pick n a c ≡ (nodeOf (c .level) (c .parent) entry ∷ [] before leftBehind n a c entry)
 
   module _ (n : ℕ) (a : List ℕ) (c : Cursor) (l : 0 < c .left) where
     rest-low : c .level ≤ 256 → Held (λ _. Unit) (restBy step pick n a c) → c .level < 256
@@ -50,8 +49,8 @@ module _ {P : Type 0} (step : Steps P) (pick : Entry P → Bool) where
         rw (ap (λ (d : ℕ). levelsAt (entryBy step) d (c .left) (c .at)) z ∙ levels-deep (entryBy step) (c .left) (c .at) l) at h in
         omega arith
 
-    abbrev enter : ℕ → Step P → Visits P
-    enter m x = visited m (c .parent) (x .node) ∷ [] before leftBehind n a c x
+    abbrev enter : ℕ → Step P → Nodes P
+    enter m x = nodeOf m (c .parent) x ∷ [] before leftBehind n a c x
 
     pub stands : c .level ≤ 256 → Picked step pick c → Held (λ _. Unit) (restBy step pick n a c) → Stands n a c
     unfolding restBy

@@ -1,4 +1,3 @@
-pub mod VisitLaws
 pub mod WalkLaws
 pub mod StackLaws
 pub mod CursorLaws

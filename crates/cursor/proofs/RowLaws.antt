@@ -6,54 +6,43 @@ use mathlib.Core.List.{List, [], _∷_, map}
 use mathlib.Core.Option.{Option, none, some}
 use lib.ListN.{length}
 use Rattle.rules.specs.Lists.{_>>=_}
-use Rattle.rules.specs.Tree.{Entries, Node, levels, levelsAt, isReported, preorder, nodesOf}
+use Rattle.rules.specs.Tree.{Entries, Node, levels, levelsAt, isReported, preorder, noParent, nodesOf}
 use Rattle.rules.specs.Reading.{Control}
 use Rattle.rows.specs.Writing.{State, writeControls}
 use Rattle.rows.specs.Acts.{Nodes, topNodes, _then_, Held, Fit, actBy, Ready}
 use Rattle.rows.proofs.ActLaws.{at-place}
 use Rattle.rows.proofs.RemainLaws.{Remain, remain-start, remain-as, remain-step, remain-done, ready-first}
-use Rattle.cursor.specs.Visits.{Visited, visited, visits, noParent}
-use Rattle.cursor.specs.Walk.{Step, Steps, entryBy, picked, Visits, _before_, restAt, tailAt}
+use Rattle.cursor.specs.Walk.{Step, nodeOf, Steps, entryBy, picked, _before_, restAt, tailAt}
 use Rattle.cursor.specs.Stack.{outer, countOf, Before, Moved}
 use Rattle.cursor.specs.Cursors.{cursor, restBy, Picked, Passed}
 use Rattle.cursor.specs.declared.Cursor.{Cursor}
-use Rattle.cursor.proofs.VisitLaws.{nodeOf, forget}
 use Rattle.cursor.proofs.WalkLaws.{picked-reported}
 use Rattle.cursor.proofs.StackLaws.{done}
 use Rattle.cursor.proofs.CursorLaws.{leftBehind, rest-behind, Stands, stands, rest-done}
 
--- without level and parent
-abbrev nodesIn : {P : Type 0} → Visits P → Nodes P
-nodesIn none = none
-nodesIn (some y) = some (map nodeOf (y .0), y .1)
-
-abbrev pub howMany : {P : Type 0} → Visits P → ℕ
+abbrev pub howMany : {P : Type 0} → Nodes P → ℕ
 howMany none = 0
 howMany (some y) = length (y .0)
 
-first-nodes : {P : Type 0} (v : Visited P) (q : ℕ) (o : Visits P) → nodesIn (v ∷ [] before o) ≡ (some (nodeOf v ∷ [], q) then λ _. nodesIn o)
-first-nodes v q none = refl
-first-nodes v q (some y) = refl
+fewer : {P : Type 0} (x : Node P) (o : Nodes P) → Held (λ _. Unit) (x ∷ [] before o) → howMany o < howMany (x ∷ [] before o)
+fewer x none h = absurd h
+fewer x (some y) h = omega arith
 
-fewer : {P : Type 0} (v : Visited P) (o : Visits P) → Held (λ _. Unit) (v ∷ [] before o) → howMany o < howMany (v ∷ [] before o)
-fewer v none h = absurd h
-fewer v (some y) h = omega arith
-
-some-left : {P : Type 0} (f : Node P → Control) (o : Visits P) (st : State) → Held (λ x. Fit (map f (x .0)) st) (nodesIn o) → Held (λ _. Unit) o
+some-left : {P : Type 0} (f : Node P → Control) (o : Nodes P) (st : State) → Held (λ x. Fit (map f (x .0)) st) o → Held (λ _. Unit) o
 some-left f none st h = h
 some-left f (some y) st h = tt
 
 start-nodes : {P : Type 0} (step : Steps P) (a : List ℕ) (n at : ℕ)
-    → nodesIn (restBy step isReported 0 a (cursor at 0 n noParent)) ≡ topNodes (levelsAt (entryBy step) levels n at)
+    → restBy step isReported 0 a (cursor at 0 n noParent) ≡ topNodes (levelsAt (entryBy step) levels n at)
 unfolding restBy restAt tailAt outer nodesOf
 start-nodes {P = P} step a n at = go (levelsAt (entryBy step) levels n at)
   where
-    go : (o : Option (Entries P × ℕ)) → nodesIn (o >>= λ x. some (visits 0 noParent 0 (picked isReported (x .0)), x .1)) ≡ topNodes o
+    go : (o : Option (Entries P × ℕ)) → (o >>= λ x. some (preorder 0 noParent 0 (picked isReported (x .0)), x .1)) ≡ topNodes o
     go none = refl
-    go (some x) = ap (λ ns. some (ns, x .1)) (forget 0 noParent 0 (picked isReported (x .0)) ∙ ap preorder (picked-reported (x .0)))
+    go (some x) = ap (λ es. some (preorder 0 noParent 0 es, x .1)) (picked-reported (x .0))
 
 -- what is left to report from a cursor on
-abbrev pub left : {P : Type 0} → Steps P → ℕ → List ℕ → Cursor → Visits P
+abbrev pub left : {P : Type 0} → Steps P → ℕ → List ℕ → Cursor → Nodes P
 left step n a c = restBy step isReported n a c
 
 -- K is what a layout knows beforehand, f makes a control of a node
@@ -63,7 +52,7 @@ module _ {P : Type 0} (step : Steps P) (K : Type 0) (f : Node P → Control) whe
     pub low : c .level ≤ 256
     pub picked : Picked step isReported c
     pub done : c .left ≡ 0 → c .level ≡ 0
-    pub remain : Remain K f (nodesIn (left step (now .ci) a c)) whole old now
+    pub remain : Remain K f (left step (now .ci) a c) whole old now
 
 module _ {P : Type 0} {step : Steps P} {K : Type 0} {f : Node P → Control} where
   pub going-start : {whole : Nodes P} (st : State) (a : List ℕ) (n at : ℕ) (r : Cursor) → topNodes (levelsAt (entryBy step) levels n at) ≡ whole → st .ci ≡ 0
@@ -73,14 +62,14 @@ module _ {P : Type 0} {step : Steps P} {K : Type 0} {f : Node P → Control} whe
     low = omega (arith, p .level-is);
     picked = p .picked;
     done = p .done (λ _. refl);
-    remain = remain-start K f _ whole st (sym (ap (λ (i : ℕ). nodesIn (left step i a r)) z ∙ ap nodesIn (p .is 0 a) ∙ start-nodes step a n at ∙ e)) h;
+    remain = remain-start K f _ whole st (sym (ap (λ (i : ℕ). left step i a r) z ∙ p .is 0 a ∙ start-nodes step a n at ∙ e)) h;
   }
 
   module _ {whole : Nodes P} {old : State} {a : List ℕ} {c : Cursor} {now : State} (g : Going step K f whole old a c now) where
     pub going-done : c .left ≤ 0 → some (at-place now (c .at)) ≡ actBy f whole old
     going-done l =
         let z : c .left ≡ 0 = omega arith in
-        remain-done K f whole old now (c .at) (remain-as K f _ _ whole old now (ap nodesIn (rest-done step isReported (now .ci) a c z (g .done z))) (g .remain))
+        remain-done K f whole old now (c .at) (remain-as K f _ _ whole old now (rest-done step isReported (now .ci) a c z (g .done z)) (g .remain))
 
     module _ (l : 0 < c .left) where
       there : Held (λ _. Unit) (left step (now .ci) a c)
@@ -93,23 +82,27 @@ module _ {P : Type 0} {step : Steps P} {K : Type 0} {f : Node P → Control} whe
       abbrev pub entry : Step P
       entry = at-entry .entry
 
+      -- and its node
+      abbrev pub node : Node P
+      node = nodeOf (c .level) (c .parent) entry
+
       pub entry-read : step (c .at) ≡ some entry
       entry-read = at-entry .read
 
       pub going-before : Before a c
       going-before = record { long = g .long; some-left = l; low = at-entry .low }
 
-      abbrev behind-it : Visits P
+      abbrev behind-it : Nodes P
       behind-it = leftBehind step isReported (now .ci) a c entry
 
-      first-left : (q : ℕ) → Remain K f (some (entry .node ∷ [], q) then λ _. nodesIn behind-it) whole old now
-      first-left q = remain-as K f _ _ whole old now (ap nodesIn (at-entry .is) ∙ first-nodes (visited (c .level) (c .parent) (entry .node)) q behind-it) (g .remain)
+      first-left : (q : ℕ) → Remain K f (some (node ∷ [], q) then λ _. behind-it) whole old now
+      first-left q = remain-as K f _ _ whole old now (at-entry .is) (g .remain)
 
-      pub going-ready : (q : ℕ) → Ready K f (some (entry .node ∷ [], q)) now
-      going-ready q = ready-first K f (some (entry .node ∷ [], q)) (λ _. nodesIn behind-it) now (first-left q .ready)
+      pub going-ready : (q : ℕ) → Ready K f (some (node ∷ [], q)) now
+      going-ready q = ready-first K f (some (node ∷ [], q)) (λ _. behind-it) now (first-left q .ready)
 
       -- its row is written, and the cursor went on
-      module _ (next : State) (w : next ≡ writeControls (f (entry .node) ∷ []) now) (a′ : List ℕ) (r r′ : Cursor)
+      module _ (next : State) (w : next ≡ writeControls (f node ∷ []) now) (a′ : List ℕ) (r r′ : Cursor)
           (m : Moved a c (now .ci) (countOf (entry .children)) (entry .next) a′ r) (k : Passed step isReported r r′) where
         onward : left step (next .ci) a′ r′ ≡ behind-it
         unfolding writeControls
@@ -118,9 +111,7 @@ module _ {P : Type 0} {step : Steps P} {K : Type 0} {f : Node P → Control} whe
             ap (λ (i : ℕ). left step i a′ r′) z ∙ k .is (suc (now .ci)) a′ ∙ rest-behind step isReported (now .ci) a c entry a′ r (at-entry .low) m
 
         pub going-less : howMany (left step (next .ci) a′ r′) < howMany (left step (now .ci) a c)
-        going-less =
-            let v = visited (c .level) (c .parent) (entry .node) in
-            omega (arith, fewer v behind-it (rw (at-entry .is) at there), ap howMany onward, ap howMany (at-entry .is))
+        going-less = omega (arith, fewer node behind-it (rw (at-entry .is) at there), ap howMany onward, ap howMany (at-entry .is))
 
         pub going-next : Going step K f whole old a′ r′ next
         going-next = record {
@@ -128,6 +119,6 @@ module _ {P : Type 0} {step : Steps P} {K : Type 0} {f : Node P → Control} whe
           low = omega (arith, m .low, k .level-is);
           picked = k .picked;
           done = k .done (done a c (now .ci) (countOf (entry .children)) (entry .next) a′ r m);
-          remain = remain-as K f _ _ whole old next (ap nodesIn (sym onward))
-              (remain-step K f (some (entry .node ∷ [], c .at)) (λ _. nodesIn behind-it) whole old now next (c .at) (first-left (c .at)) (ap (λ (st : State). some (at-place st (c .at))) w));
+          remain = remain-as K f _ _ whole old next (sym onward)
+              (remain-step K f (some (node ∷ [], c .at)) (λ _. behind-it) whole old now next (c .at) (first-left (c .at)) (ap (λ (st : State). some (at-place st (c .at))) w));
         }

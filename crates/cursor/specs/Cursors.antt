@@ -6,16 +6,21 @@ use mathlib.Core.List.{List}
 use mathlib.Core.Option.{Option}
 use Rattle.rules.specs.Tree.{Entry, levels, levelsAt}
 use Rattle.rules.proofs.ListLaws.{Every}
-use Rattle.rows.specs.Acts.{Held}
-use Rattle.cursor.specs.Walk.{Steps, frame, entryBy, Visits, restAt}
+use Rattle.rows.specs.Acts.{Nodes, Held}
+use Rattle.rows.specs.declared.Nesting.{Nesting}
+use Rattle.cursor.specs.Walk.{Steps, frame, entryBy, restAt}
 use Rattle.cursor.specs.Stack.{outer, Before, Moved}
 use Rattle.cursor.specs.declared.Cursor.{Cursor}
 
 abbrev pub cursor : ℕ → ℕ → ℕ → ℕ → Cursor
 cursor at level left up = record { at = at; level = level; left = left; parent = up }
 
+-- where the entry at a cursor stands in the tree
+abbrev pub nesting : Cursor → Nesting
+nesting c = record { level = c .level; parent = c .parent }
+
 -- n is the next row
-unfoldable pub restBy : {P : Type 0} → Steps P → (Entry P → Bool) → ℕ → List ℕ → Cursor → Visits P
+unfoldable pub restBy : {P : Type 0} → Steps P → (Entry P → Bool) → ℕ → List ℕ → Cursor → Nodes P
 restBy step pick n a c = restAt step pick (levels - c .level) n (frame (c .left) (c .parent)) (outer a (c .level)) (c .at)
 
 -- an entry of the top list

@@ -1,4 +1,3 @@
-pub mod Visits
 pub mod Walk
 pub mod Stack
 pub mod Cursors

@@ -1,15 +1,13 @@
 // A walk over the entries of a tree in output order, by a loop. What it means stands in specs/.
+use rows::NO_PARENT;
 ghost use mathlib.Core.Path.{_≡_};
 ghost use Prim.Native.Nat.{_≤_};
-ghost use Rattle.cursor.specs.Visits.{noParent};
+ghost use Rattle.rules.specs.Tree.{noParent};
 ghost use Rattle.cursor.specs.Stack.{Before, Unwound, Moved};
 ghost use Rattle.cursor.specs.Cursors.{cursor};
 
 // How many words the lent stack has: two for each of 256 levels.
 pub const STACK_WORDS: usize = 512;
-
-// The row that stands for the parent of a top entry.
-const NO_PARENT: u32 = 0xFFFFFFFF;
 
 // Where a walk stands: before an entry, or at the end where `left` is 0. `level` is that of the innermost list that is open, `left` how many of
 // its entries are left, and `parent` the row of the entry that holds it. The lists around it stand on a lent stack, two words for each level.

@@ -8,7 +8,7 @@ use lib.Dec.{ltb, eqb}
 use lib.ListN.{length}
 use Rattle.rules.specs.Lists.{_>>=_}
 use Rattle.rules.specs.Bytes.{Bytes, byte, byteAt, halfAt}
-use Rattle.rules.specs.Tree.{Entries, levelsAt, node}
+use Rattle.rules.specs.Tree.{Entries, levelsAt}
 use Rattle.rules.specs.Access2000.{Prop, runAt, headAt, closeAt, entryAt, entriesAt}
 use Rattle.rules.proofs.ListLaws.{Every, every-if, every-then, every-when, every-at}
 use Rattle.cursor.specs.Walk.{Step, closeBy, entryBy}
@@ -19,7 +19,7 @@ use Rattle.cursor2000.specs.Steps.{stepAt, listAt}
 
 -- ---- an entry by its step
 abbrev stepIn : ℕ → List Prop → Option ℕ × ℕ → Option (Step Prop)
-stepIn t ps h = some (record { node = node t ps; children = h .0; next = h .1 })
+stepIn t ps h = some (record { type = t; props = ps; children = h .0; next = h .1 })
 
 pub entry-same : (s : List ℕ) (below : ℕ → ℕ → Option (Entries Prop × ℕ)) (p : ℕ) → entryAt s below p ≡ entryBy (stepAt s) below p
 unfolding entryAt closeAt entryBy closeBy stepAt

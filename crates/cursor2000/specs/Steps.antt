@@ -6,7 +6,7 @@ use mathlib.Core.List.{List}
 use mathlib.Core.Option.{Option, some}
 use Rattle.rules.specs.Lists.{_>>=_}
 use Rattle.rules.specs.Bytes.{halfAt}
-use Rattle.rules.specs.Tree.{Entry, node, isReported}
+use Rattle.rules.specs.Tree.{Entry, isReported}
 use Rattle.rules.specs.Access2000.{Prop, runAt, headAt}
 use Rattle.rules.proofs.ListLaws.{Every}
 use Rattle.cursor.specs.Walk.{Steps}
@@ -20,7 +20,7 @@ stepAt s p = do
   type ← halfAt s p
   (props, q) ← runAt s (p + 2)
   (list, e) ← headAt s q
-  some (record { node = node type props; children = list; next = e })
+  some (record { type = type; props = props; children = list; next = e })
 
 -- after the run that ends at q: how many entries the list has, and where they start
 unfoldable pub listAt : List ℕ → ℕ → Option (ℕ × ℕ)

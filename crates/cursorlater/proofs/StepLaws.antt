@@ -9,7 +9,7 @@ use lib.Dec.{leb, eqb}
 use lib.ListN.{length}
 use Rattle.rules.specs.Lists.{_>>=_}
 use Rattle.rules.specs.Bytes.{Bytes, u16}
-use Rattle.rules.specs.Tree.{Entry, parent, Entries, end, more, levelsAt, manyAt, node, isReported}
+use Rattle.rules.specs.Tree.{Entry, parent, Entries, end, more, levelsAt, manyAt, isReported}
 use Rattle.rules.specs.Later.{Prop, groupAt, childrenAt, withChildren, nodeAt, nodesAt}
 use Rattle.rules.proofs.ListLaws.{Every, every-if, every-at}
 use Rattle.rows.proofs.LevelLaws.{levels-none, levels-more, isMore}
@@ -31,7 +31,7 @@ abbrev parentOf : ℕ → List Prop → Entries Prop × ℕ → Option (Entry Pr
 parentOf t ps l = some (parent t ps (l .0), l .1)
 
 abbrev laterIn : ℕ → List Prop → ℕ × ℕ → Option (Step Prop)
-laterIn t ps x = some (record { node = node t ps; children = listOf (x .0); next = x .1 })
+laterIn t ps x = some (record { type = t; props = ps; children = listOf (x .0); next = x .1 })
 
 node-same : (s : List ℕ) (one : (ℕ → ℕ → Option (Entries Prop × ℕ)) → ℕ → Option (Entry Prop × ℕ)) (d p : ℕ)
     → nodeAt s (levelsAt one d) p ≡ entryBy (stepAt s) (levelsAt one d) p
@@ -54,7 +54,7 @@ node-same s one d p = go (groupAt s (length s) (p + 6) .trailer)
         lists (more e es) h = refl
 
     by-count : (n q : ℕ) → (levelsAt one d n q >>= nodeWith (u16 s p) ps)
-        ≡ closeBy (levelsAt one d) (record { node = record { type = u16 s p; props = ps }; children = listOf n; next = q })
+        ≡ closeBy (levelsAt one d) (record { type = u16 s p; props = ps; children = listOf n; next = q })
     by-count zero q = rw (levels-none one d q)
     by-count (suc n) q = some-list (levelsAt one d (suc n) q) (levels-more one d (suc n) q (omega arith))
 

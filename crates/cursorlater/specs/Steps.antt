@@ -5,7 +5,6 @@ use mathlib.Core.Option.{Option, none, some}
 use lib.ListN.{length}
 use Rattle.rules.specs.Lists.{_>>=_}
 use Rattle.rules.specs.Bytes.{u16}
-use Rattle.rules.specs.Tree.{node}
 use Rattle.rules.specs.Later.{Prop, groupAt, childrenAt}
 use Rattle.cursor.specs.Walk.{Steps}
 
@@ -19,4 +18,4 @@ unfoldable pub stepAt : List ℕ → Steps Prop
 stepAt s p = do
   trailer ← groupAt s (length s) (p + 6) .trailer
   (n, q) ← childrenAt s trailer (groupAt s (length s) (p + 6) .stop)
-  some (record { node = node (u16 s p) (groupAt s (length s) (p + 6) .props); children = listOf n; next = q })
+  some (record { type = u16 s p; props = groupAt s (length s) (p + 6) .props; children = listOf n; next = q })

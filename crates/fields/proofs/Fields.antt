@@ -7,7 +7,8 @@ use borrow.Author.Tests.{eq-eqb, ne-eqb}
 use lib.ListN.{length}
 use Rattle.rules.specs.Lists.{text}
 use Rattle.rules.specs.Digits.{decimal}
-use Rattle.rules.specs.Listing.{orDash, nameColumn}
+use Rattle.rules.specs.Tree.{noParent}
+use Rattle.rules.specs.Listing.{orDash, nameColumn, parentColumn}
 
 pub no-name : (s : List ℕ) → length s ≡ 0 → orDash s ≡ text "-"
 unfolding orDash
@@ -26,3 +27,11 @@ numbered m size e = rw (eq-eqb m 1 e)
 pub with-name : (m size : ℕ) → (m ≡ 1 → ⊥) → nameColumn m size ≡ decimal (size / 2)
 unfolding nameColumn
 with-name m size e = rw (ne-eqb m 1 e)
+
+pub top : (up : ℕ) → up ≡ noParent → parentColumn up ≡ text "-"
+unfolding parentColumn
+top up e = rw (eq-eqb up noParent e)
+
+pub inside : (up : ℕ) → (up ≡ noParent → ⊥) → parentColumn up ≡ decimal up
+unfolding parentColumn
+inside up e = rw (ne-eqb up noParent e)

@@ -8,16 +8,19 @@ use values::put_value;
 use values::put_word;
 use values::value_bytes;
 ghost use mathlib.Core.Path.{_≡_};
-ghost use mathlib.Core.List.{[], _∷_};
+ghost use mathlib.Core.List.{[], _∷_, _++_};
 ghost use Rattle.rules.specs.Lists.{text};
 ghost use Rattle.rules.specs.Digits.{decimal, hex};
 ghost use Rattle.rules.specs.NameTables.{controlTypeNames};
 ghost use Rattle.rules.specs.Names.{nameIn, namesFor};
 ghost use Rattle.rules.specs.Reading.{propertyRow};
-ghost use Rattle.rules.specs.Listing.{orDash, nameColumn};
+ghost use Rattle.rules.specs.Listing.{orDash, nameColumn, parentColumn};
 ghost use Rattle.names.specs.Lookup.{Lent};
 ghost use Rattle.text.specs.Writer.{Wrote};
 ghost use Rattle.fields.specs.Parts.{fields, shownFields};
+
+// The parent of a control that has none.
+const NO_PARENT: u32 = 0xffff_ffff;
 
 // LF ends each line.
 pub fn put_end(out: &mut [u8], at: usize) -> usize
@@ -89,6 +92,25 @@ pub fn put_chars(out: &mut [u8], at: usize, mark: u32, size: u32) -> usize
     } else {
         put_decimal(out, at, size / 2)
     }
+}
+
+fn put_parent(out: &mut [u8], at: usize, parent: u32) -> usize
+    ensures { λ r. ⌜ Wrote (now (out .entry)) at (parentColumn parent) (now (out .exit)) r ⌝ }
+{
+    if parent == NO_PARENT {
+        put_byte(out, at, b'-')
+    } else {
+        put_decimal(out, at, parent)
+    }
+}
+
+// Where a control is nested: its level and its parent's row.
+pub fn put_nesting(out: &mut [u8], at: usize, level: u32, parent: u32) -> usize
+    ensures { λ r. ⌜ Wrote (now (out .entry)) at (decimal level ++ (text " " ++ parentColumn parent)) (now (out .exit)) r ⌝ }
+{
+    let p = put_decimal(out, at, level);
+    let p = put_byte(out, p, b' ');
+    put_parent(out, p, parent)
 }
 
 // The word and the value of a property.

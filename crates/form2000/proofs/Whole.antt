@@ -20,7 +20,7 @@ use Rattle.rows.specs.Writing.{state, writeProperties}
 use Rattle.rows.specs.Acts.{topNodes, Held, stateAt}
 use Rattle.rows.specs.declared.Next.{Next}
 use Rattle.rows.proofs.LevelLaws.{EntriesGrow, fewer}
-use Rattle.rows.proofs.CountingLaws as counting
+use Rattle.rows.proofs.CountingLaws.{nodes-of, props-of}
 use Rattle.rows.proofs.WritingLaws.{properties-length}
 use Rattle.rows.specs.Judge.{Counts, Answerable, Judged, Roomy}
 use Rattle.rows.proofs.JudgeLaws.{exits-refused, roomy, exits-read, made-counts, made-fit, made-written}
@@ -71,10 +71,10 @@ same-properties t s n = simp length-map
 
 module _ (t s : List ℕ) (x : List Prop × Entries Prop) where
   pub counts : Counts (read2000 t s x) (size (reported (x .1))) (length (x .0) + props (reported (x .1))) (length (x .0))
-  unfolding read2000 nodesOf
+  unfolding read2000
   counts =
       let k = made-counts (propertyIn t s (objectKey s)) (controlOf t s) (same-properties t s) (x .0) (nodesOf (x .1)) in
-      rw (counting.nodes (reported (x .1)), counting.in-all (reported (x .1))) at k
+      rw (nodes-of (x .1), props-of (x .1)) at k
 
   -- a stream is longer than all that is counted of it
   pub few : streamOf s ≡ some x → length (x .0) + (size (reported (x .1)) + props (reported (x .1))) ≤ length s
@@ -158,12 +158,12 @@ module _ {t s controls rows : List ℕ} (h : StreamReady t s controls rows) wher
           start = record { at = next; control = 0; property = own .row }
 
           pub top-ready : {scopes : List ℕ} → Listed t scopes → TopReady t scopes s n controls rows′ start
-          unfolding read2000 nodesOf
+          unfolding read2000
           top-ready listed =
               let x = is .tree in
               let l : length rows′ ≡ length rows = ap length own-rows ∙ properties-length (read2000 t s x .own) rows 0 in
               let q : own .row ≡ length (x .0) = own-run .row-is ∙ omega arith in
-              let m : length (x .0) + length (nodesOf (x .1)) + propsIn (nodesOf (x .1)) ≤ longest = omega (arith, few t s x (is .reads), h .small, counting.nodes (reported (x .1)), counting.in-all (reported (x .1))) in
+              let m : length (x .0) + length (nodesOf (x .1)) + propsIn (nodesOf (x .1)) ≤ longest = omega (arith, few t s x (is .reads), h .small, nodes-of (x .1), props-of (x .1)) in
               record {
                 ready = record {
                   known = record { formed = h .formed; listed = listed; small = h .small };

@@ -1,5 +1,5 @@
 -- What is printed is the listing of all that standard input had.
-use mathlib.Core.Path.{_≡_, refl, sym, ap, _∙_}
+use mathlib.Core.Path.{_≡_, refl, sym, _∙_}
 use mathlib.Core.Bool.{Bool, true}
 use mathlib.Core.List.{List, _∷_, _++_}
 use Prim.Native.Nat.{ℕ, _≤_}
@@ -7,16 +7,15 @@ use native.Mathlib.Omega.{arith}
 use lib.ListN.{length, take, length-append}
 use Rattle.rules.specs.NameTables.{textNames, numberNames, bytesNames, controlTypeNames}
 use Rattle.rules.specs.Listing.{listing}
-use Rattle.text.specs.Writer.{Wrote}
 use Rattle.listing.specs.Bound.{longestIn, longestType, longestName, longestListing}
 use Rattle.listing.proofs.Placed.{held}
 use Rattle.listing.proofs.Printed.{listing-long}
+use Rattle.bloblines.specs.Blobs.{Written}
 use Rattle.bloblines.specs.Listed.{listed}
 use Rattle.inputs.specs.Begun.{Begun, whole, longer}
-use Rattle.listbound.proofs.Bounded.{listing-bounded}
 
 -- the bound, computed from the name tables
-pub bound : longestListing ≡ 114739
+pub bound : longestListing ≡ 120371
 unfolding longestListing longestType longestName longestIn textNames numberNames bytesNames controlTypeNames
 bound = refl
 
@@ -26,8 +25,6 @@ unfolding listed
 listed-is h whole = refl
 listed-is h (longer {read} b rest) = sym (listing-long (read ++ (b ∷ rest)) (simp length-append (omega (arith, h refl))))
 
-pub all-printed : {read old new : List ℕ} {more : Bool} {end : ℕ} → Wrote old 0 (listed read more) new end → longestListing ≤ length old → (more ≡ true → 32768 ≤ length read)
-    → (input : List ℕ) → Begun read more input → take end new ≡ listing input
-all-printed w room h input b =
-    let e = listed-is h b in
-    held w (omega (arith, ap length e, listing-bounded input)) ∙ e
+pub all-printed : {read old new : List ℕ} {more : Bool} {end : ℕ} → Written old (listed read more) longestListing new end → longestListing ≤ length old
+    → (more ≡ true → 32768 ≤ length read) → (input : List ℕ) → Begun read more input → take end new ≡ listing input
+all-printed w room h input b = held (w .wrote) (omega (arith, w .short)) ∙ listed-is h b

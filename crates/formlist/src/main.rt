@@ -1,4 +1,5 @@
 // Lists the Blob that standard input holds after its code table, as document 01's program `formlist` does.
+use bloblines::LONGEST_LISTING;
 use libc::STDIN_FILENO;
 use libc::STDOUT_FILENO;
 ghost use mathlib.Core.Path.{_≡_};
@@ -28,11 +29,10 @@ fn list(index: &[u32], letters: &[u8], space: &mut [u8], out: &mut [u8])
     print(input, more, &out[..end]);
 }
 
-// The buffer holds the longest listing.
 fn main() {
     let index = nametables::index();
     let letters = nametables::letters();
     let mut space = [0; 32768];
-    let mut out = [0; 114739];
+    let mut out = [0; LONGEST_LISTING];
     list(&index, &letters, &mut space, &mut out);
 }

@@ -11,7 +11,7 @@ use borrow.Author.Tests.{ltb-true, ltb-false}
 use Rattle.rules.specs.Lists.{_>>=_}
 use Rattle.rules.specs.Bytes.{u16}
 use Rattle.rules.specs.Answer.{longest}
-use Rattle.rules.specs.Tree.{node, isReported}
+use Rattle.rules.specs.Tree.{Node, noParent, nodeIn, isReported}
 use Rattle.rules.specs.Later.{Prop, childrenAt, nodesAt}
 use Rattle.rules.specs.ReadLater.{nameOf, controlOf}
 use Rattle.rules.specs.declared.Name.{Name}
@@ -20,10 +20,9 @@ use Rattle.rows.specs.Writing.{State, state, writeControls}
 use Rattle.rows.specs.Acts.{Nodes, topNodes, Fit}
 use Rattle.countlater.specs.Count.{groupIn, childrenOf}
 use Rattle.countlater.proofs.NodeLaws.{head-past}
-use Rattle.cursor.specs.Visits.{noParent}
 use Rattle.cursor.specs.Walk.{Step}
 use Rattle.cursor.specs.Stack.{countOf, Moved}
-use Rattle.cursor.specs.Cursors.{cursor, Passed, PastReady, Past}
+use Rattle.cursor.specs.Cursors.{cursor, nesting, Passed, PastReady, Past}
 use Rattle.cursor.specs.declared.Cursor.{Cursor}
 use Rattle.cursor.proofs.RowLaws as laws
 use Rattle.cursor.proofs.RowLaws.{left, howMany}
@@ -35,7 +34,8 @@ use Rattle.later.proofs.WriteNodeLaws.{their-own, controls-kept, proper
 
 -- ---- a node as the code reads it
 pub record Parts (s : List ℕ) (p : ℕ) (x : Step Prop) : Type 0 where
-  pub node-is : x .node ≡ node (u16 s p) (groupIn s p .props)
+  pub type-is : x .type ≡ u16 s p
+  pub props-are : x .props ≡ groupIn s p .props
   pub kids : childrenOf s p ≡ some (countOf (x .children), x .next)
 
 parts : (s : List ℕ) (p : ℕ) (x : Step Prop) → stepAt s p ≡ some x → Parts s p x
@@ -43,7 +43,7 @@ unfolding stepAt childrenOf
 parts s p x e = go (groupIn s p .trailer) refl e
   where
     stepIn : ℕ × ℕ → Option (Step Prop)
-    stepIn y = some (record { node = node (u16 s p) (groupIn s p .props); children = listOf (y .0); next = y .1 })
+    stepIn y = some (record { type = u16 s p; props = groupIn s p .props; children = listOf (y .0); next = y .1 })
 
     counts : (n : ℕ) → countOf (listOf n) ≡ n
     counts zero = refl
@@ -52,9 +52,9 @@ parts s p x e = go (groupIn s p .trailer) refl e
     kids-of : (t : ℕ) → groupIn s p .trailer ≡ some t → (o : Option (ℕ × ℕ)) → childrenAt s t (groupIn s p .stop) ≡ o → (o >>= stepIn) ≡ some x → Parts s p x
     kids-of t f none k e = absurd (none-some e)
     kids-of t f (some y) k e =
-        let z : record { node = node (u16 s p) (groupIn s p .props); children = listOf (y .0); next = y .1 } ≡ x = cc in
+        let z : record { type = u16 s p; props = groupIn s p .props; children = listOf (y .0); next = y .1 } ≡ x = cc in
         let n : _≡_ {A = ℕ × ℕ} y (countOf (x .children), x .next) = ap (λ (m : ℕ). (m, y .1)) (sym (counts (y .0))) ∙ ap (λ (w : Step Prop). (countOf (w .children), w .next)) z in
-        record { node-is = sym (ap (λ (w : Step Prop). w .node) z); kids = rw f (k ∙ ap some n) }
+        record { type-is = sym (ap (λ (w : Step Prop). w .type) z); props-are = sym (ap (λ (w : Step Prop). w .props) z); kids = rw f (k ∙ ap some n) }
 
     go : (t : Option ℕ) → groupIn s p .trailer ≡ t → (t >>= λ trailer. childrenAt s trailer (groupIn s p .stop) >>= stepIn) ≡ some x → Parts s p x
     go none f e = absurd (none-some e)
@@ -67,10 +67,10 @@ pub record Going (s : List ℕ) (whole : Nodes Prop) (old : State) (a : List ℕ
   pub controls-same : length (now .cs) ≡ length (old .cs)
   pub properties-same : length (now .ps) ≡ length (old .ps)
 
-pub going-start : {s a : List ℕ} {n at : ℕ} {r : Cursor} {cs ps : List ℕ} {pi : ℕ} → length a ≡ 512 → NodesReady s (topNodes (nodesAt 256 s n at)) (state cs 0 ps pi)
-    → Passed (stepAt s) isReported (cursor at 0 n noParent) r → Going s (topNodes (nodesAt 256 s n at)) (state cs 0 ps pi) a r (state cs 0 ps pi)
-going-start {s} {a} {n} {at} {r} {cs} {ps} {pi} l h p = record {
-  walk = laws.going-start (state cs 0 ps pi) a n at r (ap topNodes (sym (nodes-same s 256 n at))) refl l h p;
+pub going-start : {s a : List ℕ} {n at : ℕ} {b r : Cursor} {cs ps : List ℕ} {pi : ℕ} → length a ≡ 512 → NodesReady s (topNodes (nodesAt 256 s n at)) (state cs 0 ps pi)
+    → b ≡ cursor at 0 n noParent → Passed (stepAt s) isReported b r → Going s (topNodes (nodesAt 256 s n at)) (state cs 0 ps pi) a r (state cs 0 ps pi)
+going-start {s} {a} {n} {at} {b} {r} {cs} {ps} {pi} l h e p = record {
+  walk = laws.going-start (state cs 0 ps pi) a n at r (ap topNodes (sym (nodes-same s 256 n at))) refl l h (rw e at p);
   small = h .known;
   controls-same = refl;
   properties-same = refl;
@@ -84,6 +84,12 @@ module _ {s : List ℕ} {whole : Nodes Prop} {old : State} {a : List ℕ} {c : C
     abbrev entry : Step Prop
     entry = laws.entry (g .walk) l
 
+    abbrev node : Node Prop
+    node = laws.node (g .walk) l
+
+    pub going-low : c .level < 256
+    going-low = laws.going-before (g .walk) l .low
+
     its : Parts s (c .at) entry
     its = parts s (c .at) entry (laws.entry-read (g .walk) l)
 
@@ -96,17 +102,17 @@ module _ {s : List ℕ} {whole : Nodes Prop} {old : State} {a : List ℕ} {c : C
 
     -- the control of this node, by the type and name that the code has found
     module _ {type : ℕ} (et : type ≡ u16 s (c .at)) {name : Name} (en : name ≡ nodeName s (c .at + 6)) where
-      control-is : treeControl s (entry .node) ≡ groupControl s type name (length s) (c .at + 6)
+      control-is : treeControl s node ≡ groupControl s type name (nesting c) (length s) (c .at + 6)
       unfolding controlOf nameOf nodeName
-      control-is = ap (treeControl s) (its .node-is) ∙ ap₂ (λ t m. groupControl s t m (length s) (c .at + 6)) (sym et) (sym en)
+      control-is = (λ i. treeControl s (nodeIn (c .level) (c .parent) (its .type-is i) (its .props-are i))) ∙ ap₂ (λ t m. groupControl s t m (nesting c) (length s) (c .at + 6)) (sym et) (sym en)
 
-      pub going-ready : ControlReady s (length s) (next (c .at + 6) ci pi) type name cs ps
+      pub going-ready : ControlReady s (length s) (next (c .at + 6) ci pi) type name (nesting c) cs ps
       going-ready =
           let r = laws.going-ready (g .walk) l 0 in
           record { inside = omega arith; small = g .small; fits = subst (λ x. Fit (x ∷ []) (state cs ci ps pi)) control-is (r .fits) }
 
       -- its row is written
-      module _ {w : WrittenGroup} {cs′ ps′ : List ℕ} (wrote : ControlDone s (length s) (next (c .at + 6) ci pi) type name cs ps cs′ ps′ w) where
+      module _ {w : WrittenGroup} {cs′ ps′ : List ℕ} (wrote : ControlDone s (length s) (next (c .at + 6) ci pi) type name (nesting c) cs ps cs′ ps′ w) where
         pub going-adds : ci + pi + (1 + w .count) ≤ longest
         going-adds = omega (arith, going-ready .fits .few, their-own going-ready, wrote .count)
 
@@ -116,7 +122,7 @@ module _ {s : List ℕ} {whole : Nodes Prop} {old : State} {a : List ℕ} {c : C
         pub going-past : PastReady a c (childrenAt s (w .trailer) (w .stop))
         going-past = record { before = laws.going-before (g .walk) l; there = rw kids-at tt }
 
-        next-is : state cs′ (ci + 1) ps′ (pi + w .count) ≡ writeControls (treeControl s (entry .node) ∷ []) (state cs ci ps pi)
+        next-is : state cs′ (ci + 1) ps′ (pi + w .count) ≡ writeControls (treeControl s node ∷ []) (state cs ci ps pi)
         next-is = wrote .is ∙ ap (λ x. writeControls (x ∷ []) (state cs ci ps pi)) (sym control-is)
 
         module _ (a′ : List ℕ) (r r′ : Cursor) (p : Past a c ci (childrenAt s (w .trailer) (w .stop)) a′ r) (k : Passed (stepAt s) isReported r r′) where

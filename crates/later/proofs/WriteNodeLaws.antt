@@ -9,7 +9,7 @@ use lib.ListN.{length, length-map}
 use Rattle.rules.specs.Answer.{longest}
 use Rattle.rules.specs.Rows.{controlWidth}
 use Rattle.rules.specs.Reading.{nameWords, controlRow}
-use Rattle.rules.specs.Tree.{Node, node}
+use Rattle.rules.specs.Tree.{Node}
 use Rattle.rules.specs.Later.{Prop, propertyAt, isInside, groupAt, childrenAt, matchAt, scanFrom}
 use Rattle.rules.specs.ReadLater.{propertyOf, textName, firstOf, scannedName, controlOf}
 use Rattle.rules.specs.declared.Name.{Name}
@@ -19,16 +19,17 @@ use Rattle.rows.specs.Writing.{State, state, theirs, writeControls}
 use Rattle.rows.specs.Acts.{Fit, _then_}
 use Rattle.rows.specs.declared.ControlRow.{ControlRow}
 use Rattle.rows.specs.declared.Next.{Next}
+use Rattle.rows.specs.declared.Nesting.{Nesting}
 use Rattle.rows.proofs.WritingLaws.{theirs-one, write-one, write-lengths}
 use Rattle.rows.proofs.ActLaws.{at-place}
 use Rattle.rows.proofs.RemainLaws.{Remain, remain-start, remain-as, ready-first, remain-step, remain-done}
 use Rattle.matchlater.specs.Match.{NextMatch}
-use Rattle.matchlater.proofs.MatchLaws.{scan-same, scan-step, scan-end}
+use Rattle.matchlater.proofs.MatchLaws.{scannedNode, scan-same, scan-step, scan-end}
 use Rattle.countlater.specs.Count.{extent, groupIn, childrenOf}
 use Rattle.countlater.specs.declared.Extent.{Extent}
 use Rattle.countlater.proofs.PassedLaws.{Inside, extent-inside, extent-outside, props-some, props-none}
 use Rattle.countlater.proofs.ScanLaws.{shown-some, shown-none}
-use Rattle.later.specs.Write.{PropertyInside, trailerOr0, propsAt, GroupReady, GroupDone, groupControl, next, stateAt, ControlReady, ControlDone, scannedControl, scanned, ScanReady, ScanDone}
+use Rattle.later.specs.Write.{PropertyInside, trailerOr0, propsAt, GroupReady, GroupDone, groupControl, next, stateAt, ControlReady, ControlDone, scannedControl, topmost, scanned, ScanReady, ScanDone}
 use Rattle.later.specs.declared.WrittenGroup.{WrittenGroup}
 
 -- ---- one control with its group
@@ -36,9 +37,9 @@ pub own-many : (s : List ℕ) (name : Node Prop → Name) (n : Node Prop) → le
 unfolding controlOf
 own-many s name n = simp length-map
 
-module _ {s : List ℕ} {limit : ℕ} {n : Next} {type : ℕ} {name : Name} {cs ps : List ℕ} (h : ControlReady s limit n type name cs ps) where
-  pub their-own : length (theirs (groupControl s type name limit (n .at) ∷ [])) ≡ length (propsAt s limit (n .at))
-  their-own = ap length (theirs-one (groupControl s type name limit (n .at))) ∙ simp length-map
+module _ {s : List ℕ} {limit : ℕ} {n : Next} {type : ℕ} {name : Name} {nesting : Nesting} {cs ps : List ℕ} (h : ControlReady s limit n type name nesting cs ps) where
+  pub their-own : length (theirs (groupControl s type name nesting limit (n .at) ∷ [])) ≡ length (propsAt s limit (n .at))
+  their-own = ap length (theirs-one (groupControl s type name nesting limit (n .at))) ∙ simp length-map
 
   pub group-ready : GroupReady s limit (n .at) (length ps) (n .property)
   group-ready = record { inside = h .inside; small = h .small; fits = omega (arith, h .fits .room .properties, their-own) }
@@ -50,14 +51,14 @@ module _ {s : List ℕ} {limit : ℕ} {n : Next} {type : ℕ} {name : Name} {cs 
     pub words-ready : n .control + n .property + (1 + w .count) ≤ longest
     words-ready = omega (arith, h .fits .few, their-own, d .count)
 
-    pub control-done : (row : ControlRow) → controlWords row ≡ type ∷ nameWords (n .control) name ++ (n .property ∷ w .count ∷ [])
-        → (cs′ : List ℕ) → cs′ ≡ put controlWidth cs (n .control) (controlWords row ∷ []) → ControlDone s limit n type name cs ps cs′ ps′ w
+    pub control-done : (row : ControlRow) → controlWords row ≡ type ∷ nameWords (n .control) name ++ (n .property ∷ w .count ∷ nesting .level ∷ nesting .parent ∷ [])
+        → (cs′ : List ℕ) → cs′ ≡ put controlWidth cs (n .control) (controlWords row ∷ []) → ControlDone s limit n type name nesting cs ps cs′ ps′ w
     unfolding controlRow
     control-done row er cs′ ec =
-        let c = groupControl s type name limit (n .at) in
+        let c = groupControl s type name nesting limit (n .at) in
         let m : length (map (propertyOf s) (propsAt s limit (n .at))) ≡ length (propsAt s limit (n .at)) = simp length-map in
         let k : w .count ≡ length (map (propertyOf s) (propsAt s limit (n .at))) = d .count ∙ sym m in
-        let e : controlWords row ≡ controlRow (n .control) (n .property) c = er ∙ ap (λ j. type ∷ nameWords (n .control) name ++ (n .property ∷ j ∷ [])) k in
+        let e : controlWords row ≡ controlRow (n .control) (n .property) c = er ∙ ap (λ j. type ∷ nameWords (n .control) name ++ (n .property ∷ j ∷ nesting .level ∷ nesting .parent ∷ [])) k in
         let a : cs′ ≡ put controlWidth cs (n .control) (controlRow (n .control) (n .property) c ∷ []) = ec ∙ ap (λ r. put controlWidth cs (n .control) (r ∷ [])) e in
         record {
           is = (λ i. state (a i) (n .control + 1) (d .rows i) (n .property + k i)) ∙ sym (write-one c (stateAt n cs ps));
@@ -67,7 +68,7 @@ module _ {s : List ℕ} {limit : ℕ} {n : Next} {type : ℕ} {name : Name} {cs 
         }
 
 -- a slice keeps its length
-module _ {s : List ℕ} {limit : ℕ} {n : Next} {type : ℕ} {name : Name} {cs ps cs′ ps′ : List ℕ} {w : WrittenGroup} (d : ControlDone s limit n type name cs ps cs′ ps′ w) where
+module _ {s : List ℕ} {limit : ℕ} {n : Next} {type : ℕ} {name : Name} {nesting : Nesting} {cs ps cs′ ps′ : List ℕ} {w : WrittenGroup} (d : ControlDone s limit n type name nesting cs ps cs′ ps′ w) where
   pub controls-kept : length cs′ ≡ length cs
   controls-kept = ap (λ st. length (st .cs)) (d .is) ∙ write-lengths _ (stateAt n cs ps) .0
 
@@ -110,11 +111,11 @@ sweeping-done {s} {from} {old} {a} {cs} {ci} {ps} {pi} w h =
 
 -- the control of a match's group: its name is that of its first property, the match
 module _ (s : List ℕ) (limit a : ℕ) (h : limit ≤ length s) (t : isInside s limit a ≡ true) where
-  pub scanned-is : (name : Name) → name ≡ textName (propertyOf s (propertyAt s a)) → scannedControl s (node 0 (propsAt s limit a)) ≡ groupControl s 0 name limit a
+  pub scanned-is : (name : Name) → name ≡ textName (propertyOf s (propertyAt s a)) → scannedControl s (scannedNode (propsAt s limit a)) ≡ groupControl s 0 name topmost limit a
   unfolding controlOf scannedName
   scanned-is name e =
       let m = ap (λ qs. textName (propertyOf s (firstOf qs))) (group-begins s limit a h t .is) ∙ sym e in
-      ap (λ name. groupControl s 0 name limit a) m
+      ap (λ name. groupControl s 0 name topmost limit a) m
 
 module _ {s : List ℕ} {from : ℕ} {old : State} {a : ℕ} {cs : List ℕ} {ci : ℕ} {ps : List ℕ} {pi : ℕ} (known : Sweeping s from old a (state cs ci ps pi)) (l : a < length s) {b : ℕ}
     (n : NextMatch s (a + 6) b) {r : Extent} (re : r ≡ extent s b a) where
@@ -140,22 +141,22 @@ module _ {s : List ℕ} {from : ℕ} {old : State} {a : ℕ} {cs : List ℕ} {ci
     pub match-inside : PropertyInside s a z
     match-inside = record { small = known .remain .ready .known; within = omega (arith, inside .next, inside .size, inside .within, n .within); is = inside .size }
 
-    first-left : Remain (length s ≤ longest) (scannedControl s) (some (node 0 (propsAt s b a) ∷ [], b) then scanned s) (scanned s from) old here
+    first-left : Remain (length s ≤ longest) (scannedControl s) (some (scannedNode (propsAt s b a) ∷ [], b) then scanned s) (scanned s from) old here
     first-left = remain-as _ (scannedControl s) (scanned s a) _ (scanned s from) old here
         (ap (λ ns. some (ns, length s))
         (scan-step s a b (known .here l) n ∙ ap (λ ns. ns ++ scanFrom s b) (shown-some (groupAt s b a .props) (props-some s b a (n .within) (inside .test)))))
         (known .remain)
 
     module _ {name : Name} (en : name ≡ textName (propertyOf s (propertyAt s a))) where
-      control-is : scannedControl s (node 0 (propsAt s b a)) ≡ groupControl s 0 name b a
+      control-is : scannedControl s (scannedNode (propsAt s b a)) ≡ groupControl s 0 name topmost b a
       control-is = scanned-is s b a (n .within) (inside .test) name en
 
-      pub sweeping-ready : ControlReady s b (next a ci pi) 0 name cs ps
+      pub sweeping-ready : ControlReady s b (next a ci pi) 0 name topmost cs ps
       sweeping-ready =
-          let f = ready-first (length s ≤ longest) (scannedControl s) (some (node 0 (propsAt s b a) ∷ [], b)) (scanned s) here (first-left .ready) in
+          let f = ready-first (length s ≤ longest) (scannedControl s) (some (scannedNode (propsAt s b a) ∷ [], b)) (scanned s) here (first-left .ready) in
           record { inside = n .within; small = f .known; fits = subst (λ c. Fit (c ∷ []) here) control-is (f .fits) }
 
-      module _ {w : WrittenGroup} {cs′ ps′ : List ℕ} (done : ControlDone s b (next a ci pi) 0 name cs ps cs′ ps′ w) where
+      module _ {w : WrittenGroup} {cs′ ps′ : List ℕ} (done : ControlDone s b (next a ci pi) 0 name topmost cs ps cs′ ps′ w) where
         pub sweeping-adds : ci + pi + (1 + w .count) ≤ longest
         sweeping-adds = omega (arith, sweeping-ready .fits .few, their-own sweeping-ready, done .count)
 
@@ -163,7 +164,7 @@ module _ {s : List ℕ} {from : ℕ} {old : State} {a : ℕ} {cs : List ℕ} {ci
         sweeping-more = record {
           within = n .within;
           here = n .here;
-          remain = remain-step _ (scannedControl s) (some (node 0 (propsAt s b a) ∷ [], b)) (scanned s) (scanned s from) old here (state cs′ (ci + 1) ps′ (pi + w .count)) b first-left
+          remain = remain-step _ (scannedControl s) (some (scannedNode (propsAt s b a) ∷ [], b)) (scanned s) (scanned s from) old here (state cs′ (ci + 1) ps′ (pi + w .count)) b first-left
               (ap (λ z. some (at-place z b)) (done .is ∙ ap (λ c. writeControls (c ∷ []) here) (sym control-is)));
           controls-same = controls-kept done ∙ known .controls-same;
           properties-same = properties-kept done ∙ known .properties-same;

@@ -10,13 +10,14 @@ use Rattle.rules.specs.Lists.{find}
 use Rattle.rules.specs.Answer.{longest}
 use Rattle.rules.specs.Rows.{propertyWidth}
 use Rattle.rules.specs.Reading.{Control}
-use Rattle.rules.specs.Tree.{Node}
+use Rattle.rules.specs.Tree.{Node, noParent}
 use Rattle.rules.specs.Later.{Prop, lengthAt, groupAt, scanFrom, objectGroup, treeOf, nodesBy}
 use Rattle.rules.specs.ReadLater.{propertyOf, nameOr, nameOf, scannedName, nameIn, controlOf}
 use Rattle.rules.specs.declared.Name.{Name}
 use Rattle.rows.specs.Writing.{State, state, writeControls, writeProperties}
 use Rattle.rows.specs.Acts.{Nodes, Fit, stood, actBy, Ready}
 use Rattle.rows.specs.declared.Next.{Next}
+use Rattle.rows.specs.declared.Nesting.{Nesting}
 use Rattle.countlater.specs.Count.{isTree}
 use Rattle.later.specs.declared.WrittenGroup.{WrittenGroup}
 
@@ -54,8 +55,14 @@ pub record GroupDone (s : List ℕ) (limit at : ℕ) (old : List ℕ) (first : �
   pub trailer : r .trailer ≡ trailerOr0 (groupAt s limit at .trailer)
 
 -- ---- a group with its control's row
-abbrev pub groupControl : List ℕ → ℕ → Name → ℕ → ℕ → Control
-groupControl s type name limit at = record { type = type; name = name; properties = map (propertyOf s) (propsAt s limit at) }
+abbrev pub groupControl : List ℕ → ℕ → Name → Nesting → ℕ → ℕ → Control
+groupControl s type name nesting limit at = record {
+  type = type;
+  name = name;
+  properties = map (propertyOf s) (propsAt s limit at);
+  level = nesting .level;
+  parent = nesting .parent;
+}
 
 abbrev pub next : ℕ → ℕ → ℕ → Next
 next at control property = record { at = at; control = control; property = property }
@@ -64,13 +71,13 @@ next at control property = record { at = at; control = control; property = prope
 abbrev pub stateAt : Next → List ℕ → List ℕ → State
 stateAt n cs ps = state cs (n .control) ps (n .property)
 
-pub record ControlReady (s : List ℕ) (limit : ℕ) (n : Next) (type : ℕ) (name : Name) (cs ps : List ℕ) : Type 0 where
+pub record ControlReady (s : List ℕ) (limit : ℕ) (n : Next) (type : ℕ) (name : Name) (nesting : Nesting) (cs ps : List ℕ) : Type 0 where
   pub inside : limit ≤ length s
   pub small : length s ≤ longest
-  pub fits : Fit (groupControl s type name limit (n .at) ∷ []) (stateAt n cs ps)
+  pub fits : Fit (groupControl s type name nesting limit (n .at) ∷ []) (stateAt n cs ps)
 
-pub record ControlDone (s : List ℕ) (limit : ℕ) (n : Next) (type : ℕ) (name : Name) (cs ps cs′ ps′ : List ℕ) (r : WrittenGroup) : Type 0 where
-  pub is : state cs′ (n .control + 1) ps′ (n .property + r .count) ≡ writeControls (groupControl s type name limit (n .at) ∷ []) (stateAt n cs ps)
+pub record ControlDone (s : List ℕ) (limit : ℕ) (n : Next) (type : ℕ) (name : Name) (nesting : Nesting) (cs ps cs′ ps′ : List ℕ) (r : WrittenGroup) : Type 0 where
+  pub is : state cs′ (n .control + 1) ps′ (n .property + r .count) ≡ writeControls (groupControl s type name nesting limit (n .at) ∷ []) (stateAt n cs ps)
   pub count : r .count ≡ length (propsAt s limit (n .at))
   pub stop : r .stop ≡ groupAt s limit (n .at) .stop
   pub trailer : r .trailer ≡ trailerOr0 (groupAt s limit (n .at) .trailer)
@@ -92,6 +99,10 @@ NodesDone s = WrittenBy (treeControl s)
 -- of the scan, which ends with the stream
 abbrev pub scannedControl : List ℕ → Node Prop → Control
 scannedControl s = controlOf s (scannedName s)
+
+-- where a control of the scan stands
+abbrev pub topmost : Nesting
+topmost = record { level = 0; parent = noParent }
 
 abbrev pub scanned : List ℕ → ℕ → Nodes Prop
 scanned s p = some (scanFrom s p, length s)

@@ -8,8 +8,8 @@ use countlater::children_at;
 use countlater::count;
 use countlater::ends_group;
 use countlater::parse_entry;
-use cursor::Cursor;
 use cursor::STACK_WORDS;
+use cursor::top;
 use cursorlater::past;
 use cursorlater::reported;
 use matchlater::MATCH_SIZE;
@@ -17,6 +17,8 @@ use matchlater::find_match;
 use numbers::u16_at;
 use numbers::u32_at;
 use propvalue::entry_value;
+use rows::NO_PARENT;
+use rows::Nesting;
 use rows::Next;
 use rows::control_row;
 use rows::counted;
@@ -158,18 +160,19 @@ fn write_group(s: &[u8], limit: usize, at: usize, rows: &mut [u32], first: usize
     }
 }
 
-// Writes the group at `next` and the row of its control, which has this type and name.
+// Writes the group at `next` and the row of its control, which has this type, name and place in the tree.
 fn write_control(
     s: &[u8],
     limit: usize,
     next: Next,
     node_type: u16,
     name: Name,
+    nesting: Nesting,
     controls: &mut [u32],
     properties: &mut [u32],
 ) -> WrittenGroup
-    requires { ⌜ ControlReady (now s) limit next «node_type» name (now controls) (now properties) ⌝ }
-    ensures { λ r. ⌜ ControlDone (now (s .entry)) limit next «node_type» name (now (controls .entry)) (now (properties .entry)) (now (controls .exit)) (now (properties .exit)) r ⌝ }
+    requires { ⌜ ControlReady (now s) limit next «node_type» name nesting (now controls) (now properties) ⌝ }
+    ensures { λ r. ⌜ ControlDone (now (s .entry)) limit next «node_type» name nesting (now (controls .entry)) (now (properties .entry)) (now (controls .exit)) (now (properties .exit)) r ⌝ }
 {
     let w = write_group(s, limit, next.at, properties, next.property);
     let row = control_row(
@@ -178,6 +181,7 @@ fn write_control(
         next.control as u32,
         next.property as u32,
         w.count as u32,
+        nesting,
     );
     put_control(controls, next.control, row);
     w
@@ -196,15 +200,7 @@ fn write_sections(
     ensures { λ r. ⌜ NodesDone (now (s .entry)) (topNodes (nodesAt 256 (now (s .entry)) n at)) (state (now (controls .entry)) 0 (now (properties .entry)) property) (now (controls .exit)) (now (properties .exit)) r ⌝ }
 {
     let mut stack = [0; STACK_WORDS];
-    let mut c = reported(
-        s,
-        Cursor {
-            at,
-            level: 0,
-            left: n,
-            parent: 0xFFFFFFFF,
-        },
-    );
+    let mut c = reported(s, top(at, n));
     let mut i: usize = 0;
     let mut j = property;
     while 0 < c.left {
@@ -220,6 +216,10 @@ fn write_sections(
             },
             u16_at(s, place),
             name,
+            Nesting {
+                level: c.level as u32,
+                parent: c.parent,
+            },
             controls,
             properties,
         );
@@ -266,6 +266,10 @@ fn write_scanned(
                     },
                     0,
                     name,
+                    Nesting {
+                        level: 0,
+                        parent: NO_PARENT,
+                    },
                     controls,
                     properties,
                 );

@@ -15,14 +15,15 @@ use Rattle.rules.specs.Digits.{decimal, hex}
 use Rattle.rules.specs.Texts.{label}
 use Rattle.rules.specs.NameTables.{Table, textNames, numberNames, bytesNames, controlTypeNames}
 use Rattle.rules.specs.Names.{hasId, nameText, nameIn, namesFor}
-use Rattle.rules.specs.Rows.{rowAt}
+use Rattle.rules.specs.Rows.{controlWidth, rowAt}
+use Rattle.rules.specs.Tree.{noParent}
 use Rattle.rules.specs.Bytes.{part}
-use Rattle.rules.specs.Listing.{orDash, answerLine, word, nameColumn, controlLine, markWord, yesOrNo, number32, valueColumn, propertyLine}
+use Rattle.rules.specs.Listing.{orDash, answerLine, word, nameColumn, parentColumn, controlLine, markWord, yesOrNo, number32, valueColumn, propertyLine}
 use Rattle.rules.specs.declared.Answer.{Answer}
 use Rattle.text.proofs.Digits.{longest-label}
 use Rattle.text.proofs.Written.{guid-length}
 use Rattle.values.proofs.Marks.{is-no, is-yes, low-half, high-half}
-use Rattle.fields.proofs.Fields.{numbered, with-name}
+use Rattle.fields.proofs.Fields.{numbered, with-name, top, inside}
 use Rattle.listing.specs.Shown.{linesTo}
 use Rattle.listing.specs.Bound.{longestIn, longestType, longestName, longestAnswer, longestControl, longestProperty}
 
@@ -90,9 +91,13 @@ unfolding hex
 hex-length zero n = refl
 hex-length (suc k) n = let e : length (hex k (n / 16)) ≡ k = hex-length k (n / 16) in simp length-append (omega arith)
 
-pub chars-by : (m n : ℕ) → Word32 n → (t : Bool) → eqb m 1 ≡ t → length (nameColumn m n) ≤ 10
+chars-by : (m n : ℕ) → Word32 n → (t : Bool) → eqb m 1 ≡ t → length (nameColumn m n) ≤ 10
 chars-by m n h true e = rw (numbered m n (eqb-true m 1 e)) (omega arith)
 chars-by m n h false e = rw (with-name m n (eqb-false m 1 e)) (decimal-short (n / 2) (omega arith))
+
+parent-by : (up : ℕ) → Word32 up → (t : Bool) → eqb up noParent ≡ t → length (parentColumn up) ≤ 10
+parent-by up h true e = rw (top up (eqb-true up noParent e)) (omega arith)
+parent-by up h false e = rw (inside up (eqb-false up noParent e)) (decimal-short up h)
 
 word-short : (m : ℕ) → length (markWord m) ≤ 10
 unfolding markWord
@@ -139,18 +144,20 @@ module _ (a : Answer) (h0 : Word32 (a .number)) (h1 : Word32 (a .first)) (h2 : W
       (omega (arith, decimal-short (a .number) h0, decimal-short (a .first) h1, decimal-short (a .second) h2, decimal-short (a .third) h3))
 
 module _ (n : ℕ) (row : List ℕ) (hn : Word32 n) where
-  -- a numbered control's length isn't shown
-  pub control-short : length (nameColumn (word row 1) (word row 3)) ≤ 10 → Word32 (word row 4) → Word32 (word row 5) → length (controlLine n row) ≤ longestControl
+  pub control-short : ((i : ℕ) → i < controlWidth → Word32 (word row i)) → length (controlLine n row) ≤ longestControl
   unfolding controlLine
-  control-short h3 h4 h5 =
+  control-short h =
       simp length-append
       (omega (
         arith,
         decimal-short n hn,
         hex-length 4 (word row 0),
         type-short (word row 0),
-        decimal-short (word row 4) h4,
-        decimal-short (word row 5) h5,
+        chars-by (word row 1) (word row 3) (h 3 (omega arith)) (eqb (word row 1) 1) refl,
+        decimal-short (word row 4) (h 4 (omega arith)),
+        decimal-short (word row 5) (h 5 (omega arith)),
+        decimal-short (word row 6) (h 6 (omega arith)),
+        parent-by (word row 7) (h 7 (omega arith)) (eqb (word row 7) noParent) refl,
       ))
 
   pub property-short : (stream : List ℕ) → Word32 (word row 5) → length (propertyLine stream n row) ≤ longestProperty

@@ -7,7 +7,7 @@ use Rattle.rules.specs.Digits.{decimal, hex}
 use Rattle.rules.specs.NameTables.{controlTypeNames}
 use Rattle.rules.specs.Names.{nameIn, namesFor}
 use Rattle.rules.specs.Reading.{propertyRow}
-use Rattle.rules.specs.Listing.{answerLine, orDash, word, nameColumn, controlLine, propertyLine}
+use Rattle.rules.specs.Listing.{answerLine, orDash, word, nameColumn, parentColumn, controlLine, propertyLine}
 use Rattle.rules.specs.declared.Answer.{Answer}
 use Rattle.rules.specs.declared.Property.{Property}
 use Rattle.text.specs.Writer.{Wrote}
@@ -22,7 +22,8 @@ pub control-text : (n : ℕ) (row : List ℕ) → controlLine n row
     ++ (text " " ++ (nameColumn (word row 1) (word row 3)
     ++ (text " " ++ (decimal (word row 4)
     ++ (text " " ++ (decimal (word row 5)
-    ++ text "\n")))))))
+    ++ (text " " ++ ((decimal (word row 6) ++ (text " " ++ parentColumn (word row 7)))
+    ++ text "\n")))))))))
 unfolding controlLine
 control-text n row = simp append-assoc
 
@@ -47,17 +48,19 @@ unfolding answerLine
 answer-wrote a w1 w2 w3 w4 w5 w6 w7 w8 w9 w10 = w1 ⨟ w2 ⨟ w3 ⨟ w4 ⨟ w5 ⨟ w6 ⨟ w7 ⨟ w8 ⨟ w9 ⨟ w10
 
 module _ (n : ℕ) (row : List ℕ) where
-  pub control-wrote : {o b1 b2 b3 b4 b5 b6 b7 b8 new : List ℕ} {at p1 p2 p3 p4 p5 p6 p7 p8 e : ℕ} {r : ControlRow}
+  pub control-wrote : {o b1 b2 b3 b4 b5 b6 b7 b8 b9 b10 new : List ℕ} {at p1 p2 p3 p4 p5 p6 p7 p8 p9 p10 e : ℕ} {r : ControlRow}
       → ControlOf row r
       → Wrote o at (fields (text "C" ∷ decimal n ∷ hex 4 (r .«type_code») ∷ [])) b1 p1
       → Wrote b1 p1 (orDash (nameIn controlTypeNames (r .«type_code»))) b2 p2
       → Wrote b2 p2 (text " ") b3 p3 → Wrote b3 p3 (nameColumn (r .mark) (r .size)) b4 p4
       → Wrote b4 p4 (text " ") b5 p5 → Wrote b5 p5 (decimal (r .first)) b6 p6
       → Wrote b6 p6 (text " ") b7 p7 → Wrote b7 p7 (decimal (r .count)) b8 p8
-      → Wrote b8 p8 (text "\n") new e
+      → Wrote b8 p8 (text " ") b9 p9 → Wrote b9 p9 (decimal (r .level) ++ (text " " ++ parentColumn (r .parent))) b10 p10
+      → Wrote b10 p10 (text "\n") new e
       → Wrote o at (controlLine n row) new e
-  control-wrote h w1 w2 w3 w4 w5 w6 w7 w8 w9 =
-      rw (control-text n row) (rw (h .type-code, h .mark, h .size, h .first, h .count) at (w1 ⨟ w2 ⨟ w3 ⨟ w4 ⨟ w5 ⨟ w6 ⨟ w7 ⨟ w8 ⨟ w9))
+  control-wrote h w1 w2 w3 w4 w5 w6 w7 w8 w9 w10 w11 =
+      rw (control-text n row)
+      (rw (h .type-code, h .mark, h .size, h .first, h .count, h .level, h .parent) at (w1 ⨟ w2 ⨟ w3 ⨟ w4 ⨟ w5 ⨟ w6 ⨟ w7 ⨟ w8 ⨟ w9 ⨟ w10 ⨟ w11))
 
   shown-of : (stream : List ℕ) {p : Property} → PropertyOf row p → shownFields stream (propertyRow p) ≡ shownFields stream row
   unfolding shownFields

@@ -33,11 +33,15 @@ abbrev pub longestAnswer : ℕ
 longestAnswer = 6 + 1 + 4 * (longestNumber + 1)
 
 abbrev pub longestControl : ℕ
-longestControl = 1 + 1 + (longestNumber + 1) + (4 + 1) + (longestType + 1) + 3 * (longestNumber + 1)
+longestControl = 1 + 1 + (longestNumber + 1) + (4 + 1) + (longestType + 1) + 5 * (longestNumber + 1)
 
 abbrev pub longestProperty : ℕ
 longestProperty = 1 + 1 + (longestNumber + 1) + (4 + 1) + (longestName + 1) + (longestWord + 1) + (longestValue + 1)
 
--- ---- the whole: 1,281 lines
+-- ---- the whole, with so many controls and properties
+abbrev pub longestLines : ℕ → ℕ → ℕ
+longestLines controls properties = longestAnswer + (controls * longestControl + properties * longestProperty)
+
+-- in the room of document 01's program
 unfoldable pub longestListing : ℕ
-longestListing = longestAnswer + (256 * longestControl + 1024 * longestProperty)
+longestListing = longestLines 256 1024

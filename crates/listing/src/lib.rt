@@ -2,6 +2,7 @@
 use fields::put_chars;
 use fields::put_end;
 use fields::put_head;
+use fields::put_nesting;
 use fields::put_shown;
 use fields::put_type_name;
 use fields::put_value_name;
@@ -75,6 +76,8 @@ fn control_line(
     let p = put_decimal(out, p, row.first);
     let p = put_byte(out, p, b' ');
     let p = put_decimal(out, p, row.count);
+    let p = put_byte(out, p, b' ');
+    let p = put_nesting(out, p, row.level, row.parent);
     put_end(out, p)
 }
 

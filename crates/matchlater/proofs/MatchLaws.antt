@@ -10,7 +10,7 @@ use lib.ListN.{length}
 use borrow.Author.Tests.{lt-leb, leb-true, ltb-true, ltb-false, eqb-true}
 use Rattle.rules.specs.Lists.{keep}
 use Rattle.rules.specs.Bytes.{byte, u16, u32}
-use Rattle.rules.specs.Tree.{Node, node}
+use Rattle.rules.specs.Tree.{Node, noParent, nodeIn}
 use Rattle.rules.specs.Later.{Prop, groupAt, matchAt, matchesOf, matchesFrom, groupsOf, isEmpty, scanFrom}
 use Rattle.rules.proofs.ListLaws.{and-l, and-r}
 use Rattle.matchlater.specs.Match.{ruledOut, noneOf, NextMatch}
@@ -103,23 +103,26 @@ groups-next s a b w m = go (ltb b (length s)) refl
         let z : length s ≡ b = omega arith in
         rw (match-end s b h, z)
 
+abbrev pub scannedNode : List Prop → Node Prop
+scannedNode qs = nodeIn 0 noParent 0 qs
+
 -- "reported with type 0 unless it has no property"
 abbrev pub shown : List Prop → List (Node Prop)
-shown qs = cond (not (isEmpty qs)) (node 0 qs ∷ []) []
+shown qs = cond (not (isEmpty qs)) (scannedNode qs ∷ []) []
 
-keep-shown : (qs : List Prop) (r : List (List Prop)) → map (node 0) (keep (λ qs. not (isEmpty qs)) (qs ∷ r)) ≡ shown qs ++ map (node 0) (keep (λ qs. not (isEmpty qs)) r)
+keep-shown : (qs : List Prop) (r : List (List Prop)) → map scannedNode (keep (λ qs. not (isEmpty qs)) (qs ∷ r)) ≡ shown qs ++ map scannedNode (keep (λ qs. not (isEmpty qs)) r)
 unfolding keep
 keep-shown [] r = refl
 keep-shown (q ∷ qs) r = refl
 
 pub scan-same : (s : List ℕ) (p r : ℕ) → NextMatch s p r → scanFrom s p ≡ scanFrom s r
 unfolding scanFrom
-scan-same s p r n = ap (λ ms. map (node 0) (keep (λ qs. not (isEmpty qs)) (groupsOf s ms))) (n .same)
+scan-same s p r n = ap (λ ms. map scannedNode (keep (λ qs. not (isEmpty qs)) (groupsOf s ms))) (n .same)
 
 pub scan-step : (s : List ℕ) (a b : ℕ) → matchAt s a ≡ true → NextMatch s (a + 6) b → scanFrom s a ≡ shown (groupAt s b a .props) ++ scanFrom s b
 unfolding scanFrom
 scan-step s a b t n =
-    ap (λ gs. map (node 0) (keep (λ qs. not (isEmpty qs)) gs))
+    ap (λ gs. map scannedNode (keep (λ qs. not (isEmpty qs)) gs))
     (ap (groupsOf s) (match-here s a t ∙ ap (λ ms. a ∷ ms) (n .same)) ∙ groups-next s a b (n .within) (n .here))
     ∙ keep-shown (groupAt s b a .props) (groupsOf s (matchesFrom s b))
 

@@ -12,9 +12,9 @@ use Rattle.rules.specs.Lists.{_>>=_}
 use Rattle.rules.specs.Bytes.{byte, u16, byteAt, halfAt}
 use Rattle.rules.specs.Answer.{longest}
 use Rattle.rules.specs.CodeTable.{header}
-use Rattle.rules.specs.Tree.{Node, node}
+use Rattle.rules.specs.Tree.{Node, nodeIn}
 use Rattle.rules.specs.Access2000.{Prop, runAt}
-use Rattle.rules.specs.Reading.{nameWords, controlRow}
+use Rattle.rules.specs.Reading.{Control, nameWords, controlRow}
 use Rattle.rules.specs.Rows.{controlWidth}
 use Rattle.rules.specs.Read2000.{propertyIn, typeCode, isReport, nameId, nameOf, controlOf}
 use Rattle.rules.proofs.ListLaws.{Every, every-if, every-then}
@@ -22,6 +22,7 @@ use Rattle.rows.specs.Put.{put}
 use Rattle.rows.specs.Writing.{State, state, theirs, writeProperties}
 use Rattle.rows.specs.Acts.{Held, Fit, stateAt}
 use Rattle.rows.specs.declared.Next.{Next}
+use Rattle.rows.specs.declared.Nesting.{Nesting}
 use Rattle.rows.proofs.ActLaws.{at-place}
 use Rattle.rows.proofs.WritingLaws.{theirs-one, write-one}
 use Rattle.coderows.specs.Look.{Finds, bodyRows}
@@ -45,26 +46,30 @@ half-is s p =
     (ap₂ (λ a b. a + 256 * b) (h .0) (k .0), k .1)
 
 -- ---- the parts of a node
-pub record NodeParts (t s : List ℕ) (p : ℕ) (st : State) : Type 0 where
+-- a node where it stands in the tree
+abbrev placed : Nesting → ℕ → List Prop → Node Prop
+placed nesting type props = nodeIn (nesting .level) (nesting .parent) type props
+
+pub record NodeParts (nesting : Nesting) (t s : List ℕ) (p : ℕ) (st : State) : Type 0 where
   pub inside : p + 1 < length s
   pub props : List Prop
   pub end : ℕ
   pub run : runAt s (p + 2) ≡ some (props, end)
-  pub is : nodeAt s p ≡ some (node (u16 s p) props ∷ [], end)
-  pub fit : Fit (controlOf t s (node (u16 s p) props) ∷ []) st
+  pub is : nodeAt nesting s p ≡ some (placed nesting (u16 s p) props ∷ [], end)
+  pub fit : Fit (controlOf t s (placed nesting (u16 s p) props) ∷ []) st
 
-module _ {t scopes s controls rows : List ℕ} {from : Next} (h : NodeReady t scopes s controls rows from) where
+module _ {t scopes s controls rows : List ℕ} {from : Next} {nesting : Nesting} (h : NodeReady t scopes s controls rows from nesting) where
   abbrev at : ℕ
   at = from .at
 
-  parts : NodeParts t s at (stateAt controls rows from)
+  parts : NodeParts nesting t s at (stateAt controls rows from)
   unfolding nodeAt
   parts = go (halfAt s at) (runAt s (at + 2)) (half-is s at) refl refl (h .ready .fits)
     where
       go : (a : Option ℕ) (b : Option (List Prop × ℕ)) → Every (λ n. (n ≡ u16 s at) × (at + 1 < length s)) a → runAt s (at + 2) ≡ b
-          → nodeAt s at ≡ (a >>= λ type. b >>= λ x. some (node type (x .0) ∷ [], x .1))
-          → Held {A = List (Node Prop) × ℕ} (λ x. Fit (map (controlOf t s) (x .0)) (stateAt controls rows from)) (a >>= λ type. b >>= λ x. some (node type (x .0) ∷ [], x .1))
-          → NodeParts t s at (stateAt controls rows from)
+          → nodeAt nesting s at ≡ (a >>= λ type. b >>= λ x. some (placed nesting type (x .0) ∷ [], x .1))
+          → Held {A = List (Node Prop) × ℕ} (λ x. Fit (map (controlOf t s) (x .0)) (stateAt controls rows from)) (a >>= λ type. b >>= λ x. some (placed nesting type (x .0) ∷ [], x .1))
+          → NodeParts nesting t s at (stateAt controls rows from)
       go none b e r n f = absurd f
       go (some type) none e r n f = absurd f
       go (some type) (some x) e r n f = record {
@@ -72,13 +77,17 @@ module _ {t scopes s controls rows : List ℕ} {from : Next} (h : NodeReady t sc
         props = x .0;
         end = x .1;
         run = r;
-        is = n ∙ ap (λ k. some (node k (x .0) ∷ [], x .1)) (e .0);
+        is = n ∙ ap (λ k. some (placed nesting k (x .0) ∷ [], x .1)) (e .0);
         fit = rw (e .0) at f;
       }
 
-  theirs-many : length (theirs (controlOf t s (node (u16 s at) (parts .props)) ∷ [])) ≡ length (parts .props)
+  -- its control
+  abbrev its : Control
+  its = controlOf t s (placed nesting (u16 s at) (parts .props))
+
+  theirs-many : length (theirs (its ∷ [])) ≡ length (parts .props)
   unfolding controlOf
-  theirs-many = ap length (theirs-one (controlOf t s (node (u16 s at) (parts .props)))) ∙ simp length-map
+  theirs-many = ap length (theirs-one its) ∙ simp length-map
 
   pub node-inside : at + 1 < length s
   node-inside = parts .inside
@@ -107,20 +116,20 @@ module _ {t scopes s controls rows : List ℕ} {from : Next} (h : NodeReady t sc
       node-rows = omega (arith, ran-run .row-is, parts .fit .few, theirs-many)
 
       pub node-done : {report : Bool} {code : ℕ} {words controls′ : List ℕ} → report ≡ isReport s → code ≡ typeCode (header t) report type
-          → words ≡ code ∷ nameWords (from .control) (own .name) ++ (from .property ∷ (own .row - from .property) ∷ []) → controls′ ≡ put controlWidth controls (from .control) (words ∷ [])
-          → NodeDone t s controls rows from controls′ rows′ (record { at = own .at; control = from .control + 1; property = own .row })
+          → words ≡ code ∷ nameWords (from .control) (own .name) ++ (from .property ∷ (own .row - from .property) ∷ nesting .level ∷ nesting .parent ∷ []) → controls′ ≡ put controlWidth controls (from .control) (words ∷ [])
+          → NodeDone t s controls rows from nesting controls′ rows′ (record { at = own .at; control = from .control + 1; property = own .row })
       unfolding controlOf controlRow nameOf
       node-done {report = report} {code = code} {words = words} {controls′ = controls′} re ce we xe =
           let ci = from .control in
           let pi = from .property in
-          let c = controlOf t s (node (u16 s at) (parts .props)) in
+          let c = its in
           let f : shownIn (bodyRows t body) s ≡ propertyIn t s (record { kind = 2; code = u16 s at }) = shown-same t s 2 type body (h .ready .known .formed) be ∙ ap (λ k. propertyIn t s (record { kind = 2; code = k })) te in
           let n : own .name ≡ c .name = done .name-is ∙ ap (λ k. nameIn s k (runAt s (at + 2))) ie ∙ (λ i. nameIn s (nameId (te i)) (parts .run i)) in
           let d : code ≡ c .type = ce ∙ (λ i. typeCode (header t) (re i) (te i)) in
           let l : length (c .properties) ≡ length (parts .props) = simp length-map in
           let m : own .row - pi ≡ length (c .properties) = omega (arith, ran-run .row-is, l) in
           let r : own .row ≡ pi + length (c .properties) = omega (arith, ran-run .row-is, l) in
-          let w : words ≡ controlRow ci pi c = we ∙ (λ i. d i ∷ nameWords ci (n i) ++ (pi ∷ m i ∷ [])) in
+          let w : words ≡ controlRow ci pi c = we ∙ (λ i. d i ∷ nameWords ci (n i) ++ (pi ∷ m i ∷ nesting .level ∷ nesting .parent ∷ [])) in
           let x : controls′ ≡ put controlWidth controls ci (controlRow ci pi c ∷ []) = xe ∙ ap (λ z. put controlWidth controls ci (z ∷ [])) w in
           let y : rows′ ≡ writeProperties (c .properties) rows pi = ran-run .rows ∙ ap (λ g. writeProperties (map g (parts .props)) rows pi) f in
           let e : own .at ≡ parts .end = ran-run .next-is in

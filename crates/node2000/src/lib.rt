@@ -5,6 +5,7 @@ use coderows::SCOPE_LIST_WORDS;
 use codetable::is_header;
 use numbers::byte_at;
 use numbers::u16_at;
+use rows::Nesting;
 use rows::Next;
 use rows::control_row;
 use rows::is_section;
@@ -73,9 +74,10 @@ pub fn put_node(
     controls: &mut [u32],
     rows: &mut [u32],
     from: Next,
+    nesting: Nesting,
 ) -> Next
-    requires { ⌜ nodes.NodeReady (now table) (now scopes) (now s) (now controls) (now rows) from ⌝ }
-    ensures { λ r. ⌜ nodes.NodeDone (now (table .entry)) (now (s .entry)) (now (controls .entry)) (now (rows .entry)) from (now (controls .exit)) (now (rows .exit)) r ⌝ }
+    requires { ⌜ nodes.NodeReady (now table) (now scopes) (now s) (now controls) (now rows) from nesting ⌝ }
+    ensures { λ r. ⌜ nodes.NodeDone (now (table .entry)) (now (s .entry)) (now (controls .entry)) (now (rows .entry)) from nesting (now (controls .exit)) (now (rows .exit)) r ⌝ }
 {
     let at = from.at;
     let n = from.control;
@@ -95,7 +97,14 @@ pub fn put_node(
     let next = own.row;
     let name = own.name;
     let code = type_code(table, is_report(s), entry_type);
-    let row = control_row(code, name, n as u32, first as u32, (next - first) as u32);
+    let row = control_row(
+        code,
+        name,
+        n as u32,
+        first as u32,
+        (next - first) as u32,
+        nesting,
+    );
     let below = n + 1;
     put_control(controls, n, row);
     Next {

@@ -1,6 +1,7 @@
 // Replays a batch file of cases from standard input and prints what each gives; compare/README.md has both formats.
 mod lines; // lines.rt: the lines that are printed
 
+use bloblines::LONGEST_LISTING;
 use libc::STDIN_FILENO;
 use libc::STDOUT_FILENO;
 use lines::behind;
@@ -229,6 +230,6 @@ fn replay(codes: &mut [u8], input: &mut [u8], out: &mut [u8]) {
 fn main() {
     let mut codes = [0u8; 32768];
     let mut input = [0u8; 32768];
-    let mut out = [0u8; 114739];
+    let mut out = [0u8; LONGEST_LISTING];
     replay(&mut codes, &mut input, &mut out);
 }

@@ -1,10 +1,10 @@
 -- What is counted of a tree is what its nodes in output order have, and what a reading made of them by `map` has.
-use Prim.Native.Nat.{_+_}
+use Prim.Native.Nat.{ℕ, suc, _+_}
 use native.Mathlib.Omega.{arith}
 use mathlib.Core.Path.{_≡_, refl, _∙_}
 use mathlib.Core.List.{List, [], _∷_, _++_, map}
 use lib.ListN.{length, length-append}
-use Rattle.rules.specs.Tree.{Entry, plain, parent, Entries, end, more, Node, preorder1, preorder}
+use Rattle.rules.specs.Tree.{Entry, plain, parent, Entries, end, more, Node, noParent, reported, preorder1, preorder, nodesOf}
 use Rattle.rules.specs.Reading.{Control}
 use Rattle.rows.specs.Counting.{size1, size, props1, props, propsIn}
 use Rattle.rows.specs.Writing.{theirs}
@@ -12,13 +12,15 @@ use Rattle.rows.specs.Writing.{theirs}
 mutual
   unfolding preorder1 preorder
 
-  pub nodes1 : {P : Type 0} (e : Entry P) → length (preorder1 e) ≡ size1 e
-  nodes1 (plain t ps) = refl
-  nodes1 (parent t ps es) = omega (arith, nodes es)
+  nodes1 : {P : Type 0} (level up n : ℕ) (e : Entry P) → length (preorder1 level up n e) ≡ size1 e
+  nodes1 level up n (plain t ps) = refl
+  nodes1 level up n (parent t ps es) = omega (arith, nodes (suc level) n (suc n) es)
 
-  pub nodes : {P : Type 0} (es : Entries P) → length (preorder es) ≡ size es
-  nodes end = refl
-  nodes (more e es) = length-append (preorder1 e) (preorder es) ∙ omega (arith, nodes1 e, nodes es)
+  nodes : {P : Type 0} (level up n : ℕ) (es : Entries P) → length (preorder level up n es) ≡ size es
+  nodes level up n end = refl
+  nodes level up n (more e es) =
+      let these = preorder1 level up n e in
+      length-append these _ ∙ omega (arith, nodes1 level up n e, nodes level up (n + length these) es)
 
 pub in-append : {P : Type 0} (a b : List (Node P)) → propsIn (a ++ b) ≡ propsIn a + propsIn b
 unfolding propsIn
@@ -28,13 +30,24 @@ in-append (n ∷ a) b = omega (arith, in-append a b)
 mutual
   unfolding preorder1 preorder propsIn
 
-  pub in1 : {P : Type 0} (e : Entry P) → propsIn (preorder1 e) ≡ props1 e
-  in1 (plain t ps) = omega arith
-  in1 (parent t ps es) = omega (arith, in-all es)
+  in1 : {P : Type 0} (level up n : ℕ) (e : Entry P) → propsIn (preorder1 level up n e) ≡ props1 e
+  in1 level up n (plain t ps) = omega arith
+  in1 level up n (parent t ps es) = omega (arith, in-all (suc level) n (suc n) es)
 
-  pub in-all : {P : Type 0} (es : Entries P) → propsIn (preorder es) ≡ props es
-  in-all end = refl
-  in-all (more e es) = in-append (preorder1 e) (preorder es) ∙ omega (arith, in1 e, in-all es)
+  in-all : {P : Type 0} (level up n : ℕ) (es : Entries P) → propsIn (preorder level up n es) ≡ props es
+  in-all level up n end = refl
+  in-all level up n (more e es) =
+      let these = preorder1 level up n e in
+      in-append these _ ∙ omega (arith, in1 level up n e, in-all level up (n + length these) es)
+
+-- of what is reported
+pub nodes-of : {P : Type 0} (es : Entries P) → length (nodesOf es) ≡ size (reported es)
+unfolding nodesOf
+nodes-of es = nodes 0 noParent 0 (reported es)
+
+pub props-of : {P : Type 0} (es : Entries P) → propsIn (nodesOf es) ≡ props (reported es)
+unfolding nodesOf
+props-of es = in-all 0 noParent 0 (reported es)
 
 -- a reading that gives each node a control with as many properties
 module _ {P : Type 0} (controlOf : Node P → Control) (same : (n : Node P) → length (controlOf n .properties) ≡ length (n .props)) where

@@ -14,6 +14,8 @@ pub record ControlOf (row : List ℕ) (r : ControlRow) : Type 0 where
   pub size : r .size ≡ word row 3
   pub first : r .first ≡ word row 4
   pub count : r .count ≡ word row 5
+  pub level : r .level ≡ word row 6
+  pub parent : r .parent ≡ word row 7
 
 pub record PropertyOf (row : List ℕ) (p : Property) : Type 0 where
   pub id : p .id ≡ word row 0

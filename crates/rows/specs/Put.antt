@@ -11,7 +11,7 @@ unfoldable pub put : ℕ → List ℕ → ℕ → List (List ℕ) → List ℕ
 put w l k rows = sets l (k * w) (concat rows)
 
 abbrev pub controlWords : ControlRow → List ℕ
-controlWords r = r .«type_code» ∷ r .mark ∷ r .start ∷ r .size ∷ r .first ∷ r .count ∷ []
+controlWords r = r .«type_code» ∷ r .mark ∷ r .start ∷ r .size ∷ r .first ∷ r .count ∷ r .level ∷ r .parent ∷ []
 
 abbrev pub infoWords : InfoRow → List ℕ
 infoWords r = r .«type_code» ∷ r .index ∷ r .start ∷ r .size ∷ r .cut ∷ []

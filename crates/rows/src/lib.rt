@@ -21,13 +21,16 @@ ghost use Rattle.rows.specs.Get.{ControlOf, PropertyOf, InfoOf};
 ghost use Rattle.rows.specs.Judge.{Answerable, Judged};
 
 // How many words a control's row has.
-pub const CONTROL_WIDTH: usize = 6;
+pub const CONTROL_WIDTH: usize = 8;
 
 // The same of a property's row.
 pub const PROPERTY_WIDTH: usize = 6;
 
 // The same of a TypeInfo row.
 pub const INFO_WIDTH: usize = 5;
+
+// The parent's row of a control that has no parent.
+pub const NO_PARENT: u32 = 0xFFFFFFFF;
 
 // The types of sections.
 const FIRST_SECTION: usize = 0x98;
@@ -47,6 +50,14 @@ pub struct ControlRow {
     pub size: u32,
     pub first: u32,
     pub count: u32,
+    pub level: u32,
+    pub parent: u32,
+}
+
+// Where a control stands in the tree: its level below the reported top entry, and its parent's row.
+pub struct Nesting {
+    pub level: u32,
+    pub parent: u32,
 }
 
 // The words of a TypeInfo row.
@@ -76,9 +87,18 @@ pub struct Next {
 }
 
 // A control's row: it is control `n` of the output, and its `count` property rows begin at row `first`.
-pub fn control_row(type_code: u32, name: Name, n: u32, first: u32, count: u32) -> ControlRow
-    ensures { λ r. ⌜ controlWords r ≡ «type_code» ∷ nameWords n name ++ (first ∷ count ∷ []) ⌝ }
+pub fn control_row(
+    type_code: u32,
+    name: Name,
+    n: u32,
+    first: u32,
+    count: u32,
+    nesting: Nesting,
+) -> ControlRow
+    ensures { λ r. ⌜ controlWords r ≡ «type_code» ∷ nameWords n name ++ (first ∷ count ∷ nesting .level ∷ nesting .parent ∷ []) ⌝ }
 {
+    let level = nesting.level;
+    let parent = nesting.parent;
     match name {
         Name::Text { start, size } => ControlRow {
             type_code,
@@ -87,6 +107,8 @@ pub fn control_row(type_code: u32, name: Name, n: u32, first: u32, count: u32) -
             size,
             first,
             count,
+            level,
+            parent,
         },
         Name::Numbered => ControlRow {
             type_code,
@@ -95,6 +117,8 @@ pub fn control_row(type_code: u32, name: Name, n: u32, first: u32, count: u32) -
             size: label_length(n),
             first,
             count,
+            level,
+            parent,
         },
         Name::Loose { start, size } => ControlRow {
             type_code,
@@ -103,6 +127,8 @@ pub fn control_row(type_code: u32, name: Name, n: u32, first: u32, count: u32) -
             size,
             first,
             count,
+            level,
+            parent,
         },
     }
 }
@@ -126,6 +152,8 @@ pub fn put_control(rows: &mut [u32], at: usize, row: ControlRow)
     rows[k + 3] = row.size;
     rows[k + 4] = row.first;
     rows[k + 5] = row.count;
+    rows[k + 6] = row.level;
+    rows[k + 7] = row.parent;
 }
 
 // Writes row `at` of the property rows.
@@ -175,6 +203,8 @@ pub fn get_control(rows: &[u32], n: u32) -> ControlRow
         size: word_at(rows, k + 3),
         first: word_at(rows, k + 4),
         count: word_at(rows, k + 5),
+        level: word_at(rows, k + 6),
+        parent: word_at(rows, k + 7),
     }
 }
 

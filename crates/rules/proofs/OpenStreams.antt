@@ -1,6 +1,6 @@
 -- Both layouts of a Blob: to a tree or a scan, to a reading, to its answer and rows.
 use Prim.Native.Nat.{ℕ}
-use Rattle.rules.specs.Tree.{manyAt, levelsAt, reported, preorder, nodesOf}
+use Rattle.rules.specs.Tree.{manyAt, levelsAt, reported, preorder1, preorder, nodesOf}
 use Rattle.rules.specs.Access2000 as old
 use Rattle.rules.specs.Later as new
 use Rattle.rules.specs.Reading.{properties, controlRow, controlRowsFrom, controlRows, propertyRows}
@@ -12,7 +12,7 @@ use Rattle.rules.proofs.OpenTexts.{texts-open}
 use Rattle.rules.proofs.OpenTables.{tables-open}
 
 unfoldable pub trees-open : ℕ
-unfolding manyAt levelsAt reported preorder nodesOf old.lengthAt old.extentAt old.propertyAt old.goesOn old.runOf old.runAt old.headAt old.closeAt old.entryAt old.entriesAt old.streamOf new.propertyAt new.isInside new.groupOf new.groupAt new.childrenAt new.nodeAt new.nodesAt new.treeOf new.matchAt new.matchesOf new.matchesFrom new.groupsOf new.scanFrom new.laterOf
+unfolding manyAt levelsAt reported preorder1 preorder nodesOf old.lengthAt old.extentAt old.propertyAt old.goesOn old.runOf old.runAt old.headAt old.closeAt old.entryAt old.entriesAt old.streamOf new.propertyAt new.isInside new.groupOf new.groupAt new.childrenAt new.nodeAt new.nodesAt new.treeOf new.matchAt new.matchesOf new.matchesFrom new.groupsOf new.scanFrom new.laterOf
 trees-open = 0
 
 unfoldable pub readings-open : ℕ

@@ -7,7 +7,7 @@ use mathlib.Core.Option.{none, some}
 use lib.ListN.{take, drop, replicate}
 use Rattle.rules.specs.Lists.{concat}
 use Rattle.rules.specs.Answer.{answer, refusal}
-use Rattle.rules.specs.Tree.{end}
+use Rattle.rules.specs.Tree.{end, noParent}
 use Rattle.rules.specs.Access2000.{lengthAt, extentAt, propertyAt, goesOn, runAt, headAt, streamOf}
 use Rattle.rules.specs.Read2000.{Spot}
 use Rattle.rules.specs.Blob.{exit, spots}
@@ -60,10 +60,10 @@ report =
     ++ dump "DC 02 44 00"  -- the second doesn't count
     ++ dump "FF 00 00"  -- an empty list: reported
 
-pub a-report : exit reportTable report (replicate 13 old) (replicate 133 old) ≡ record {
+pub a-report : exit reportTable report (replicate 17 old) (replicate 133 old) ≡ record {
   answer = answer 0 2 22 2;
-  controls = 0x1999 ∷ 0 ∷ 42 ∷ 2 ∷ 2 ∷ 17
-      ∷ 0x66 ∷ 1 ∷ 1 ∷ 9 ∷ 19 ∷ 3
+  controls = 0x1999 ∷ 0 ∷ 42 ∷ 2 ∷ 2 ∷ 17 ∷ 0 ∷ noParent
+      ∷ 0x66 ∷ 1 ∷ 1 ∷ 9 ∷ 19 ∷ 3 ∷ 0 ∷ noParent
       ∷ old ∷ [];
   properties = 0x101 ∷ 5 ∷ 0 ∷ 0 ∷ 12 ∷ 16
       ∷ 0x8001 ∷ 1 ∷ 0 ∷ 0 ∷ 29 ∷ 0
@@ -121,15 +121,15 @@ form =
     ++ dump "9F 00 FD"  -- 0x9F is none: not reported
     ++ dump "99 18 FF 00 00"  -- 0x1899 with an empty list
 
-pub a-form : exit formTable form (replicate 47 old) (replicate 49 old) ≡ record {
+pub a-form : exit formTable form (replicate 61 old) (replicate 49 old) ≡ record {
   answer = answer 0 7 7 2;
-  controls = 0x98 ∷ 1 ∷ 0 ∷ 9 ∷ 2 ∷ 0
-      ∷ 0x6D ∷ 1 ∷ 1 ∷ 9 ∷ 2 ∷ 1
-      ∷ 0x6E ∷ 0 ∷ 35 ∷ 2 ∷ 3 ∷ 1
-      ∷ 0x6F ∷ 0 ∷ 42 ∷ 4 ∷ 4 ∷ 1
-      ∷ 0x1899 ∷ 0 ∷ 51 ∷ 0 ∷ 5 ∷ 1
-      ∷ 0x9E ∷ 1 ∷ 5 ∷ 9 ∷ 6 ∷ 1
-      ∷ 0x1899 ∷ 1 ∷ 6 ∷ 9 ∷ 7 ∷ 0
+  controls = 0x98 ∷ 1 ∷ 0 ∷ 9 ∷ 2 ∷ 0 ∷ 0 ∷ noParent
+      ∷ 0x6D ∷ 1 ∷ 1 ∷ 9 ∷ 2 ∷ 1 ∷ 1 ∷ 0
+      ∷ 0x6E ∷ 0 ∷ 35 ∷ 2 ∷ 3 ∷ 1 ∷ 2 ∷ 1
+      ∷ 0x6F ∷ 0 ∷ 42 ∷ 4 ∷ 4 ∷ 1 ∷ 1 ∷ 0
+      ∷ 0x1899 ∷ 0 ∷ 51 ∷ 0 ∷ 5 ∷ 1 ∷ 0 ∷ noParent
+      ∷ 0x9E ∷ 1 ∷ 5 ∷ 9 ∷ 6 ∷ 1 ∷ 0 ∷ noParent
+      ∷ 0x1899 ∷ 1 ∷ 6 ∷ 9 ∷ 7 ∷ 0 ∷ 0 ∷ noParent
       ∷ old ∷ old ∷ old ∷ old ∷ old ∷ [];
   properties = 0x2D ∷ 2 ∷ 1 ∷ 0 ∷ 11 ∷ 1
       ∷ 0x9C ∷ 6 ∷ 0 ∷ 0 ∷ 14 ∷ 2
@@ -175,15 +175,15 @@ scopeEntries =
 abbrev scopesOfForm : List ℕ
 scopesOfForm = dump "31  97 97 97 97 97 97 97  96 97" ++ scopeEntries  -- byte 8 alone says that it is no report
 
-pub form-scopes : exit scopeTable scopesOfForm (replicate 42 old) (replicate 66 old) ≡ record {
+pub form-scopes : exit scopeTable scopesOfForm (replicate 56 old) (replicate 66 old) ≡ record {
   answer = answer 0 7 11 2;
-  controls = 0x1863 ∷ 1 ∷ 0 ∷ 9 ∷ 2 ∷ 1
-      ∷ 0x0163 ∷ 1 ∷ 1 ∷ 9 ∷ 3 ∷ 1
-      ∷ 0x7A63 ∷ 1 ∷ 2 ∷ 9 ∷ 4 ∷ 1
-      ∷ 0x0000 ∷ 1 ∷ 3 ∷ 9 ∷ 5 ∷ 1
-      ∷ 0x0198 ∷ 0 ∷ 55 ∷ 2 ∷ 6 ∷ 3
-      ∷ 0x189A ∷ 1 ∷ 5 ∷ 9 ∷ 9 ∷ 1
-      ∷ 0xFEFD ∷ 1 ∷ 6 ∷ 9 ∷ 10 ∷ 1 ∷ [];
+  controls = 0x1863 ∷ 1 ∷ 0 ∷ 9 ∷ 2 ∷ 1 ∷ 0 ∷ noParent
+      ∷ 0x0163 ∷ 1 ∷ 1 ∷ 9 ∷ 3 ∷ 1 ∷ 0 ∷ noParent
+      ∷ 0x7A63 ∷ 1 ∷ 2 ∷ 9 ∷ 4 ∷ 1 ∷ 0 ∷ noParent
+      ∷ 0x0000 ∷ 1 ∷ 3 ∷ 9 ∷ 5 ∷ 1 ∷ 0 ∷ noParent
+      ∷ 0x0198 ∷ 0 ∷ 55 ∷ 2 ∷ 6 ∷ 3 ∷ 0 ∷ noParent
+      ∷ 0x189A ∷ 1 ∷ 5 ∷ 9 ∷ 9 ∷ 1 ∷ 1 ∷ 4
+      ∷ 0xFEFD ∷ 1 ∷ 6 ∷ 9 ∷ 10 ∷ 1 ∷ 0 ∷ noParent ∷ [];
   properties = 0x10 ∷ 2 ∷ 1 ∷ 0 ∷ 11 ∷ 1
       ∷ 0x15 ∷ 2 ∷ 9 ∷ 0 ∷ 13 ∷ 1
       ∷ 0x13 ∷ 2 ∷ 2 ∷ 0 ∷ 20 ∷ 1
@@ -202,15 +202,15 @@ form-scopes = refl
 abbrev scopesOfReport : List ℕ
 scopesOfReport = dump "31  96 96 96 96 96 96 96  97 96" ++ scopeEntries  -- byte 8 alone says that it is a report
 
-pub report-scopes : exit scopeTable scopesOfReport (replicate 42 old) (replicate 66 old) ≡ record {
+pub report-scopes : exit scopeTable scopesOfReport (replicate 56 old) (replicate 66 old) ≡ record {
   answer = answer 0 7 11 2;
-  controls = 0x1963 ∷ 1 ∷ 0 ∷ 9 ∷ 2 ∷ 1
-      ∷ 0x0163 ∷ 1 ∷ 1 ∷ 9 ∷ 3 ∷ 1
-      ∷ 0x7B63 ∷ 1 ∷ 2 ∷ 9 ∷ 4 ∷ 1
-      ∷ 0x0000 ∷ 1 ∷ 3 ∷ 9 ∷ 5 ∷ 1
-      ∷ 0x0198 ∷ 0 ∷ 55 ∷ 2 ∷ 6 ∷ 3
-      ∷ 0x199A ∷ 1 ∷ 5 ∷ 9 ∷ 9 ∷ 1
-      ∷ 0xFEFD ∷ 1 ∷ 6 ∷ 9 ∷ 10 ∷ 1 ∷ [];
+  controls = 0x1963 ∷ 1 ∷ 0 ∷ 9 ∷ 2 ∷ 1 ∷ 0 ∷ noParent
+      ∷ 0x0163 ∷ 1 ∷ 1 ∷ 9 ∷ 3 ∷ 1 ∷ 0 ∷ noParent
+      ∷ 0x7B63 ∷ 1 ∷ 2 ∷ 9 ∷ 4 ∷ 1 ∷ 0 ∷ noParent
+      ∷ 0x0000 ∷ 1 ∷ 3 ∷ 9 ∷ 5 ∷ 1 ∷ 0 ∷ noParent
+      ∷ 0x0198 ∷ 0 ∷ 55 ∷ 2 ∷ 6 ∷ 3 ∷ 0 ∷ noParent
+      ∷ 0x199A ∷ 1 ∷ 5 ∷ 9 ∷ 9 ∷ 1 ∷ 1 ∷ 4
+      ∷ 0xFEFD ∷ 1 ∷ 6 ∷ 9 ∷ 10 ∷ 1 ∷ 0 ∷ noParent ∷ [];
   properties = 0x11 ∷ 2 ∷ 1 ∷ 0 ∷ 11 ∷ 1
       ∷ 0x8041 ∷ 2 ∷ 9 ∷ 0 ∷ 13 ∷ 1
       ∷ 0x13 ∷ 2 ∷ 2 ∷ 0 ∷ 20 ∷ 1
@@ -326,8 +326,8 @@ spots-of-report = (refl, refl)
 abbrev sections : List ℕ
 sections = head ++ dump "FF 0B 00" ++ concat (replicate 11 (dump "98 00 FD"))
 
-pub eleven : exit table sections (replicate 66 old) [] .controls
-    ≡ concat (map (λ n. 0x98 ∷ 1 ∷ n ∷ 9 ∷ 0 ∷ 0 ∷ []) (0 ∷ 1 ∷ 2 ∷ 3 ∷ 4 ∷ 5 ∷ 6 ∷ 7 ∷ 8 ∷ 9 ∷ [])) ++ (0x98 ∷ 1 ∷ 10 ∷ 10 ∷ 0 ∷ 0 ∷ [])
+pub eleven : exit table sections (replicate 88 old) [] .controls
+    ≡ concat (map (λ n. 0x98 ∷ 1 ∷ n ∷ 9 ∷ 0 ∷ 0 ∷ 0 ∷ noParent ∷ []) (0 ∷ 1 ∷ 2 ∷ 3 ∷ 4 ∷ 5 ∷ 6 ∷ 7 ∷ 8 ∷ 9 ∷ [])) ++ (0x98 ∷ 1 ∷ 10 ∷ 10 ∷ 0 ∷ 0 ∷ 0 ∷ noParent ∷ [])
 unfolding blob-open
 eleven = refl
 

@@ -52,12 +52,12 @@ pub refused-4-more : exit table blobAndMore [] [] .answer ≡ refusal 4
 unfolding blob-open
 refused-4-more = refl
 
--- 6 before 7: eleven words have room for one control; 17 have room for two properties
-pub refused-6 : exit table blob (replicate 11 old) [] ≡ record { answer = answer 6 2 3 1; controls = replicate 11 old; properties = [] }
+-- 6 before 7: fifteen words have room for one control; 17 have room for two properties
+pub refused-6 : exit table blob (replicate 15 old) [] ≡ record { answer = answer 6 2 3 1; controls = replicate 15 old; properties = [] }
 unfolding blob-open
 refused-6 = refl
 
-pub refused-7 : exit table blob (replicate 12 old) (replicate 17 old) ≡ record { answer = answer 7 2 3 1; controls = replicate 12 old; properties = replicate 17 old }
+pub refused-7 : exit table blob (replicate 16 old) (replicate 17 old) ≡ record { answer = answer 7 2 3 1; controls = replicate 16 old; properties = replicate 17 old }
 unfolding blob-open
 refused-7 = refl
 
@@ -82,9 +82,9 @@ pub reader-2000 :
     × (exit2000 table nothing [] [] .answer ≡ refusal 15)
     × (exit2000 leastTable nothing [] [] .answer ≡ refusal 15)
     × (exit2000 table firstByte [] [] .answer ≡ refusal 4)
-    × (exit2000 table blob (replicate 11 old) [] .answer ≡ answer 6 2 3 1)
-    × (exit2000 table blob (replicate 12 old) (replicate 17 old) .answer ≡ answer 7 2 3 1)
-    × (exit2000 table blob (replicate 12 old) (replicate 18 old) ≡ exit table blob (replicate 12 old) (replicate 18 old))
+    × (exit2000 table blob (replicate 15 old) [] .answer ≡ answer 6 2 3 1)
+    × (exit2000 table blob (replicate 16 old) (replicate 17 old) .answer ≡ answer 7 2 3 1)
+    × (exit2000 table blob (replicate 16 old) (replicate 18 old) ≡ exit table blob (replicate 16 old) (replicate 18 old))
 unfolding blob-open
 reader-2000 = (refl, refl, refl, refl, refl, refl, refl, refl)
 

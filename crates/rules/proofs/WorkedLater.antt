@@ -7,6 +7,7 @@ use mathlib.Core.Option.{Option, none, some}
 use lib.ListN.{replicate}
 use Rattle.rules.specs.Lists.{concat}
 use Rattle.rules.specs.Answer.{answer}
+use Rattle.rules.specs.Tree.{noParent}
 use Rattle.rules.specs.Later.{propertyAt, endAt, trailerAt, endsGroup, groupOf, matchAt, childrenAt, nodesAt}
 use Rattle.rules.specs.Blob.{exit}
 use Rattle.rules.specs.Dump.{dump}
@@ -47,13 +48,13 @@ tree =
     ++ dump "9E 00  01 02 03 04"  -- 0x9E
     ++ dump "05 00  01 00 00 00  AA AA AA AA  03 00 00 00  01 00 00  FF 00 00 00  00 00"  -- three bytes of type 0x01: Binary; count 0
 
-pub a-tree : exit table tree (replicate 31 old) (replicate 104 old) ≡ record {
+pub a-tree : exit table tree (replicate 41 old) (replicate 104 old) ≡ record {
   answer = answer 0 5 17 11;
-  controls = 0x98 ∷ 0 ∷ 279 ∷ 2 ∷ 11 ∷ 1
-      ∷ 0x6D ∷ 1 ∷ 1 ∷ 9 ∷ 12 ∷ 2
-      ∷ 0x65 ∷ 1 ∷ 2 ∷ 9 ∷ 14 ∷ 1
-      ∷ 0x66 ∷ 2 ∷ 400 ∷ 1 ∷ 15 ∷ 1
-      ∷ 0x9E ∷ 1 ∷ 4 ∷ 9 ∷ 16 ∷ 1
+  controls = 0x98 ∷ 0 ∷ 279 ∷ 2 ∷ 11 ∷ 1 ∷ 0 ∷ noParent
+      ∷ 0x6D ∷ 1 ∷ 1 ∷ 9 ∷ 12 ∷ 2 ∷ 1 ∷ 0
+      ∷ 0x65 ∷ 1 ∷ 2 ∷ 9 ∷ 14 ∷ 1 ∷ 0 ∷ noParent
+      ∷ 0x66 ∷ 2 ∷ 400 ∷ 1 ∷ 15 ∷ 1 ∷ 1 ∷ 2
+      ∷ 0x9E ∷ 1 ∷ 4 ∷ 9 ∷ 16 ∷ 1 ∷ 0 ∷ noParent
       ∷ old ∷ [];
   properties = 0x61 ∷ 0 ∷ 1 ∷ 0 ∷ 28 ∷ 1
       ∷ 0x1A ∷ 1 ∷ 0 ∷ 0 ∷ 47 ∷ 0
@@ -91,11 +92,11 @@ scanned =
     ++ dump "14 00  0A 00 00 00  AA AA AA AA  02 00 00 00  46 00  05 00 00 00"  -- a match: a name
     ++ dump "05 00  01 00 00 00  AA AA AA AA  00 00 00 00  14 00 0A 00"  -- a flag, whose trailer would be a match if it weren't cut off
 
-pub a-scan : exit table scanned (replicate 20 old) (replicate 103 old) ≡ record {
+pub a-scan : exit table scanned (replicate 26 old) (replicate 103 old) ≡ record {
   answer = answer 0 3 17 11;
-  controls = 0x0 ∷ 0 ∷ 273 ∷ 2 ∷ 11 ∷ 2
-      ∷ 0x0 ∷ 2 ∷ 313 ∷ 1 ∷ 13 ∷ 2
-      ∷ 0x0 ∷ 0 ∷ 379 ∷ 2 ∷ 15 ∷ 2
+  controls = 0x0 ∷ 0 ∷ 273 ∷ 2 ∷ 11 ∷ 2 ∷ 0 ∷ noParent
+      ∷ 0x0 ∷ 2 ∷ 313 ∷ 1 ∷ 13 ∷ 2 ∷ 0 ∷ noParent
+      ∷ 0x0 ∷ 0 ∷ 379 ∷ 2 ∷ 15 ∷ 2 ∷ 0 ∷ noParent
       ∷ old ∷ old ∷ [];
   properties = 0x61 ∷ 0 ∷ 1 ∷ 0 ∷ 28 ∷ 1
       ∷ 0x1A ∷ 1 ∷ 0 ∷ 0 ∷ 47 ∷ 0
@@ -132,10 +133,10 @@ wide =
     ++ dump "64 00  00 00 00 00"  -- 0x64
     ++ dump "05 00  05 00 00 00  AA AA AA AA  01 00 00 00  01  FD 00 00 00"  -- type 0x05 is Binary
 
-pub a-wide-tree : exit table wide (replicate 12 old) (replicate 36 old) ≡ record {
+pub a-wide-tree : exit table wide (replicate 16 old) (replicate 36 old) ≡ record {
   answer = answer 0 2 6 4;
-  controls = 0x198 ∷ 1 ∷ 0 ∷ 9 ∷ 4 ∷ 1
-      ∷ 0x64 ∷ 1 ∷ 1 ∷ 9 ∷ 5 ∷ 1 ∷ [];
+  controls = 0x198 ∷ 1 ∷ 0 ∷ 9 ∷ 4 ∷ 1 ∷ 0 ∷ noParent
+      ∷ 0x64 ∷ 1 ∷ 1 ∷ 9 ∷ 5 ∷ 1 ∷ 1 ∷ 0 ∷ [];
   properties = 0x114 ∷ 7 ∷ 0 ∷ 0 ∷ 28 ∷ 2
       ∷ 0x14 ∷ 7 ∷ 0 ∷ 0 ∷ 48 ∷ 256
       ∷ 5 ∷ 1 ∷ 0 ∷ 0 ∷ 322 ∷ 0
@@ -159,11 +160,11 @@ typeZero =
     ++ dump "65 00  01 02 03 04"  -- 0x65
     ++ dump "14 00  0C 00 00 00  AA AA AA AA  02 00 00 00  43 00  FD 00 00 00"  -- a name of type 0x0C
 
-pub type-zero : exit table typeZero (replicate 18 old) (replicate 30 old) ≡ record {
+pub type-zero : exit table typeZero (replicate 24 old) (replicate 30 old) ≡ record {
   answer = answer 0 3 5 1;
-  controls = 0 ∷ 0 ∷ 72 ∷ 0 ∷ 1 ∷ 2
-      ∷ 0x64 ∷ 1 ∷ 1 ∷ 9 ∷ 3 ∷ 1
-      ∷ 0x65 ∷ 0 ∷ 124 ∷ 2 ∷ 4 ∷ 1 ∷ [];
+  controls = 0 ∷ 0 ∷ 72 ∷ 0 ∷ 1 ∷ 2 ∷ 0 ∷ noParent
+      ∷ 0x64 ∷ 1 ∷ 1 ∷ 9 ∷ 3 ∷ 1 ∷ 1 ∷ 0
+      ∷ 0x65 ∷ 0 ∷ 124 ∷ 2 ∷ 4 ∷ 1 ∷ 1 ∷ 0 ∷ [];
   properties = 0x05 ∷ 1 ∷ 0 ∷ 0 ∷ 28 ∷ 0
       ∷ 0x11 ∷ 6 ∷ 0 ∷ 0 ∷ 52 ∷ 2
       ∷ 0x14 ∷ 6 ∷ 0 ∷ 0 ∷ 72 ∷ 0
@@ -237,16 +238,16 @@ byteMore =
     ++ dump "05 00  01 00 00 00  00 00 00 00  00 00 00 00  FD 00 00 00"  -- a flag; trailer 253
     ++ dump "00"
 
-pub scan-unfit : exit table unfit (replicate 6 old) (replicate 12 old) ≡ record {
+pub scan-unfit : exit table unfit (replicate 8 old) (replicate 12 old) ≡ record {
   answer = answer 0 1 2 1;
-  controls = 0 ∷ 0 ∷ 55 ∷ 2 ∷ 1 ∷ 1 ∷ [];
+  controls = 0 ∷ 0 ∷ 55 ∷ 2 ∷ 1 ∷ 1 ∷ 0 ∷ noParent ∷ [];
   properties = 7 ∷ 0 ∷ 1 ∷ 0 ∷ 28 ∷ 1
       ∷ 0x14 ∷ 6 ∷ 0 ∷ 0 ∷ 55 ∷ 2 ∷ [];
 }
 unfolding blob-open
 scan-unfit = refl
 
-pub scan-fewer : exit table fewer (replicate 6 old) (replicate 12 old) .controls ≡ 0 ∷ 0 ∷ 55 ∷ 2 ∷ 1 ∷ 1 ∷ []
+pub scan-fewer : exit table fewer (replicate 8 old) (replicate 12 old) .controls ≡ 0 ∷ 0 ∷ 55 ∷ 2 ∷ 1 ∷ 1 ∷ 0 ∷ noParent ∷ []
 unfolding blob-open
 scan-fewer = refl
 
@@ -254,7 +255,7 @@ pub scan-untrailed : exit table untrailed [] [] .answer ≡ answer 0 0 0 0
 unfolding blob-open
 scan-untrailed = refl
 
-pub scan-byte-more : exit table byteMore (replicate 6 old) (replicate 12 old) .answer ≡ answer 0 0 1 1
+pub scan-byte-more : exit table byteMore (replicate 8 old) (replicate 12 old) .answer ≡ answer 0 0 1 1
 unfolding blob-open
 scan-byte-more = refl
 
@@ -266,9 +267,9 @@ noObject =
     ++ dump "14 00  0A 00 00 00  AA AA AA AA  02 00 00 00  41 00  01 00 00 00"  -- at 13; from 14 on it is no property
     ++ dump "14 00  0A 00 00 00  AA AA AA AA  02 00 00 00  42 00  05 00 00 00"  -- a match: a name
 
-pub from-fourteen : exit table noObject (replicate 6 old) (replicate 6 old) ≡ record {
+pub from-fourteen : exit table noObject (replicate 8 old) (replicate 6 old) ≡ record {
   answer = answer 0 1 1 0;
-  controls = 0 ∷ 0 ∷ 47 ∷ 2 ∷ 0 ∷ 1 ∷ [];
+  controls = 0 ∷ 0 ∷ 47 ∷ 2 ∷ 0 ∷ 1 ∷ 0 ∷ noParent ∷ [];
   properties = 0x14 ∷ 6 ∷ 0 ∷ 0 ∷ 47 ∷ 2 ∷ [];
 }
 unfolding blob-open
@@ -291,10 +292,10 @@ near =
     ++ dump "14 00  0A 00 00 00  01 00 00 00  02 00 00 00  43 00  FE 00 00 00"  -- a match: a name; trailer 254 ends the group
     ++ dump "64 00  01 02 03 04"  -- its child is not looked for
 
-pub near-matches : exit table near (replicate 12 old) (replicate 60 old) ≡ record {
+pub near-matches : exit table near (replicate 16 old) (replicate 60 old) ≡ record {
   answer = answer 0 2 10 1;
-  controls = 0 ∷ 0 ∷ 49 ∷ 0 ∷ 1 ∷ 8
-      ∷ 0 ∷ 0 ∷ 207 ∷ 2 ∷ 9 ∷ 1 ∷ [];
+  controls = 0 ∷ 0 ∷ 49 ∷ 0 ∷ 1 ∷ 8 ∷ 0 ∷ noParent
+      ∷ 0 ∷ 0 ∷ 207 ∷ 2 ∷ 9 ∷ 1 ∷ 0 ∷ noParent ∷ [];
   properties = 0x05 ∷ 1 ∷ 0 ∷ 0 ∷ 28 ∷ 0
       ∷ 0x14 ∷ 6 ∷ 0 ∷ 0 ∷ 49 ∷ 0
       ∷ 0x114 ∷ 6 ∷ 0 ∷ 0 ∷ 67 ∷ 0
@@ -318,9 +319,9 @@ endsByMatch =
     ++ dump "14 00  0A 00 00 00  AA AA AA AA  00 00 00 00  01 00 00 00"  -- a match: an empty name
     ++ dump "11 00  0B 00 00 00  AA AA AA AA  02 00 00 00  14 00  0A 00 00 00"  -- cut off by the match at its end
 
-pub ends-by-match : exit table endsByMatch (replicate 6 old) (replicate 12 old) ≡ record {
+pub ends-by-match : exit table endsByMatch (replicate 8 old) (replicate 12 old) ≡ record {
   answer = answer 0 1 2 1;
-  controls = 0 ∷ 0 ∷ 49 ∷ 0 ∷ 1 ∷ 1 ∷ [];
+  controls = 0 ∷ 0 ∷ 49 ∷ 0 ∷ 1 ∷ 1 ∷ 0 ∷ noParent ∷ [];
   properties = 0x05 ∷ 1 ∷ 0 ∷ 0 ∷ 28 ∷ 0
       ∷ 0x14 ∷ 6 ∷ 0 ∷ 0 ∷ 49 ∷ 0 ∷ [];
 }
@@ -336,9 +337,9 @@ endsByFive =
     ++ dump "14 00  0A 00 00 00  AA AA AA AA  00 00 00 00  01 00 00 00"  -- a match: an empty name
     ++ dump "11 00  0B 00 00 00  AA AA AA AA  01 00 00 00  14  00 0A 00 00"  -- Binary; trailer 0x0A00
 
-pub ends-by-five : exit table endsByFive (replicate 6 old) (replicate 18 old) ≡ record {
+pub ends-by-five : exit table endsByFive (replicate 8 old) (replicate 18 old) ≡ record {
   answer = answer 0 1 3 1;
-  controls = 0 ∷ 0 ∷ 49 ∷ 0 ∷ 1 ∷ 2 ∷ [];
+  controls = 0 ∷ 0 ∷ 49 ∷ 0 ∷ 1 ∷ 2 ∷ 0 ∷ noParent ∷ [];
   properties = 0x05 ∷ 1 ∷ 0 ∷ 0 ∷ 28 ∷ 0
       ∷ 0x14 ∷ 6 ∷ 0 ∷ 0 ∷ 49 ∷ 0
       ∷ 0x11 ∷ 7 ∷ 0 ∷ 0 ∷ 67 ∷ 1 ∷ [];
@@ -354,7 +355,7 @@ unended =
     ++ dump "98 00  01 02 03 04"  -- 0x98
     ++ dump "14 00  0A 00 00 00  AA AA AA AA  02 00 00 00  43 00  FC 00 00 00"  -- a name; trailer 252
 
-pub unended-node : exit table unended (replicate 6 old) (replicate 12 old) .controls ≡ 0 ∷ 0 ∷ 52 ∷ 2 ∷ 1 ∷ 1 ∷ []
+pub unended-node : exit table unended (replicate 8 old) (replicate 12 old) .controls ≡ 0 ∷ 0 ∷ 52 ∷ 2 ∷ 1 ∷ 1 ∷ 0 ∷ noParent ∷ []
 unfolding blob-open
 unended-node = refl
 
@@ -366,7 +367,7 @@ cutCount =
     ++ dump "98 00  01 02 03 04"  -- 0x98
     ++ dump "14 00  0A 00 00 00  AA AA AA AA  02 00 00 00  43 00  FF 00 00 00"  -- a name; trailer 255 and no count
 
-pub cut-count : exit table cutCount (replicate 6 old) (replicate 12 old) .controls ≡ 0 ∷ 0 ∷ 52 ∷ 2 ∷ 1 ∷ 1 ∷ []
+pub cut-count : exit table cutCount (replicate 8 old) (replicate 12 old) .controls ≡ 0 ∷ 0 ∷ 52 ∷ 2 ∷ 1 ∷ 1 ∷ 0 ∷ noParent ∷ []
 unfolding blob-open
 cut-count = refl
 
@@ -389,7 +390,7 @@ countIsMatch =
     ++ dump "05 00  01 00 00 00  AA AA AA AA  00 00 00 00  FF 00 00 00"  -- the object: a flag; trailer 255
     ++ dump "14 00  0A 00 00 00  AA AA AA AA  02 00 00 00  44 00  00 00 00 00"  -- 20 nodes aren't there: a match, a name
 
-pub count-is-match : exit table countIsMatch (replicate 6 old) (replicate 12 old) .controls ≡ 0 ∷ 0 ∷ 46 ∷ 2 ∷ 1 ∷ 1 ∷ []
+pub count-is-match : exit table countIsMatch (replicate 8 old) (replicate 12 old) .controls ≡ 0 ∷ 0 ∷ 46 ∷ 2 ∷ 1 ∷ 1 ∷ 0 ∷ noParent ∷ []
 unfolding blob-open
 count-is-match = refl
 

@@ -15,11 +15,11 @@ use Rattle.rules.proofs.WorkedLater.{tree}
 
 pub listed : printed tree (outcome table tree 256 1024)
     ≡ concat (text "answer 0 5 17 11\n"
-    ∷ text "C 0 0098 Detail 1 11 1\n"
-    ∷ text "C 1 006D TextBox - 12 2\n"
-    ∷ text "C 2 0065 Rectangle - 14 1\n"
-    ∷ text "C 3 0066 Line 0 15 1\n"
-    ∷ text "C 4 009E GroupFooter - 16 1\n"
+    ∷ text "C 0 0098 Detail 1 11 1 0 -\n"
+    ∷ text "C 1 006D TextBox - 12 2 1 0\n"
+    ∷ text "C 2 0065 Rectangle - 14 1 0 -\n"
+    ∷ text "C 3 0066 Line 0 15 1 1 2\n"
+    ∷ text "C 4 009E GroupFooter - 16 1 0 -\n"
     ∷ text "P 0 0061 ControlBox bool yes\n"
     ∷ text "P 1 001A - notdefault -\n"
     ∷ text "P 2 0036 Left short -2\n"
@@ -46,8 +46,8 @@ unnamed = dump "2A" ++ replicate 9 0x00 ++ dump "36 05" ++ dump "FF 02 00" ++ du
 
 pub listed-unnamed : printed unnamed (outcome table unnamed 256 1024)
     ≡ concat (text "answer 0 2 1 1\n"
-    ∷ text "C 0 0164 - - 1 0\n"
-    ∷ text "C 1 1899 FormHeader - 1 0\n"
+    ∷ text "C 0 0164 - - 1 0 0 -\n"
+    ∷ text "C 1 1899 FormHeader - 1 0 0 -\n"
     ∷ text "P 0 8036 - short 5\n" ∷ [])
 unfolding rules-open
 listed-unnamed = refl

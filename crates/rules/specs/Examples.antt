@@ -54,10 +54,10 @@ twoEntries = dump "F7 EA CD AC" ++ replicate 8 0x00 ++ dump "02 00 00 00" ++ rep
 
 pub record Examples : Type 0 where
   -- K1: the reading above, word for word, and what the listing prints
-  pub k1 : exit table blob (replicate 13 old) (replicate 20 old) ≡ record {
+  pub k1 : exit table blob (replicate 17 old) (replicate 20 old) ≡ record {
     answer = answer 0 2 3 1;
-    controls = 0x98 ∷ 1 ∷ 0 ∷ 9 ∷ 1 ∷ 0
-        ∷ 0x64 ∷ 0 ∷ 23 ∷ 2 ∷ 1 ∷ 2
+    controls = 0x98 ∷ 1 ∷ 0 ∷ 9 ∷ 1 ∷ 0 ∷ 0 ∷ 0xFFFFFFFF
+        ∷ 0x64 ∷ 0 ∷ 23 ∷ 2 ∷ 1 ∷ 2 ∷ 1 ∷ 0
         ∷ old ∷ [];
     properties = 0x8031 ∷ 2 ∷ 5 ∷ 0 ∷ 11 ∷ 1
         ∷ 0x36 ∷ 2 ∷ 0xFFFFFFFF ∷ 0 ∷ 19 ∷ 2
@@ -66,8 +66,8 @@ pub record Examples : Type 0 where
   }
   pub k1-printed : listing (dump "11 00 00 00" ++ table ++ blob)
       ≡ concat (text "answer 0 2 3 1\n"
-      ∷ text "C 0 0098 Detail - 1 0\n"
-      ∷ text "C 1 0064 Label 1 1 2\n"
+      ∷ text "C 0 0098 Detail - 1 0 0 -\n"
+      ∷ text "C 1 0064 Label 1 1 2 1 0\n"
       ∷ text "P 0 8031 - short 5\n"
       ∷ text "P 1 0036 Left short -1\n"
       ∷ text "P 2 0014 Name text 1\n" ∷ [])
@@ -84,12 +84,12 @@ pub record Examples : Type 0 where
   pub k6-one : lengthAt (dump "FD") 0 ≡ some (1, 253)
   pub k6-two : lengthAt (dump "FF 05 00") 0 ≡ some (3, 5)
   -- K7: a 2000 top entry 64 00 FD isn't reported, 64 00 FF 00 00 is
-  pub k7-no : exit table withoutList (replicate 6 old) [] .answer ≡ answer 0 0 0 0
-  pub k7-yes : exit table withEmptyList (replicate 6 old) [] .answer ≡ answer 0 1 0 0
+  pub k7-no : exit table withoutList (replicate 8 old) [] .answer ≡ answer 0 0 0 0
+  pub k7-yes : exit table withEmptyList (replicate 8 old) [] .answer ≡ answer 0 1 0 0
   -- K8: a later top node 0x64 with trailer 255 and count 0 isn't reported
-  pub k8 : exit table childless (replicate 6 old) (replicate 12 old) ≡ record {
+  pub k8 : exit table childless (replicate 8 old) (replicate 12 old) ≡ record {
     answer = answer 0 1 2 1;
-    controls = 0x98 ∷ 1 ∷ 0 ∷ 9 ∷ 1 ∷ 1 ∷ [];
+    controls = 0x98 ∷ 1 ∷ 0 ∷ 9 ∷ 1 ∷ 1 ∷ 0 ∷ 0xFFFFFFFF ∷ [];
     properties = 0x05 ∷ 1 ∷ 0 ∷ 0 ∷ 28 ∷ 0
         ∷ 0x05 ∷ 1 ∷ 0 ∷ 0 ∷ 80 ∷ 0 ∷ [];
   }

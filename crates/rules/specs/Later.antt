@@ -7,7 +7,7 @@ use lib.Dec.{ltb, leb, eqb}
 use lib.ListN.{length}
 use Rattle.rules.specs.Lists.{_>>=_, keep}
 use Rattle.rules.specs.Bytes.{byte, u16, u32}
-use Rattle.rules.specs.Tree.{Entry, plain, parent, Entries, end, more, levelsAt, levels, Node, node, nodesOf}
+use Rattle.rules.specs.Tree.{Entry, plain, parent, Entries, end, more, levelsAt, levels, Node, noParent, nodeIn, nodesOf}
 
 -- a property as stored: its id, its type, and where its value's bytes stand
 pub record Prop : Type 0 where
@@ -129,9 +129,9 @@ abbrev pub isEmpty : List Prop → Bool
 isEmpty [] = true
 isEmpty (q ∷ qs) = false
 
--- "reported with type 0 unless it has no property"
+-- "reported with type 0 unless it has no property"; wish 1 of document 02: "Scanned controls are all level 0."
 unfoldable pub scanFrom : List ℕ → ℕ → List (Node Prop)
-scanFrom s p = map (node 0) (keep (λ qs. not (isEmpty qs)) (groupsOf s (matchesFrom s p)))
+scanFrom s p = map (nodeIn 0 noParent 0) (keep (λ qs. not (isEmpty qs)) (groupsOf s (matchesFrom s p)))
 
 -- ---- the whole stream: the object's properties, and what is reported in output order
 -- "the bytes from the end of the last good object property (14 if none) are scanned"

@@ -8,6 +8,7 @@ use Rattle.rules.specs.Lists.{text}
 use Rattle.rules.specs.Bytes.{u32, part}
 use Rattle.rules.specs.Answer.{refusal, tooLong, badTable}
 use Rattle.rules.specs.Value.{signed}
+use Rattle.rules.specs.Tree.{noParent}
 use Rattle.rules.specs.Digits.{decimal, hex, signedDecimal}
 use Rattle.rules.specs.Texts.{guidText}
 use Rattle.rules.specs.NameTables.{controlTypeNames}
@@ -43,11 +44,17 @@ characters size = decimal (size / 2)
 unfoldable pub nameColumn : ℕ → ℕ → List ℕ
 nameColumn mark size = cond (eqb mark 1) (text "-") (characters size)
 
--- "the C lines (number, type in hex, type name or `-`, characters of the name .., first row, count)"
+-- wish 1 of document 02: "`-` for no parent"
+unfoldable pub parentColumn : ℕ → List ℕ
+parentColumn up = cond (eqb up noParent) (text "-") (decimal up)
+
+-- "the C lines (number, type in hex, type name or `-`, characters of the name .., first row, count)"; wish 1: "`formlist` prints both at the end of the
+-- C line": the level and the parent
 unfoldable pub controlLine : ℕ → List ℕ → List ℕ
 controlLine n row =
     line (text "C" ∷ decimal n ∷ hex 4 (word row 0) ∷ orDash (nameIn controlTypeNames (word row 0))
-    ∷ nameColumn (word row 1) (word row 3) ∷ decimal (word row 4) ∷ decimal (word row 5) ∷ [])
+    ∷ nameColumn (word row 1) (word row 3) ∷ decimal (word row 4) ∷ decimal (word row 5)
+    ∷ decimal (word row 6) ∷ parentColumn (word row 7) ∷ [])
 
 -- ---- properties, by the words of their rows
 -- "Words: bool, notdefault, short, long, double, guid, text, binary, loose (mark 8)."

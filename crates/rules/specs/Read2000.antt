@@ -78,6 +78,8 @@ controlOf t s n = record {
   type = typeCode (header t) (isReport s) (n .type);
   name = nameOf s n;
   properties = map (propertyIn t s (entryKey (n .type))) (n .props);
+  level = n .level;
+  parent = n .parent;
 }
 
 unfoldable pub read2000 : List ℕ → List ℕ → List Prop × Entries Prop → Reading

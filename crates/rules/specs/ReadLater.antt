@@ -55,7 +55,7 @@ nameIn s (some es) n = nameOf s n
 
 -- ---- the reading
 unfoldable pub controlOf : List ℕ → (Node Prop → Name) → Node Prop → Control
-controlOf s name n = record { type = n .type; name = name n; properties = map (propertyOf s) (n .props) }
+controlOf s name n = record { type = n .type; name = name n; properties = map (propertyOf s) (n .props); level = n .level; parent = n .parent }
 
 unfoldable pub readLater : List ℕ → Reading
 readLater s = record { own = map (propertyOf s) (laterOf s .0); controls = map (controlOf s (nameIn s (treeOf s))) (laterOf s .1) }

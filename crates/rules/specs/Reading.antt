@@ -16,6 +16,8 @@ pub record Control : Type 0 where
   pub type : ℕ
   pub name : Name
   pub properties : List Property
+  pub level : ℕ
+  pub parent : ℕ
 
 pub record Reading : Type 0 where
   pub own : List Property
@@ -36,9 +38,10 @@ nameWords n (Text start size) = 0 ∷ start ∷ size ∷ []
 nameWords n Numbered = 1 ∷ n ∷ length (label n) ∷ []
 nameWords n (Loose start size) = 2 ∷ start ∷ size ∷ []
 
--- "Control, six words: type code; name mark ..; name start; name length; first property row; property count."
+-- "Control ..: type code; name mark ..; name start; name length; first property row; property count." Wish 1 of document 02: "eight words: after the present
+-- six, the level .. and the row number of the parent"
 unfoldable pub controlRow : ℕ → ℕ → Control → List ℕ
-controlRow n first c = c .type ∷ nameWords n (c .name) ++ (first ∷ length (c .properties) ∷ [])
+controlRow n first c = c .type ∷ nameWords n (c .name) ++ (first ∷ length (c .properties) ∷ c .level ∷ c .parent ∷ [])
 
 -- the rows of controls, the first of which has the number n and its first property in row `first`
 unfoldable pub controlRowsFrom : ℕ → ℕ → List Control → List (List ℕ)

@@ -5,9 +5,10 @@ use lib.ListN.{length, take, drop}
 use lib.Seq.{sets}
 use Rattle.rules.specs.Lists.{concat}
 
--- how many words a row has: "Control, six words"; "Property, six words"; wish 6 of document 02: "a fifth word in the TypeInfo row"
+-- how many words a row has. Wish 1 of document 02: "widen the control row to eight words"; document 01: "Property, six words"; wish 6: "a fifth word in the
+-- TypeInfo row"
 abbrev pub controlWidth : ℕ
-controlWidth = 6
+controlWidth = 8
 
 abbrev pub propertyWidth : ℕ
 propertyWidth = 6

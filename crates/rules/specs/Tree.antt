@@ -38,13 +38,19 @@ abbrev pub levels : ℕ
 levels = 256
 
 -- ---- what is reported, in output order
--- an entry without its list
+-- an entry without its list. Wish 1 of document 02: "the level below the reported top entry (0 for it) and the row number of the parent, 0xFFFFFFFF at
+-- level 0"
 pub record Node (P : Type 0) : Type 0 where
   pub type : ℕ
   pub props : List P
+  pub level : ℕ
+  pub parent : ℕ
 
-abbrev pub node : {P : Type 0} → ℕ → List P → Node P
-node t ps = record { type = t; props = ps }
+abbrev pub noParent : ℕ
+noParent = 0xFFFFFFFF
+
+abbrev pub nodeIn : {P : Type 0} → ℕ → ℕ → ℕ → List P → Node P
+nodeIn level up t ps = record { type = t; props = ps; level = level; parent = up }
 
 abbrev pub isSection : ℕ → Bool
 isSection type = leb 0x98 type && leb type 0x9E
@@ -58,15 +64,17 @@ unfoldable pub reported : {P : Type 0} → Entries P → Entries P
 reported end = end
 reported (more e es) = cond (isReported e) (more e (reported es)) (reported es)
 
--- "then descendants in preorder"
+-- "then descendants in preorder": at this level, below the entry of row `up`; the first of them has row n
 unfoldable mutual
-  pub preorder1 : {P : Type 0} → Entry P → List (Node P)
-  preorder1 (plain t ps) = node t ps ∷ []
-  preorder1 (parent t ps es) = node t ps ∷ preorder es
+  pub preorder1 : {P : Type 0} → ℕ → ℕ → ℕ → Entry P → List (Node P)
+  preorder1 level up n (plain t ps) = nodeIn level up t ps ∷ []
+  preorder1 level up n (parent t ps es) = nodeIn level up t ps ∷ preorder (suc level) n (suc n) es
 
-  pub preorder : {P : Type 0} → Entries P → List (Node P)
-  preorder end = []
-  preorder (more e es) = preorder1 e ++ preorder es
+  pub preorder : {P : Type 0} → ℕ → ℕ → ℕ → Entries P → List (Node P)
+  preorder level up n end = []
+  preorder level up n (more e es) =
+      let these = preorder1 level up n e in
+      these ++ preorder level up (n + length these) es
 
 unfoldable pub nodesOf : {P : Type 0} → Entries P → List (Node P)
-nodesOf es = preorder (reported es)
+nodesOf es = preorder 0 noParent 0 (reported es)

@@ -1,8 +1,7 @@
 use mathlib.Core.Path.{refl}
 use native.Mathlib.Omega.{arith}
 use borrow.Author.Needs.{needs}
-use Rattle.listing.proofs.Printed.{listing-long}
-use Rattle.bloblines.proofs.Whole.{listing-is, more-wrote, listed-wrote}
+use Rattle.bloblines.proofs.Whole.{more-written, long-written, listed-written}
 use Rattle.bloblines.proofs.write_form_listing.Statement.{statement}
 use Rattle.bloblines.proofs.write_form_listing.Tie as tie
 
@@ -10,14 +9,14 @@ returns : tie.Need-returns
 returns c =
     let start : tie.Start = search in
     let more : tie.Then1 = search in
-    more-wrote (start .args .input .now) (start .args .more) (more .if1 .taken) (c .before .before .refusal-line .ensures)
+    more-written (start .args .input .now) (start .args .more) (more .if1 .taken) (c .before .before .refusal-line .ensures)
 
 returns-2 : tie.Need-returns-2
 returns-2 c =
     let start : tie.Start = search in
     let whole : tie.Else1 = search in
     let input = start .args .input .now in
-    listed-wrote input (start .args .more) (whole .if1 .left) (listing-long input (omega arith)) (c .before .before .refusal-line2 .ensures)
+    long-written input (start .args .more) (whole .if1 .left) (omega arith) (c .before .before .refusal-line2 .ensures)
 
 returns-3 : tie.Need-returns-3
 returns-3 c =
@@ -26,7 +25,7 @@ returns-3 c =
     let whole : tie.Else1 = search in
     let start : tie.Start = search in
     let input = start .args .input .now in
-    listed-wrote input (start .args .more) (whole .if1 .left) (listing-is input (omega (arith, short .if2 .left)) _ _ refl refl) (written .write-listing .ensures .wrote)
+    listed-written input (start .args .more) (whole .if1 .left) (omega (arith, short .if2 .left)) _ _ refl refl (written .write-listing .ensures)
 
 pub write-form-listing-spec : {M : Type 1} → statement M
 write-form-listing-spec =

@@ -4,7 +4,7 @@ use Prim.Native.Nat.{ℕ}
 use lib.ListN.{length-replicate}
 use Rattle.cursor.proofs.RowLaws.{left, howMany}
 use Rattle.cursor2000.specs.Steps.{stepAt}
-use Rattle.form2000.proofs.Walking.{Going, going-start, going-ready, going-small, going-past, going-less, going-next, going-done}
+use Rattle.form2000.proofs.Walking.{Going, going-start, going-ready, going-low, going-small, going-past, going-less, going-next, going-done}
 use Rattle.form2000.proofs.put_top.Statement.{statement}
 use Rattle.form2000.proofs.put_top.Tie as tie
 
@@ -26,13 +26,19 @@ loop-holds c =
     let from-start : tie.Start Inv-loop μ-loop = search in
     going-start _ (length-replicate {A = ℕ} 512 0) (from-start .pre) (c .before .top .ensures) (c .reported .ensures)
 
+-- the level
+cast-past : tie.Need-cast-past Inv-loop μ-loop
+cast-past c =
+    let turn : tie.At-loop Inv-loop μ-loop = search in
+    omega (arith, going-low (turn .loop .inv) (omega arith))
+
 put-node-requires : tie.Need-put-node-requires Inv-loop μ-loop
 put-node-requires c κs =
     let turn : tie.At-loop Inv-loop μ-loop = search in
     going-ready (turn .loop .inv) (omega arith)
 
-cast-past : tie.Need-cast-past Inv-loop μ-loop
-cast-past c =
+cast-past-2 : tie.Need-cast-past-2 Inv-loop μ-loop
+cast-past-2 c =
     let wrote : tie.After-put-node Inv-loop μ-loop = search in
     omega (arith, going-small (turn-of wrote .loop .inv) (omega (arith, test-of wrote .if1 .taken)))
 
@@ -61,8 +67,9 @@ put-top-spec =
     (λ c κs. search needs)
     (λ c κs. search needs)
     loop-holds
-    put-node-requires
     cast-past
+    put-node-requires
+    cast-past-2
     past-requires
     (λ c κs. search needs)
     loop-less

@@ -8,10 +8,10 @@ use Rattle.formlist.proofs.list.Statement.{statement}
 use Rattle.formlist.proofs.list.Tie as tie
 
 slice-reshare-prefix-print : tie.Need-slice-reshare-prefix-print
-slice-reshare-prefix-print c = within (c .before .before .write-form-listing .ensures)
+slice-reshare-prefix-print c = within (c .before .before .write-form-listing .ensures .wrote)
 
 slice-aggregate-print : tie.Need-slice-aggregate-print
-slice-aggregate-print c = let w = c .before .before .before .write-form-listing in sym (length-take-le (w .result) _ (within (w .ensures)))
+slice-aggregate-print c = let w = c .before .before .before .write-form-listing in sym (length-take-le (w .result) _ (within (w .ensures .wrote)))
 
 print-requires : tie.Need-print-requires
 print-requires c κs =

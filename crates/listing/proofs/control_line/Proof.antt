@@ -18,6 +18,8 @@ start-of c = search
 returns : tie.Need-returns
 unfolding head-of row-of start-of
 returns c =
+    let nesting : tie.After-put-nesting = search in
+    let blank-4 : tie.After-put-byte4 = search in
     let count : tie.After-put-decimal2 = search in
     let blank-3 : tie.After-put-byte3 = search in
     let first : tie.After-put-decimal = search in
@@ -38,6 +40,8 @@ returns c =
     (first .put-decimal .ensures)
     (blank-3 .put-byte3 .ensures)
     (count .put-decimal2 .ensures)
+    (blank-4 .put-byte4 .ensures)
+    (nesting .put-nesting .ensures)
     (c .before .before .put-end .ensures)
 
 same-length : tie.Need-same-length
@@ -49,5 +53,6 @@ control-line-spec =
     (tie.spec
     (λ c κs. search needs) (λ c κs. search needs) (λ c κs. search needs) (λ c κs. search needs) (λ c κs. search needs)
     (λ c κs. search needs) (λ c κs. search needs) (λ c κs. search needs) (λ c κs. search needs) (λ c κs. search needs)
+    (λ c κs. search needs) (λ c κs. search needs)
     same-length
     returns)

@@ -1,3 +1,0 @@
--- The listing of every input is bounded.
-mod Counts
-pub mod Bounded
