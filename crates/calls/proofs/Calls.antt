@@ -107,6 +107,7 @@ use Rattle.claims.proofs.LaterTree.{later-tree}
 use Rattle.claims.proofs.Counts.{counts-hold}
 use Rattle.claims.proofs.CutNames.{wish6}
 use Rattle.claims.proofs.RowChecks.{row-checks}
+use Rattle.claims.proofs.Nesting.{nesting}
 use Rattle.claims.proofs.Rooms.{rooms}
 use Rattle.claims.proofs.ScanNames.{wish10}
 
@@ -168,6 +169,9 @@ module _ (f : Fn Blob Exit) (p : Proved f exit-of) (one : OneResult (f .function
     stored = every-bytes f exit-of p (λ (a : Blob). a .stream) tells _ (λ a small. row-checks .stored (a .stream) small);
     items = every-bytes f exit-of p (λ (a : Blob). a .stream) tells _ (λ a small. row-checks .items (a .table) (a .stream) (a .controls) (a .properties) small);
     row-checks = every f exit-of p _ (λ a. row-checks .checks (a .table) (a .stream) (a .controls) (a .properties));
+    nested = every f exit-of p _ (λ a. nesting .nested (a .table) (a .stream) (a .controls) (a .properties));
+    lists-2000 = every f exit-of p _ (λ a. nesting .lists-2000 (a .table) (a .stream) (a .controls) (a .properties));
+    lists-later = every-bytes f exit-of p (λ (a : Blob). a .stream) tells _ (λ a small. nesting .lists-later (a .table) (a .stream) (a .controls) (a .properties) small);
     bounds = every f exit-of p _ (λ a. rooms .bounds (a .table) (a .stream) (a .controls) (a .properties));
     room-enough = every f exit-of p _ (λ a. rooms .enough (a .table) (a .stream) (a .controls) (a .properties));
     one-result = one;
@@ -230,6 +234,7 @@ module _ (f : Fn Blob Exit) (p : Proved f exit-2000) (one : OneResult (f .functi
         subst (λ x. Judges (a .table) (a .stream) (x .answer)) (wish8 .agree (a .table) (a .stream) (a .controls) (a .properties) .for-2000 (given .old-layout))
         (demand2 .judges (a .table) (a .stream) (a .controls) (a .properties) small given));
     demand3 = λ c d h. both-told f exit2000 p c d (SameBut _ _ _ _ _) (demand3 .same-but _ _ _ _ _ (h .successor) (h .same-room)) (h .same-stream);
+    nested = every f exit-2000 p _ (λ a. nesting .reader-2000 (a .table) (a .stream) (a .controls) (a .properties));
     one-result = one;
     by-words = by-words f exit-2000 p;
     allows = allows;
@@ -248,6 +253,7 @@ module _ (f : Fn Later Exit) (p : Proved f exit-later) (one : OneResult (f .func
     demand1 = every f exit-later p _ (λ a. wish8 .reads-later (a .layout) (a .stream) (a .controls) (a .properties));
     never-8 = every f exit-later p _ (λ a. wish8 .never-8 (a .layout) (a .stream) (a .controls) (a .properties));
     above-255 = every-bytes f exit-later p (λ (a : Later). a .stream) tells _ (λ a small. wish8 .above-255 (a .layout) (a .stream) (a .controls) (a .properties) small);
+    nested = every-bytes f exit-later p (λ (a : Later). a .stream) tells _ (λ a small. nesting .reader-later (a .layout) (a .stream) (a .controls) (a .properties) small);
     one-result = one;
     by-words = by-words f exit-later p;
     allows = allows;
@@ -341,7 +347,7 @@ label-texts f p one = record {
 
 names-written : {A : Type 0} (f : Fn A TextExit) (table : A → NameTable) (id : A → ℕ) (out : A → List ℕ) → Proved f (λ a. nameExit (table a) (id a) (out a))
     → OneResult (f .function) → calls.NameWritten A f table id out
-names-written f table id out p one = record { is-exit = every f _ p _ (λ a. refl); one-result = one }
+names-written f table id out p one = record { is-exit = every f _ p _ (λ a. refl); demand1 = every f _ p _ (λ a. demand1 .names (table a) (id a) (out a)); one-result = one }
 
 -- ---- join
 module _ (g : Fn f.Join TextExit) (p : Proved g join-of) (one : OneResult (g .function))

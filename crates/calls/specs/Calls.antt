@@ -6,7 +6,7 @@
 -- Each promise stands once. It holds of the functions of the crates (`crates`) and of those that C and Rust have (`exported`).
 use Prim.Native.Nat.{ℕ, _≤_}
 use mathlib.Core.Path.{_≡_}
-use mathlib.Core.Bool.{true}
+use mathlib.Core.Bool.{true, false}
 use mathlib.Core.List.{List, _++_, map}
 use mathlib.Core.Logic.{_↔_}
 use mathlib.Core.Option.{some}
@@ -30,7 +30,7 @@ use Rattle.numbers.specs.Int.{intOf}
 use Rattle.numbers.specs.Wide.{wordsOf, bitsOf}
 use Rattle.blob.specs.Exit.{partPlace}
 use Rattle.oskuramos.specs.Handed.{handedPart}
-use Rattle.claims.specs.Answers.{GuidAnswer, LabelAnswer}
+use Rattle.claims.specs.Answers.{GuidAnswer, LabelAnswer, NameAnswer}
 use Rattle.claims.specs.Demand1.{Blobs, TypeInfos, Texts}
 use Rattle.claims.specs.Demand2.{Given, Enough, Spelled, Judges}
 use Rattle.claims.specs.Demand3.{Successor, Lent, SameRoom, SameBut, Same}
@@ -44,6 +44,7 @@ use Rattle.claims.specs.CutNames.{CutNames}
 use Rattle.claims.specs.Rooms as rooms
 use Rattle.claims.specs.ScanNames.{ScanNamed}
 use Rattle.claims.specs.RowChecks.{Checks, SeenItems}
+use Rattle.claims.specs.Nesting.{Nested, Lists2000, ListsLater}
 use Rattle.calls.specs.Always.{Always, OneResult, Fn, Every, Gives, Call, handed, seen}
 use Rattle.calls.specs.JoiningCalls.{PlansCarried}
 use Rattle.calls.specs.Functions.{
@@ -120,6 +121,10 @@ pub record ReadBlob (f : Fn Blob Exit) : Type 2 where
   pub items : Every f (λ a seen.
       Given (a .table) (a .stream) → (t : Stream) → drop 10 (a .stream) spells t → seen .answer .number ≡ 0
       → SeenItems (a .table) (a .stream) (a .controls) (a .properties) t seen)
+  -- wish 1 (Nesting): levels and parents; and how many rows each list takes, by what the bytes spell. Scanned controls are at level 0
+  pub nested : Every f (λ a seen. seen .answer .number ≡ 0 → Nested seen)
+  pub lists-2000 : Every f (λ a seen. is2000 (a .table) (a .stream) ≡ true → seen .answer .number ≡ 0 → Lists2000 (a .stream) seen)
+  pub lists-later : Every f (λ a seen. is2000 (a .table) (a .stream) ≡ false → seen .answer .number ≡ 0 → ListsLater (a .stream) seen)
   -- wish 14 (Rooms): "For every stream with answer 0, C controls and P property rows .."
   pub bounds : Every f (λ a seen. rooms.Bounds (a .table) (a .stream) (a .controls) (a .properties) seen)
   -- "So room computed from the length alone never brings 6 or 7."
@@ -145,6 +150,8 @@ pub record Read2000 (f : Fn Blob Exit) : Type 2 where
   pub demand2-judges : Every f (λ a seen. Given (a .table) (a .stream) → Judges (a .table) (a .stream) (seen .answer))
   -- "Demand 3 then speaks of the Access 2000 reader.": whatever the first byte is
   pub demand3 : (older newer : Call f) → TwoTables (handed older) (handed newer) → TwoShow older newer
+  -- wish 1, as of read_blob
+  pub nested : Every f (λ a seen. seen .answer .number ≡ 0 → Nested seen × Lists2000 (a .stream) seen)
   pub one-result : OneResult (f .function)
   pub by-words : (c d : Call f) → handed c ≡ handed d → seen c ≡ seen d
   pub allows : (a : Blob) → (c : Call f) × (handed c ≡ a)
@@ -159,6 +166,8 @@ pub record ReadLater (f : Fn Later Exit) : Type 2 where
   pub never-8 : Every f (λ a seen. ¬ (seen .answer .number ≡ 8))
   -- nor 15, where the number is no byte
   pub above-255 : Every f (λ a seen. 256 ≤ a .layout → ¬ (seen .answer .number ≡ 15))
+  -- wish 1, as of read_blob
+  pub nested : Every f (λ a seen. seen .answer .number ≡ 0 → Nested seen × ListsLater (a .stream) seen)
   pub one-result : OneResult (f .function)
   pub by-words : (c d : Call f) → handed c ≡ handed d → seen c ≡ seen d
   pub allows : (a : Later) → (c : Call f) × (handed c ≡ a)
@@ -199,6 +208,7 @@ pub record LabelText (f : Fn Label TextExit) : Type 2 where
 -- ---- text_name(id, out) and the like, value_name(mark, id, out): "Every name handed out stays the same". The bytes are those of the definition's table
 pub record NameWritten (A : Type 0) (f : Fn A TextExit) (table : A → NameTable) (id : A → ℕ) (out : A → List ℕ) : Type 2 where
   pub is-exit : Every f (λ a seen. seen ≡ nameExit (table a) (id a) (out a))
+  pub demand1 : Every f (λ a seen. Texts (NameAnswer (table a) (id a) (out a)) (out a) seen)
   pub one-result : OneResult (f .function)
 
 -- ---- join(one, other, out): wishes 9 and 12 (Joining)

@@ -28,6 +28,10 @@ mutual
   sizes-many end = refl
   sizes-many (more e es) = length-append (sizes1 e) (sizes es) ∙ omega (arith, sizes-many1 e, sizes-many es)
 
+some-entry : {P : Type 0} (e : Entry P) → 0 < entriesIn1 e
+some-entry (plain t qs) = omega arith
+some-entry (parent t qs es) = omega arith
+
 -- ---- a list, told one by one from n on
 module _ {A : Type 0} (at : ℕ → ℕ) (of : A → ℕ) where
   abbrev pub Told : ℕ → List A → Type 0
@@ -186,7 +190,3 @@ module _ (f g h : ℕ → ℕ) where
         let a = spans1 N level up n e (s .0) u x (head-after N level up m es (s .1) l′ w′) in
         let x′ : Next m level = record { first = λ b. absurd (omega arith); one-deeper = λ j b. omega (arith, a .high j (omega arith) (omega arith)) } in
         rw z (join N level n m (m + entriesIn es) a (spans N level up m es (s .1) (up-at level up n m (omega arith) (a .high) u) x′ l′ w′))
-
-    some-entry : {P : Type 0} (e : Entry P) → 0 < entriesIn1 e
-    some-entry (plain t qs) = omega arith
-    some-entry (parent t qs es) = omega arith

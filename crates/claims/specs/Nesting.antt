@@ -48,7 +48,8 @@ pub record Nested (seen : Exit) : Type 0 where
   -- so whoever doubts the parent words can compute them from the levels
   pub by-levels : (i : ℕ) → i < seen .answer .first → parentRow seen i ≡ parentBy (level seen) i
 
--- ---- lists: the rows between an entry and the end of its list are exactly those with a higher level that follow it
+-- ---- lists: the rows between an entry and the end of its list are exactly those with a higher level that follow it. That is: the rows right after it, up to
+-- the first whose level isn't higher
 -- the list of row i takes the m rows after it
 pub record ListOf (seen : Exit) (i m : ℕ) : Type 0 where
   -- they are there, and each has a higher level than row i
@@ -72,7 +73,8 @@ pub record ListsLater (stream : List ℕ) (seen : Exit) : Type 0 where
   -- "Scanned controls are all level 0."
   pub scan : ¬ Spelled stream → (i : ℕ) → i < seen .answer .first → (level seen i ≡ 0) × (parentRow seen i ≡ 0xFFFFFFFF)
 
--- ---- on answer 0, for every table, stream and room
+-- ---- on answer 0, for every table, stream and room. (`Bytes`: of a list of bytes, which every stream that is lent to a call is. `Calls.antt` says it of calls
+-- without asking that)
 pub record Nesting : Type 0 where
   pub nested : (table stream controls properties : List ℕ) → exit table stream controls properties .answer .number ≡ 0
       → Nested (exit table stream controls properties)
