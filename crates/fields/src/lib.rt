@@ -1,4 +1,5 @@
 // The fields of a line. Each is written into a lent buffer; the place after it is returned.
+use rows::NO_PARENT;
 use rules::Property;
 use text::put_byte;
 use text::put_decimal;
@@ -18,9 +19,6 @@ ghost use Rattle.rules.specs.Listing.{orDash, nameColumn, parentColumn};
 ghost use Rattle.names.specs.Lookup.{Lent};
 ghost use Rattle.text.specs.Writer.{Wrote};
 ghost use Rattle.fields.specs.Parts.{fields, shownFields};
-
-// The parent of a control that has none.
-const NO_PARENT: u32 = 0xffff_ffff;
 
 // LF ends each line.
 pub fn put_end(out: &mut [u8], at: usize) -> usize
