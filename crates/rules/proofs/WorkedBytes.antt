@@ -9,6 +9,7 @@ use lib.Dec.{leb}
 use Rattle.rules.specs.Lists.{concat, all, keep, find, has, ascends}
 use Rattle.rules.specs.Bytes.{Bytes, byte, u16, u32, part, byteAt, halfAt}
 use Rattle.rules.specs.Utf16.{isUtf16}
+use Rattle.rules.specs.Scalars.{scalars}
 use Rattle.rules.specs.Rows.{room, written, rowAt}
 use Rattle.rules.specs.Dump.{dump}
 use Rattle.rules.proofs.OpenBytes.{bytes-open}
@@ -78,3 +79,13 @@ pub utf16 :
     × (isUtf16 (dump "00 00") ≡ true)  -- a NUL
 unfolding bytes-open
 utf16 = (refl, refl, refl, refl, refl, refl, refl, refl, refl, refl, refl, refl, refl, refl)
+
+-- the characters
+pub characters :
+    (scalars [] ≡ [])
+    × (scalars (dump "3D D8 00 DE") ≡ 0x1F600 ∷ [])  -- K10's pair
+    × (scalars (dump "41 00 00 D8 00 DC FF FF") ≡ 0x41 ∷ 0x10000 ∷ 0xFFFF ∷ [])  -- the first pair between others
+    × (scalars (dump "FF DB FF DF 34 D8 1E DD") ≡ 0x10FFFF ∷ 0x1D11E ∷ [])  -- the last pair, and another right after it
+    × (scalars (dump "FF D7 00 E0") ≡ 0xD7FF ∷ 0xE000 ∷ [])  -- those beside the halves
+unfolding bytes-open
+characters = (refl, refl, refl, refl, refl)

@@ -8,6 +8,7 @@ pub mod Lists  -- nothing of the format
 pub mod Bytes  -- numbers of one, two and four bytes
 pub mod Answer  -- "Answer numbers"
 pub mod Utf16  -- "What is ported": well-formed UTF-16
+pub mod Scalars  -- wish 5 of document 02: the characters of UTF-16 text
 pub mod Value  -- "Rows": marks; the values of "Later layout" and "Access 2000 layout"
 pub mod Digits  -- "Names and listing": hex and decimal
 pub mod Texts  -- "Rows": GUID text and labels
