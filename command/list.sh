@@ -10,8 +10,8 @@ verb_usage() {
   -t TABLE    reads with another code table than data/access2000.codes
 
 The lines are those of ./formlist. The first is `answer`, a number and three counts: controls, properties, the object's own properties.
-C: number, type, its name, characters of the control's name (- if it has none), first property, properties,
-   level, number of the control that holds it (- for none).
+C: number, type, its name, characters of the control's name (- if it has none; 3b: three bytes that aren't UTF-16),
+   first property, properties, level, number of the control that holds it (- for none).
 P: number, id, its name, kind of value, value. A name that isn't known is -. An id of 8000 and more is a code that the table lacks.
 A Blob has at most 4,194,304 bytes, 16,384 controls and 262,144 properties. Of several Blobs each has a line `file` with its name
 before its own; one that is refused doesn't stop the others.

@@ -60,6 +60,13 @@ pub fn readers(seed: u64, count: usize, longest: usize, out: &mut dyn FnMut(Case
     fitting.by_ref().take(count).try_for_each(out)
 }
 
+/// `count` inputs of `formlist`.
+pub fn listings(seed: u64, count: usize, longest: usize, out: &mut dyn FnMut(Case) -> Result<(), String>) -> Result<(), String> {
+    let mut rng = Rng::new(seed);
+    let mut fitting = std::iter::repeat_with(|| random::input(&mut rng)).filter(|case| case.bytes.len() <= longest);
+    fitting.by_ref().take(count).try_for_each(out)
+}
+
 /// The names of the first `count` ids, in all four tables.
 pub fn names(_: u64, count: usize, _: usize, out: &mut dyn FnMut(Case) -> Result<(), String>) -> Result<(), String> {
     (0..=u16::MAX).take(count).map(leaves::name).try_for_each(out)

@@ -140,9 +140,9 @@ fn same_value(stream: &[u8], which: &str, ours: &Property, theirs: &BlobValue) -
     }
 }
 
-/// Whether `text` in UTF-16LE is just these bytes.
+/// Whether `text` in UTF-16LE is just these bytes, and has as many characters as document 02 counts.
 fn is_text(bytes: &[u8], text: &str) -> bool {
-    text.encode_utf16().flat_map(u16::to_le_bytes).eq(bytes.iter().copied())
+    text.encode_utf16().flat_map(u16::to_le_bytes).eq(bytes.iter().copied()) && text.chars().count() == value::characters(bytes)
 }
 
 /// Whether the bytes are not UTF-16 to jetdb either, and `text` is what its lossy reading makes of them.

@@ -41,6 +41,7 @@ compare judge NAME.cases PRINTED           holds what a program printed against 
 compare run COUNT SEED PROGRAM ..          fresh cases through a program that reads batch files; stops at the first difference
 compare joins COUNT SEED [PROGRAM ..]      pairs of code tables alone; without a program document 02 is read in two ways
 compare readers COUNT SEED [PROGRAM ..]    Blobs for the reader of one layout alone, in the same way
+compare listings COUNT SEED [PROGRAM ..]   inputs of formlist alone, in the same way
 compare names COUNT SEED PROGRAM ..        the names of the first COUNT ids (65536: all), in the same way; SEED has no part in it
 ";
 
@@ -84,6 +85,10 @@ fn command(words: &[&str]) -> Result<bool, String> {
         ["readers", count, seed] => Ok(alone(&judge, number(seed)?, number(count)?, readers::random)),
         ["readers", count, seed, ref program @ ..] if !program.is_empty() => {
             through(&judge, number(count)? as usize, number(seed)?, program, batch::readers)
+        }
+        ["listings", count, seed] => Ok(alone(&judge, number(seed)?, number(count)?, cases::random::input)),
+        ["listings", count, seed, ref program @ ..] if !program.is_empty() => {
+            through(&judge, number(count)? as usize, number(seed)?, program, batch::listings)
         }
         ["names", count, seed, ref program @ ..] if !program.is_empty() => {
             through(&judge, number(count)? as usize, number(seed)?, program, batch::names)

@@ -35,7 +35,7 @@ pub fn listing(input: &[u8]) -> String {
 pub fn lines(stream: &[u8], rows: &Rows) -> String {
     let mut text = answer_line("answer", rows.answer);
     for (n, row) in rows.controls.iter().enumerate() {
-        text += &control_line(n, row);
+        text += &control_line(stream, n, row);
     }
     for (n, row) in rows.properties.iter().enumerate() {
         text += &property_line(stream, n, row);
@@ -47,9 +47,22 @@ fn answer_line(word: &str, a: Answer) -> String {
     format!("{word} {} {} {} {}\n", a.number, a.counts[0], a.counts[1], a.counts[2])
 }
 
-fn control_line(n: usize, row: &ControlRow) -> String {
+/// A name's column by its mark: characters, nothing, or "the byte length followed by `b`".
+fn name_column(stream: &[u8], [_, mark, start, length, ..]: &ControlRow) -> String {
+    match mark {
+        1 => "-".to_string(),
+        2 => format!("{length}b"),
+        _ => characters(stream, *start, *length),
+    }
+}
+
+fn characters(stream: &[u8], start: u32, length: u32) -> String {
+    value::characters(&stream[start as usize..][..length as usize]).to_string()
+}
+
+fn control_line(stream: &[u8], n: usize, row: &ControlRow) -> String {
     let name = form::control_type_name(row[0] as u16).unwrap_or("-");
-    let characters = if row[1] == 1 { "-".to_string() } else { (row[3] / 2).to_string() };
+    let characters = name_column(stream, row);
     let parent = if row[7] == NO_PARENT { "-".to_string() } else { row[7].to_string() };
     format!("C {n} {:04X} {name} {characters} {} {} {} {parent}\n", row[0], row[4], row[5], row[6])
 }
@@ -69,7 +82,7 @@ fn value_columns(stream: &[u8], row: &PropertyRow) -> (&'static str, String) {
         3 => ("long", (low as i32).to_string()),
         4 => ("double", format!("{high:08X}{low:08X}")),
         5 => ("guid", value::guid_text(&stream[start as usize..][..16])),
-        6 => ("text", (length / 2).to_string()),
+        6 => ("text", characters(stream, start, length)),
         7 => ("binary", length.to_string()),
         _ => ("loose", length.to_string()),
     }

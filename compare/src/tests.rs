@@ -146,6 +146,7 @@ fn k9_type_info() {
 #[test]
 fn k10_utf16_and_k11_guid() {
     assert!(value::is_utf16(&[0x3D, 0xD8, 0x00, 0xDE]) && !value::is_utf16(&[0x3D, 0xD8]));
+    assert_eq!(value::characters(&[0x41, 0, 0x3D, 0xD8, 0x00, 0xDE, 0xFF, 0xFF]), 3);
     let bytes: Vec<u8> = (0..16).collect();
     assert_eq!(value::guid_text(&bytes), "{03020100-0504-0706-0809-0A0B0C0D0E0F}");
     assert_eq!(crate::data::format_guid(&bytes), value::guid_text(&bytes));

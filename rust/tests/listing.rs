@@ -10,8 +10,8 @@ fn or_dash(name: Option<Name>) -> String {
 fn control_line(number: usize, first: usize, control: &Control) -> String {
     let characters = match control.name {
         ControlName::Numbered(_) => "-".into(),
-        ControlName::Text(text) => (text.as_bytes().len() / 2).to_string(),
-        ControlName::Loose(loose) => (loose.0.len() / 2).to_string(),
+        ControlName::Text(text) => text.chars().count().to_string(),
+        ControlName::Loose(loose) => format!("{}b", loose.0.len()),
     };
     let name = or_dash(control.type_name());
     let parent = control.parent.map_or("-".into(), |n| n.to_string());
@@ -22,7 +22,7 @@ fn property_line(number: usize, property: &Property) -> String {
     let shown = match property.value {
         Value::NotDefault => "-".into(),
         Value::Double(d) => format!("{:016X}", d.to_bits()),
-        Value::Text(text) => (text.as_bytes().len() / 2).to_string(),
+        Value::Text(text) => text.chars().count().to_string(),
         Value::Binary(bytes) | Value::Loose(Loose(bytes)) => bytes.len().to_string(),
         value => value.to_string(),
     };

@@ -44,13 +44,21 @@ static void worked_example(void) {
 /* The lines of document 01's listing that need names, from the rows and the library alone. */
 static void print_name(oskuramos_answer a, const uint8_t *name) { printf(" %.*s", a.first > 0 ? (int)a.first : 1, a.first > 0 ? (const char *)name : "-"); }
 
+/* A surrogate pair is one character. */
+static uint32_t characters(uint32_t start, uint32_t length) {
+    uint32_t count = 0;
+    for (uint32_t i = 1; i < length; i += 2) count += (blob[start + i] & 0xFC) != 0xD8;
+    return count;
+}
+
 static void print_control(uint32_t n, const uint32_t *row) {
     printf("C %u %04X", n, row[0]);
     uint8_t type[OSKURAMOS_NAME_ROOM];
     print_name(oskuramos_control_type_name((uint16_t)row[0], type, sizeof type), type);
     oskuramos_part part = oskuramos_control_name(blob, sizeof blob, NULL, 0, row[1], row[2], row[3]);
-    if (row[1] == 1) printf(" -");
-    else printf(" %u", part.length / 2);
+    if (row[1] == OSKURAMOS_NAME_NUMBERED) printf(" -");
+    else if (row[1] == OSKURAMOS_NAME_LOOSE) printf(" %ub", part.length);
+    else printf(" %u", characters(part.start, part.length));
     printf(" %u %u %u", row[4], row[5], row[OSKURAMOS_CONTROL_LEVEL]);
     if (row[OSKURAMOS_CONTROL_PARENT] == OSKURAMOS_NO_PARENT) printf(" -\n");
     else printf(" %u\n", row[OSKURAMOS_CONTROL_PARENT]);
@@ -61,7 +69,7 @@ static void print_property(uint32_t n, const uint32_t *row) {
     uint8_t name[OSKURAMOS_NAME_ROOM];
     print_name(oskuramos_value_name(row[1], (uint16_t)row[0], name, sizeof name), name);
     if (row[1] == OSKURAMOS_SHORT) printf(" short %d\n", (int)(int32_t)row[2]);
-    else if (row[1] == OSKURAMOS_TEXT) printf(" text %u\n", row[5] / 2);
+    else if (row[1] == OSKURAMOS_TEXT) printf(" text %u\n", characters(row[4], row[5]));
     else printf(" mark %u\n", row[1]);
 }
 

@@ -58,6 +58,11 @@ pub fn is_utf16(bytes: &[u8]) -> bool {
     true
 }
 
+/// "A character is a Unicode scalar value: for UTF-16 text a surrogate pair counts once": every unit but the second of a pair.
+pub fn characters(bytes: &[u8]) -> usize {
+    bytes.chunks_exact(2).filter(|unit| !matches!(unit[1], 0xDC..=0xDF)).count()
+}
+
 /// A single's bits as those of the double of the same value, by whole numbers alone.
 pub fn widened(bits: u32) -> u64 {
     let sign = ((bits >> 31) as u64) << 63;

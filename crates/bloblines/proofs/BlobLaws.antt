@@ -65,15 +65,15 @@ module _ (t s cs ps : List ℕ) (a : Answer) (cs′ ps′ : List ℕ) (x : exite
     property-word : (n i : ℕ) → i < propertyWidth → Word32 (word (rowAt propertyWidth n ps′) i)
     property-word n i h = rw (word-in propertyWidth n i ps′ h) (w .properties (n * propertyWidth + i))
 
-    controls-most : length (linesTo controlLine controlWidth (a .first) cs′) ≤ a .first * longestControl
+    controls-most : length (linesTo (controlLine s) controlWidth (a .first) cs′) ≤ a .first * longestControl
     controls-most =
-        lines-short controlLine longestControl controlWidth cs′ (a .first) λ i l.
-        control-short i (rowAt controlWidth i cs′) (omega (arith, w .first)) (control-word i)
+        lines-short (controlLine s) longestControl controlWidth cs′ (a .first) λ i l.
+        control-short s i (rowAt controlWidth i cs′) (omega (arith, w .first)) (control-word i)
 
     properties-most : length (linesTo (propertyLine s) propertyWidth (a .second) ps′) ≤ a .second * longestProperty
     properties-most =
         lines-short (propertyLine s) longestProperty propertyWidth ps′ (a .second) λ i l.
-        property-short i (rowAt propertyWidth i ps′) (omega (arith, w .second)) s (property-word i 5 (omega arith))
+        property-short s i (rowAt propertyWidth i ps′) (omega (arith, w .second)) (property-word i 5 (omega arith))
 
     module _ {o b : List ℕ} {q : ℕ} (v : Wrote o 0 (answerLine a) b q) where
       pub blob-refused : (a .number ≡ 0 → ⊥) → Written o (linesIn t s cs ps) (mostIn cs ps) b q
@@ -82,12 +82,12 @@ module _ (t s cs ps : List ℕ) (a : Answer) (cs′ ps′ : List ℕ) (x : exite
           let e : linesIn t s cs ps ≡ answerLine a ++ [] = lines-are ∙ rw (ne-eqb (a .number) 0 h) in
           record { wrote = rw e (v ⨟ nothing); short = rw e (simp length-append (omega (arith, answer-most))) }
 
-      pub blob-read : a .number ≡ 0 → {d n : List ℕ} {r e : ℕ} → Wrote b q (linesTo controlLine controlWidth (a .first) cs′) d r
+      pub blob-read : a .number ≡ 0 → {d n : List ℕ} {r e : ℕ} → Wrote b q (linesTo (controlLine s) controlWidth (a .first) cs′) d r
           → Wrote d r (linesTo (propertyLine s) propertyWidth (a .second) ps′) n e → Written o (linesIn t s cs ps) (mostIn cs ps) n e
       unfolding shown
       blob-read h c p =
           let e : linesIn t s cs ps
-          ≡ answerLine a ++ (linesTo controlLine controlWidth (a .first) cs′ ++ linesTo (propertyLine s) propertyWidth (a .second) ps′) = lines-are ∙ rw (eq-eqb (a .number) 0 h) in
+          ≡ answerLine a ++ (linesTo (controlLine s) controlWidth (a .first) cs′ ++ linesTo (propertyLine s) propertyWidth (a .second) ps′) = lines-are ∙ rw (eq-eqb (a .number) 0 h) in
           let f = rooms h in
           let k = at-most (room controlWidth cs) longestControl controls-most (f .0) in
           let m = at-most (room propertyWidth ps) longestProperty properties-most (f .1) in

@@ -41,15 +41,15 @@ all-printed {s} w r input b =
     ∙ ap blobListing (all-read b refl)
 
 -- ---- the longest lines, computed from the name tables
-lines-are : (longestControl ≡ 90) × (longestProperty ≡ 95)
+lines-are : (longestControl ≡ 91) × (longestProperty ≡ 95)
 unfolding longestType longestName longestIn textNames numberNames bytesNames controlTypeNames
 lines-are = (refl, refl)
 
-lines-fit : (cs ps out : List ℕ) (c p : ℕ) → room controlWidth cs ≡ c → room propertyWidth ps ≡ p → longestAnswer + (c * 90 + p * 95) ≤ length out → mostIn cs ps ≤ length out
+lines-fit : (cs ps out : List ℕ) (c p : ℕ) → room controlWidth cs ≡ c → room propertyWidth ps ≡ p → longestAnswer + (c * 91 + p * 95) ≤ length out → mostIn cs ps ≤ length out
 lines-fit cs ps out c p f g h = rw (f, g, lines-are .0, lines-are .1) h
 
 -- ---- room for every input that is read
-pub large-roomy : {s cs ps out : List ℕ} → length s ≤ longestInput → length cs ≡ controlRoom * controlWidth → length ps ≡ propertyRoom * propertyWidth → 26378291 ≤ length out → Roomy s cs ps out
+pub large-roomy : {s cs ps out : List ℕ} → length s ≤ longestInput → length cs ≡ controlRoom * controlWidth → length ps ≡ propertyRoom * propertyWidth → 26394675 ≤ length out → Roomy s cs ps out
 large-roomy {s} {cs} {ps} {out} short c p o =
     let f : room controlWidth cs ≡ controlRoom = rw c in
     let g : room propertyWidth ps ≡ propertyRoom = rw p in
@@ -73,7 +73,7 @@ module _ (input cs ps : List ℕ) (small : length input < 16384) (c : room contr
       (cond (ltb longestBlob (length (blobIn input))) (answerLine (refusal tooLong))
       (printed (blobIn input) o)))) e
 
-pub small-roomy : {s cs ps out : List ℕ} → length s < 16384 → length cs ≡ 5461 * controlWidth → length ps ≡ 16384 * propertyWidth → 2048021 ≤ length out → Roomy s cs ps out
+pub small-roomy : {s cs ps out : List ℕ} → length s < 16384 → length cs ≡ 5461 * controlWidth → length ps ≡ 16384 * propertyWidth → 2053482 ≤ length out → Roomy s cs ps out
 small-roomy {s} {cs} {ps} {out} small c p o =
     let f : room controlWidth cs ≡ 5461 = rw c in
     let g : room propertyWidth ps ≡ 16384 = rw p in

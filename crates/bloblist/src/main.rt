@@ -14,10 +14,10 @@ ghost use Rattle.bloblines.specs.Blobs.{controlRoom, propertyRoom, longestInput
 ghost use Rattle.bloblist.specs.Space.{Roomy};
 
 // Of the large arrays only the length is told, since a proof that computed with their elements would not end.
-fn small_lines() -> [u8; 2048021]
-    ensures { λ r. ⌜ 2048021 ≡ length r ⌝ }
+fn small_lines() -> [u8; 2053482]
+    ensures { λ r. ⌜ 2053482 ≡ length r ⌝ }
 {
-    [0; 2048021]
+    [0; 2053482]
 }
 
 fn large_input() -> [u8; 4259844]
@@ -38,10 +38,10 @@ fn large_properties() -> [u32; 262144 * PROPERTY_WIDTH]
     [0; 262144 * PROPERTY_WIDTH]
 }
 
-fn large_lines() -> [u8; 26378291]
-    ensures { λ r. ⌜ 26378291 ≡ length r ⌝ }
+fn large_lines() -> [u8; 26394675]
+    ensures { λ r. ⌜ 26394675 ≡ length r ⌝ }
 {
-    [0; 26378291]
+    [0; 26394675]
 }
 
 // Prints the listing of standard input, of which `input` was read and `more` tells whether bytes came after it.

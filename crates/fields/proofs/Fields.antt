@@ -1,14 +1,14 @@
 -- A name, a count, as the code has them.
 use mathlib.Core.Path.{_≡_, refl}
-use mathlib.Core.List.{List, [], _∷_}
-use Prim.Native.Nat.{ℕ, _/_}
+use mathlib.Core.List.{List, [], _∷_, _++_}
+use Prim.Native.Nat.{ℕ}
 use native.Mathlib.Omega.{arith}
 use borrow.Author.Tests.{eq-eqb, ne-eqb}
 use lib.ListN.{length}
 use Rattle.rules.specs.Lists.{text}
 use Rattle.rules.specs.Digits.{decimal}
 use Rattle.rules.specs.Tree.{noParent}
-use Rattle.rules.specs.Listing.{orDash, nameColumn, parentColumn}
+use Rattle.rules.specs.Listing.{orDash, characters, nameColumn, parentColumn}
 
 pub no-name : (s : List ℕ) → length s ≡ 0 → orDash s ≡ text "-"
 unfolding orDash
@@ -20,13 +20,18 @@ unfolding orDash
 a-name [] e = absurd (e refl)
 a-name (b ∷ s) e = refl
 
-pub numbered : (m size : ℕ) → m ≡ 1 → nameColumn m size ≡ text "-"
-unfolding nameColumn
-numbered m size e = rw (eq-eqb m 1 e)
+module _ (m size : ℕ) (bytes : List ℕ) where
+  pub numbered : m ≡ 1 → nameColumn m size bytes ≡ text "-"
+  unfolding nameColumn
+  numbered e = rw (eq-eqb m 1 e)
 
-pub with-name : (m size : ℕ) → (m ≡ 1 → ⊥) → nameColumn m size ≡ decimal (size / 2)
-unfolding nameColumn
-with-name m size e = rw (ne-eqb m 1 e)
+  pub loose : m ≡ 2 → nameColumn m size bytes ≡ decimal size ++ text "b"
+  unfolding nameColumn
+  loose e = rw e
+
+  pub with-name : (m ≡ 1 → ⊥) → (m ≡ 2 → ⊥) → nameColumn m size bytes ≡ characters bytes
+  unfolding nameColumn
+  with-name e f = rw (ne-eqb m 1 e, ne-eqb m 2 f)
 
 pub top : (up : ℕ) → up ≡ noParent → parentColumn up ≡ text "-"
 unfolding parentColumn

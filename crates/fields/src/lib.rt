@@ -1,16 +1,19 @@
 // The fields of a line. Each is written into a lent buffer; the place after it is returned.
 use rows::NO_PARENT;
+use rules::NAME_LOOSE;
+use rules::NAME_NUMBERED;
 use rules::Property;
 use text::put_byte;
 use text::put_decimal;
 use text::put_hex;
 use text::put_text;
+use values::put_characters;
 use values::put_value;
 use values::put_word;
-use values::value_bytes;
 ghost use mathlib.Core.Path.{_≡_};
 ghost use mathlib.Core.List.{[], _∷_, _++_};
 ghost use Rattle.rules.specs.Lists.{text};
+ghost use Rattle.rules.specs.Bytes.{part};
 ghost use Rattle.rules.specs.Digits.{decimal, hex};
 ghost use Rattle.rules.specs.NameTables.{controlTypeNames};
 ghost use Rattle.rules.specs.Names.{nameIn, namesFor};
@@ -81,15 +84,25 @@ pub fn put_value_name(
     )
 }
 
-// How many characters a control's name has; a control without one is numbered.
-pub fn put_chars(out: &mut [u8], at: usize, mark: u32, size: u32) -> usize
-    ensures { λ r. ⌜ Wrote (now (out .entry)) at (nameColumn mark size) (now (out .exit)) r ⌝ }
+// How many characters a control's name has, or bytes where these aren't UTF-16; a control without one is numbered.
+pub fn put_name_size(
+    out: &mut [u8],
+    at: usize,
+    stream: &[u8],
+    mark: u32,
+    start: u32,
+    size: u32,
+) -> usize
+    ensures { λ r. ⌜ Wrote (now (out .entry)) at (nameColumn mark size (part (now (stream .entry)) start size)) (now (out .exit)) r ⌝ }
 {
-    if mark == 1 {
-        put_byte(out, at, b'-')
-    } else {
-        put_decimal(out, at, size / 2)
+    if mark == NAME_NUMBERED {
+        return put_byte(out, at, b'-');
     }
+    if mark == NAME_LOOSE {
+        let p = put_decimal(out, at, size);
+        return put_byte(out, p, b'b');
+    }
+    put_characters(out, at, stream, start, size)
 }
 
 fn put_parent(out: &mut [u8], at: usize, parent: u32) -> usize
@@ -116,8 +129,7 @@ pub fn put_shown(out: &mut [u8], at: usize, stream: &[u8], p: Property) -> usize
     ensures { λ r. ⌜ Wrote (now (out .entry)) at (shownFields (now (stream .entry)) (propertyRow p)) (now (out .exit)) r ⌝ }
 {
     let v = p.value;
-    let bytes = value_bytes(stream, p.start, p.size);
     let next = put_word(out, at, v.mark);
     let next = put_byte(out, next, b' ');
-    put_value(out, next, v.mark, v.low, v.high, p.size, bytes)
+    put_value(out, next, v.mark, v.low, v.high, stream, p.start, p.size)
 }

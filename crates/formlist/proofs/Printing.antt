@@ -15,7 +15,7 @@ use Rattle.bloblines.specs.Listed.{listed}
 use Rattle.inputs.specs.Begun.{Begun, whole, longer}
 
 -- the bound, computed from the name tables
-pub bound : longestListing ≡ 120371
+pub bound : longestListing ≡ 120627
 unfolding longestListing longestType longestName longestIn textNames numberNames bytesNames controlTypeNames
 bound = refl
 

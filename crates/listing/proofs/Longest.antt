@@ -18,12 +18,14 @@ use Rattle.rules.specs.Names.{hasId, nameText, nameIn, namesFor}
 use Rattle.rules.specs.Rows.{controlWidth, rowAt}
 use Rattle.rules.specs.Tree.{noParent}
 use Rattle.rules.specs.Bytes.{part}
-use Rattle.rules.specs.Listing.{orDash, answerLine, word, nameColumn, parentColumn, controlLine, markWord, yesOrNo, number32, valueColumn, propertyLine}
+use Rattle.rules.specs.Scalars.{scalars}
+use Rattle.rules.specs.Listing.{orDash, answerLine, word, characters, nameColumn, parentColumn, controlLine, markWord, yesOrNo, number32, valueColumn, propertyLine}
 use Rattle.rules.specs.declared.Answer.{Answer}
 use Rattle.text.proofs.Digits.{longest-label}
 use Rattle.text.proofs.Written.{guid-length}
+use Rattle.values.proofs.Parts.{part-few}
 use Rattle.values.proofs.Marks.{is-no, is-yes, low-half, high-half}
-use Rattle.fields.proofs.Fields.{numbered, with-name, top, inside}
+use Rattle.fields.proofs.Fields.{numbered, loose, with-name, top, inside}
 use Rattle.listing.specs.Shown.{linesTo}
 use Rattle.listing.specs.Bound.{longestIn, longestType, longestName, longestAnswer, longestControl, longestProperty}
 
@@ -91,9 +93,14 @@ unfolding hex
 hex-length zero n = refl
 hex-length (suc k) n = let e : length (hex k (n / 16)) ≡ k = hex-length k (n / 16) in simp length-append (omega arith)
 
-chars-by : (m n : ℕ) → Word32 n → (t : Bool) → eqb m 1 ≡ t → length (nameColumn m n) ≤ 10
-chars-by m n h true e = rw (numbered m n (eqb-true m 1 e)) (omega arith)
-chars-by m n h false e = rw (with-name m n (eqb-false m 1 e)) (decimal-short (n / 2) (omega arith))
+characters-short : (s : List ℕ) (start size : ℕ) → Word32 size → length (characters (part s start size)) ≤ 10
+characters-short s start size h = decimal-short (length (scalars (part s start size))) (omega (arith, part-few s start size))
+
+chars-by : (m : ℕ) (s : List ℕ) (start size : ℕ) → Word32 size → (t u : Bool) → eqb m 1 ≡ t → eqb m 2 ≡ u → length (nameColumn m size (part s start size)) ≤ 11
+chars-by m s start size h true u e f = rw (numbered m size (part s start size) (eqb-true m 1 e)) (omega arith)
+chars-by m s start size h false true e f = rw (loose m size (part s start size) (eqb-true m 2 f)) (simp length-append (omega (arith, decimal-short size h)))
+chars-by m s start size h false false e f =
+    rw (with-name m size (part s start size) (eqb-false m 1 e) (eqb-false m 2 f)) (omega (arith, characters-short s start size h))
 
 parent-by : (up : ℕ) → Word32 up → (t : Bool) → eqb up noParent ≡ t → length (parentColumn up) ≤ 10
 parent-by up h true e = rw (top up (eqb-true up noParent e)) (omega arith)
@@ -123,16 +130,16 @@ signed-by n false e =
     let g : 2147483648 ≤ n = ltb-false n 2147483648 e in
     rw (high-half n g) (omega (arith, decimal-short (4294967295 - n + 1) (omega arith)))
 
-module _ (low high size : ℕ) (g : List ℕ) (hs : Word32 size) where
-  value-short : (m : ℕ) → length (valueColumn m low high size g) ≤ 38
+module _ (low high : ℕ) (s : List ℕ) (start size : ℕ) (hs : Word32 size) where
+  value-short : (m : ℕ) → length (valueColumn m low high size (part s start size)) ≤ 38
   unfolding valueColumn
   value-short zero = omega (arith, yes-by low (eqb low 0) refl)
   value-short (suc zero) = omega arith
   value-short (suc (suc zero)) = omega (arith, signed-by low (ltb low 2147483648) refl)
   value-short (suc (suc (suc zero))) = omega (arith, signed-by low (ltb low 2147483648) refl)
   value-short (suc (suc (suc (suc zero)))) = simp length-append (omega (arith, hex-length 8 high, hex-length 8 low))
-  value-short (suc (suc (suc (suc (suc zero))))) = omega (arith, guid-length g)
-  value-short (suc (suc (suc (suc (suc (suc zero)))))) = omega (arith, decimal-short (size / 2) (omega arith))
+  value-short (suc (suc (suc (suc (suc zero))))) = omega (arith, guid-length (part s start size))
+  value-short (suc (suc (suc (suc (suc (suc zero)))))) = omega (arith, characters-short s start size hs)
   value-short (suc (suc (suc (suc (suc (suc (suc m))))))) = omega (arith, decimal-short size hs)
 
 -- ---- lines
@@ -143,8 +150,8 @@ module _ (a : Answer) (h0 : Word32 (a .number)) (h1 : Word32 (a .first)) (h2 : W
       simp length-append
       (omega (arith, decimal-short (a .number) h0, decimal-short (a .first) h1, decimal-short (a .second) h2, decimal-short (a .third) h3))
 
-module _ (n : ℕ) (row : List ℕ) (hn : Word32 n) where
-  pub control-short : ((i : ℕ) → i < controlWidth → Word32 (word row i)) → length (controlLine n row) ≤ longestControl
+module _ (stream : List ℕ) (n : ℕ) (row : List ℕ) (hn : Word32 n) where
+  pub control-short : ((i : ℕ) → i < controlWidth → Word32 (word row i)) → length (controlLine stream n row) ≤ longestControl
   unfolding controlLine
   control-short h =
       simp length-append
@@ -153,16 +160,16 @@ module _ (n : ℕ) (row : List ℕ) (hn : Word32 n) where
         decimal-short n hn,
         hex-length 4 (word row 0),
         type-short (word row 0),
-        chars-by (word row 1) (word row 3) (h 3 (omega arith)) (eqb (word row 1) 1) refl,
+        chars-by (word row 1) stream (word row 2) (word row 3) (h 3 (omega arith)) (eqb (word row 1) 1) (eqb (word row 1) 2) refl refl,
         decimal-short (word row 4) (h 4 (omega arith)),
         decimal-short (word row 5) (h 5 (omega arith)),
         decimal-short (word row 6) (h 6 (omega arith)),
         parent-by (word row 7) (h 7 (omega arith)) (eqb (word row 7) noParent) refl,
       ))
 
-  pub property-short : (stream : List ℕ) → Word32 (word row 5) → length (propertyLine stream n row) ≤ longestProperty
+  pub property-short : Word32 (word row 5) → length (propertyLine stream n row) ≤ longestProperty
   unfolding propertyLine
-  property-short stream h5 =
+  property-short h5 =
       simp length-append
       (omega (
         arith,
@@ -170,7 +177,7 @@ module _ (n : ℕ) (row : List ℕ) (hn : Word32 n) where
         hex-length 4 (word row 0),
         value-name-short (word row 1) (word row 0),
         word-short (word row 1),
-        value-short (word row 2) (word row 3) (word row 5) (part stream (word row 4) (word row 5)) h5 (word row 1),
+        value-short (word row 2) (word row 3) stream (word row 4) (word row 5) h5 (word row 1),
       ))
 
 -- as many lines as there are rows

@@ -56,18 +56,18 @@ properties-width : (r : Reading) → Wide propertyWidth (propertyRows r)
 unfolding propertyRows
 properties-width r = properties-wide (properties r)
 
-module _ (r : Reading) (old : List ℕ) where
+module _ (stream : List ℕ) (r : Reading) (old : List ℕ) where
   pub control-lines : length (r .controls) ≤ room controlWidth old
-      → linesFrom controlLine 0 (controlRows r) ≡ linesTo controlLine controlWidth (length (r .controls)) (written (controlRows r) old)
+      → linesFrom (controlLine stream) 0 (controlRows r) ≡ linesTo (controlLine stream) controlWidth (length (r .controls)) (written (controlRows r) old)
   control-lines h =
       let k : length (controlRows r) * controlWidth ≤ length old = omega (arith, controls-counted r) in
-      lines-written controlLine controlWidth (controlRows r) (controls-width r) old k
-      ∙ ap (λ (n : ℕ). linesTo controlLine controlWidth n (written (controlRows r) old)) (controls-counted r)
+      lines-written (controlLine stream) controlWidth (controlRows r) (controls-width r) old k
+      ∙ ap (λ (n : ℕ). linesTo (controlLine stream) controlWidth n (written (controlRows r) old)) (controls-counted r)
 
-  pub property-lines : (stream : List ℕ) → length (properties r) ≤ room propertyWidth old
+  pub property-lines : length (properties r) ≤ room propertyWidth old
       → linesFrom (propertyLine stream) 0 (propertyRows r)
       ≡ linesTo (propertyLine stream) propertyWidth (length (properties r)) (written (propertyRows r) old)
-  property-lines stream h =
+  property-lines h =
       let k : length (propertyRows r) * propertyWidth ≤ length old = omega (arith, properties-counted r) in
       lines-written (propertyLine stream) propertyWidth (propertyRows r) (properties-width r) old k
       ∙ ap (λ (n : ℕ). linesTo (propertyLine stream) propertyWidth n (written (propertyRows r) old)) (properties-counted r)
@@ -102,7 +102,7 @@ shown-by : (s controls props : List ℕ) (o : Outcome) → Stated (room controlW
 unfolding printed shown linesFrom
 shown-by s controls props (refused a) h = rw (ne-eqb (a .number) 0 h)
 shown-by s controls props (read r) h =
-    ap₂ (λ (x y : List ℕ). answerLine (counted 0 r) ++ (x ++ y)) (control-lines r controls (h .0)) (property-lines r props s (h .1))
+    ap₂ (λ (x y : List ℕ). answerLine (counted 0 r) ++ (x ++ y)) (control-lines s r controls (h .0)) (property-lines s r props (h .1))
 
 -- what is printed follows from what a reader of the Blob hands back, whatever it was lent
 pub printed-shown : (t s controls props : List ℕ)

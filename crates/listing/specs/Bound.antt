@@ -32,8 +32,9 @@ longestValue = 38
 abbrev pub longestAnswer : ℕ
 longestAnswer = 6 + 1 + 4 * (longestNumber + 1)
 
+-- the bytes of a loose name have a `b` after their number
 abbrev pub longestControl : ℕ
-longestControl = 1 + 1 + (longestNumber + 1) + (4 + 1) + (longestType + 1) + 5 * (longestNumber + 1)
+longestControl = 1 + 1 + (longestNumber + 1) + (4 + 1) + (longestType + 1) + (longestNumber + 1 + 1) + 4 * (longestNumber + 1)
 
 abbrev pub longestProperty : ℕ
 longestProperty = 1 + 1 + (longestNumber + 1) + (4 + 1) + (longestName + 1) + (longestWord + 1) + (longestValue + 1)

@@ -11,7 +11,7 @@ use Rattle.listing.specs.declared.Kind.{Kind}
 
 -- ---- by what the rows are of
 abbrev pub lineOf : Kind → List ℕ → ℕ → List ℕ → List ℕ
-lineOf Kind.Control stream = controlLine
+lineOf Kind.Control stream = controlLine stream
 lineOf Kind.Property stream = propertyLine stream
 lineOf Kind.Info stream = infoLine stream
 
@@ -30,6 +30,6 @@ unfoldable pub shown : List ℕ → Exit → List ℕ
 shown stream e =
     answerLine (e .answer)
     ++ cond (eqb (e .answer .number) 0)
-    (linesTo controlLine controlWidth (e .answer .first) (e .controls)
+    (linesTo (controlLine stream) controlWidth (e .answer .first) (e .controls)
     ++ linesTo (propertyLine stream) propertyWidth (e .answer .second) (e .properties))
     []

@@ -1,7 +1,7 @@
 // The lines of the listings. Each is written into a lent buffer at a place; the place after it is returned.
-use fields::put_chars;
 use fields::put_end;
 use fields::put_head;
+use fields::put_name_size;
 use fields::put_nesting;
 use fields::put_shown;
 use fields::put_type_name;
@@ -59,19 +59,20 @@ pub fn refusal_line(out: &mut [u8], number: u32) -> usize
 fn control_line(
     out: &mut [u8],
     at: usize,
+    stream: &[u8],
     rows: &[u32],
     n: u32,
     index: &[u32],
     letters: &[u8],
 ) -> usize
     requires { ⌜ Lent (now index) (now letters) ⌝ }
-    ensures { λ r. ⌜ Wrote (now (out .entry)) at (controlLine n (rowAt controlWidth n (now (rows .entry)))) (now (out .exit)) r ⌝ }
+    ensures { λ r. ⌜ Wrote (now (out .entry)) at (controlLine (now (stream .entry)) n (rowAt controlWidth n (now (rows .entry)))) (now (out .exit)) r ⌝ }
 {
     let row = get_control(rows, n);
     let p = put_head(out, at, b'C', n, row.type_code);
     let p = put_type_name(out, p, index, letters, row.type_code);
     let p = put_byte(out, p, b' ');
-    let p = put_chars(out, p, row.mark, row.size);
+    let p = put_name_size(out, p, stream, row.mark, row.start, row.size);
     let p = put_byte(out, p, b' ');
     let p = put_decimal(out, p, row.first);
     let p = put_byte(out, p, b' ');
@@ -207,7 +208,7 @@ fn line(
     ensures { λ r. ⌜ Wrote (now (out .entry)) at (lineOf kind (now (stream .entry)) n (rowAt (widthOf kind) n (now (rows .entry)))) (now (out .exit)) r ⌝ }
 {
     match kind {
-        Kind::Control => control_line(out, at, rows, n, index, letters),
+        Kind::Control => control_line(out, at, stream, rows, n, index, letters),
         Kind::Property => property_line(out, at, stream, rows, n, index, letters),
         Kind::Info => info_line(out, at, stream, rows, n, index, letters),
     }

@@ -7,7 +7,7 @@ use borrow.Author.Tests.{lt-ltb, le-ltb}
 use lib.ListN.{length, replicate}
 use Rattle.rules.specs.Lists.{concat, text}
 use Rattle.rules.specs.Blob.{outcome}
-use Rattle.rules.specs.Listing.{line, word, nameColumn, markWord, valueColumn, printed, tableLength, tableIn, blobIn, listing}
+use Rattle.rules.specs.Listing.{line, word, nameColumn, parentColumn, markWord, valueColumn, printed, tableLength, tableIn, blobIn, listing}
 use Rattle.rules.specs.Dump.{dump}
 use Rattle.rules.specs.Examples.{table}
 use Rattle.rules.proofs.Open.{rules-open}
@@ -18,7 +18,7 @@ pub listed : printed tree (outcome table tree 256 1024)
     ∷ text "C 0 0098 Detail 1 11 1 0 -\n"
     ∷ text "C 1 006D TextBox - 12 2 1 0\n"
     ∷ text "C 2 0065 Rectangle - 14 1 0 -\n"
-    ∷ text "C 3 0066 Line 0 15 1 1 2\n"
+    ∷ text "C 3 0066 Line 1b 15 1 1 2\n"
     ∷ text "C 4 009E GroupFooter - 16 1 0 -\n"
     ∷ text "P 0 0061 ControlBox bool yes\n"
     ∷ text "P 1 001A - notdefault -\n"
@@ -27,7 +27,7 @@ pub listed : printed tree (outcome table tree 256 1024)
     ∷ text "P 4 0005 - double BFF8000000000000\n"
     ∷ text "P 5 0006 AutoResize double 4000000200000001\n"
     ∷ text "P 6 0178 GUID guid {03020100-0504-0706-0809-0A0B0C0D0E0F}\n"
-    ∷ text "P 7 0011 Caption text 2\n"
+    ∷ text "P 7 0011 Caption text 1\n"
     ∷ text "P 8 00AB OleData binary 3\n"
     ∷ text "P 9 0014 Name text 1\n"
     ∷ text "P 10 009C RecordSource loose 1\n"
@@ -77,21 +77,23 @@ pub inputs :
 unfolding rules-open
 inputs = (refl, refl, refl, refl, refl, refl, refl, refl)
 
--- ---- fields: a value by mark, low, high, length and bytes; a control's name by mark and length
+-- ---- fields: a value by mark, low, high, length and bytes; a control's name by mark, length and bytes; its parent
 pub fields :
     (map (λ low. valueColumn 0 low 0 1 []) (0 ∷ 1 ∷ []) ≡ text "no" ∷ text "yes" ∷ [])
     × (valueColumn 1 7 7 7 [] ≡ text "-")
     × (map (λ low. valueColumn 2 low 7 2 []) (0 ∷ 32767 ∷ 0xFFFF8000 ∷ []) ≡ text "0" ∷ text "32767" ∷ text "-32768" ∷ [])
     × (map (λ low. valueColumn 3 low 7 4 []) (0x7FFFFFFF ∷ 0x80000000 ∷ 0xFFFFFFFF ∷ []) ≡ text "2147483647" ∷ text "-2147483648" ∷ text "-1" ∷ [])
     × (valueColumn 4 0x9ABCDEF0 0x12345678 8 [] ≡ text "123456789ABCDEF0")
-    × (map (λ mark. valueColumn mark 0 0 15 []) (6 ∷ 7 ∷ 8 ∷ []) ≡ text "7" ∷ text "15" ∷ text "15" ∷ [])
-    × (nameColumn 0 0 ≡ text "0")
-    × (map (λ mark. nameColumn mark 9) (0 ∷ 1 ∷ 2 ∷ []) ≡ text "4" ∷ text "-" ∷ text "4" ∷ [])
+    × (map (λ mark. valueColumn mark 0 0 15 (dump "41 00 3D D8 00 DE 42 00")) (6 ∷ 7 ∷ 8 ∷ []) ≡ text "3" ∷ text "15" ∷ text "15" ∷ [])
+    × (valueColumn 6 7 7 0 [] ≡ text "0")
+    × (nameColumn 0 0 [] ≡ text "0")
+    × (map (λ mark. nameColumn mark 11 (dump "41 00 3D D8 00 DE 42 00")) (0 ∷ 1 ∷ 2 ∷ 3 ∷ []) ≡ text "3" ∷ text "-" ∷ text "11b" ∷ text "3" ∷ [])
+    × (map parentColumn (0 ∷ 0xFFFFFFFE ∷ 0xFFFFFFFF ∷ []) ≡ text "0" ∷ text "4294967294" ∷ text "-" ∷ [])
     × (map markWord (0 ∷ 1 ∷ 2 ∷ 3 ∷ 4 ∷ 5 ∷ 6 ∷ 7 ∷ 8 ∷ []) ≡ text "bool" ∷ text "notdefault" ∷ text "short" ∷ text "long" ∷ text "double" ∷ text "guid" ∷ text "text" ∷ text "binary" ∷ text "loose" ∷ [])
     × (line [] ≡ text "\n")
     × (map (word (1 ∷ 2 ∷ [])) (0 ∷ 1 ∷ 2 ∷ []) ≡ 1 ∷ 2 ∷ 0 ∷ [])
 unfolding rules-open
-fields = (refl, refl, refl, refl, refl, refl, refl, refl, refl, refl, refl)
+fields = (refl, refl, refl, refl, refl, refl, refl, refl, refl, refl, refl, refl, refl)
 
 -- whatever fits the buffer is listed, with room for 256 controls and 1,024 properties
 pub lists : (input : List ℕ) → length input ≤ 32768 → 4 + tableLength input ≤ length input

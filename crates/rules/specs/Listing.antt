@@ -1,5 +1,5 @@
 -- The listing: the bytes that `formlist` prints for an input.
-use Prim.Native.Nat.{ℕ, _+_, _/_}
+use Prim.Native.Nat.{ℕ, _+_}
 use mathlib.Core.Bool.{Bool, cond}
 use mathlib.Core.List.{List, [], _∷_, _++_}
 use lib.Dec.{ltb, eqb}
@@ -7,6 +7,7 @@ use lib.ListN.{length, getD, drop}
 use Rattle.rules.specs.Lists.{text}
 use Rattle.rules.specs.Bytes.{u32, part}
 use Rattle.rules.specs.Answer.{refusal, tooLong, badTable}
+use Rattle.rules.specs.Scalars.{scalars}
 use Rattle.rules.specs.Value.{signed}
 use Rattle.rules.specs.Tree.{noParent}
 use Rattle.rules.specs.Digits.{decimal, hex, signedDecimal}
@@ -36,24 +37,27 @@ answerLine a = line (text "answer" ∷ decimal (a .number) ∷ decimal (a .first
 abbrev pub word : List ℕ → ℕ → ℕ
 word row i = getD row i 0
 
--- "Characters are the length divided by two, rounded down."
-abbrev pub characters : ℕ → List ℕ
-characters size = decimal (size / 2)
+-- how many characters text has. Wish 5 of document 02: "A character is a Unicode scalar value"
+abbrev pub characters : List ℕ → List ℕ
+characters bytes = decimal (length (scalars bytes))
 
--- "characters of the name or `-` if numbered"
-unfoldable pub nameColumn : ℕ → ℕ → List ℕ
-nameColumn mark size = cond (eqb mark 1) (text "-") (characters size)
+-- "characters of the name or `-` if numbered"; wish 5: "Names with mark 2 print the byte length followed by `b`."
+unfoldable pub nameColumn : ℕ → ℕ → List ℕ → List ℕ
+nameColumn mark size bytes =
+    cond (eqb mark 1) (text "-")
+    (cond (eqb mark 2) (decimal size ++ text "b")
+    (characters bytes))
 
--- wish 1 of document 02: "`-` for no parent"
+-- wish 1: "`-` for no parent"
 unfoldable pub parentColumn : ℕ → List ℕ
 parentColumn up = cond (eqb up noParent) (text "-") (decimal up)
 
 -- "the C lines (number, type in hex, type name or `-`, characters of the name .., first row, count)"; wish 1: "`formlist` prints both at the end of the
 -- C line": the level and the parent
-unfoldable pub controlLine : ℕ → List ℕ → List ℕ
-controlLine n row =
+unfoldable pub controlLine : List ℕ → ℕ → List ℕ → List ℕ
+controlLine stream n row =
     line (text "C" ∷ decimal n ∷ hex 4 (word row 0) ∷ orDash (nameIn controlTypeNames (word row 0))
-    ∷ nameColumn (word row 1) (word row 3) ∷ decimal (word row 4) ∷ decimal (word row 5)
+    ∷ nameColumn (word row 1) (word row 3) (part stream (word row 2) (word row 3)) ∷ decimal (word row 4) ∷ decimal (word row 5)
     ∷ decimal (word row 6) ∷ parentColumn (word row 7) ∷ [])
 
 -- ---- properties, by the words of their rows
@@ -74,7 +78,7 @@ number32 low = signedDecimal (signed 0x80000000 low)
 unfoldable pub valueColumn : ℕ → ℕ → ℕ → ℕ → List ℕ → List ℕ
 valueColumn mark low high size bytes =
     getD
-    (yesOrNo low ∷ text "-" ∷ number32 low ∷ number32 low ∷ (hex 8 high ++ hex 8 low) ∷ guidText bytes ∷ characters size ∷ [])
+    (yesOrNo low ∷ text "-" ∷ number32 low ∷ number32 low ∷ (hex 8 high ++ hex 8 low) ∷ guidText bytes ∷ characters bytes ∷ [])
     mark
     (decimal size)
 
@@ -95,7 +99,7 @@ linesFrom lineOf n (row ∷ rows) = lineOf n row ++ linesFrom lineOf (n + 1) row
 unfoldable pub printed : List ℕ → Outcome → List ℕ
 printed stream o =
     answerLine (answerOf o)
-    ++ (linesFrom controlLine 0 (controlsShown o)
+    ++ (linesFrom (controlLine stream) 0 (controlsShown o)
     ++ linesFrom (propertyLine stream) 0 (propertiesShown o))
 
 -- "u32 length of the code table, the code table, a Blob"

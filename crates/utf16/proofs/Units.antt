@@ -11,8 +11,10 @@ use lib.Dec.{ltb}
 use borrow.Author.Tests.{lt-leb, lt-ltb, le-ltb, ltb-true, ltb-false}
 use Rattle.rules.specs.Bytes.{Bytes, byte, u16}
 use Rattle.rules.specs.Utf16.{isHigh, isLow, same, paired}
+use Rattle.rules.specs.Scalars.{scalarsFrom, scalars}
+use Rattle.rules.proofs.ScalarLaws.{ended, by-unit}
 use Rattle.rules.proofs.ListLaws.{and-l, and-r}
-use Rattle.utf16.specs.Plain.{isPlain, plainFour}
+use Rattle.utf16.specs.Plain.{isPlain, plainFour, Skipped}
 
 two : (s : List ℕ) (i : ℕ) → i + 1 < length s → drop i s ≡ byte s i ∷ byte s (i + 1) ∷ drop (i + 2) s
 two s i h =
@@ -52,11 +54,29 @@ module _ (s : List ℕ) (i : ℕ) (pending : Bool) (h : i + 1 < length s) where
   pub stops : same pending (isLow (u16 s i)) ≡ false → paired pending (drop i s) ≡ false
   stops e = at-two ∙ rw e
 
--- a unit below the surrogates, where none came before
-pub plain : (s : List ℕ) (i : ℕ) → i + 1 < length s → u16 s i < 0xD800 → paired false (drop i s) ≡ paired false (drop (i + 2) s)
-plain s i h l = goes s i false h (simp (lt-leb 0xDC00 (u16 s i) (omega arith))) ∙ ap (λ (t : Bool). paired t (drop (i + 2) s)) (simp (lt-leb 0xD800 (u16 s i) l))
+pub counts : (s : List ℕ) (i : ℕ) → i + 1 < length s → length (scalars (drop i s)) ≡ ended (u16 s i) + length (scalars (drop (i + 2) s))
+unfolding scalars u16
+counts s i h = ap (λ (l : List ℕ). length (scalarsFrom 0 l)) (two s i h) ∙ by-unit 0 (byte s i) (byte s (i + 1)) (drop (i + 2) s)
 
--- ---- four units below the surrogates, by their high bytes
+-- ---- units below the surrogates
+pub none : (s : List ℕ) (start : ℕ) → start ≤ length s → Skipped s start start
+none s start h = record { inside = h; same = refl; count = refl }
+
+pub onward : {s : List ℕ} {a b c : ℕ} → Skipped s a b → Skipped s b c → Skipped s a c
+onward h k = record { inside = k .inside; same = h .same ∙ k .same; count = h .count ∙ k .count }
+
+-- one, where no first half came before
+pub plain : (s : List ℕ) (i : ℕ) → i + 1 < length s → u16 s i < 0xD800 → Skipped s i (i + 2)
+plain s i h l =
+    let e : isHigh (u16 s i) ≡ false = simp (lt-leb 0xD800 (u16 s i) l) in
+    let one : ended (u16 s i) ≡ 1 = rw e in
+    record {
+      inside = omega arith;
+      same = goes s i false h (simp (lt-leb 0xDC00 (u16 s i) (omega arith))) ∙ ap (λ (t : Bool). paired t (drop (i + 2) s)) e;
+      count = omega (arith, counts s i h, one);
+    }
+
+-- four, by their high bytes
 plain-high : (s : List ℕ) (p q : ℕ) → Bytes s → q ≡ p + 1 → isPlain (u16 s p) ≡ ltb (byte s q) 0xD8
 unfolding u16
 plain-high s p q k e = go (ltb (byte s q) 0xD8) refl
@@ -69,20 +89,22 @@ pub high-bytes : (s : List ℕ) (p : ℕ) → Bytes s → plainFour s p ≡ (ltb
 unfolding plainFour
 high-bytes s p k = rw (plain-high s p (p + 1) k refl, plain-high s (p + 2) (p + 3) k (omega arith), plain-high s (p + 4) (p + 5) k (omega arith), plain-high s (p + 6) (p + 7) k (omega arith))
 
-pub four-plain : (s : List ℕ) (i : ℕ) → i + 8 ≤ length s → plainFour s i ≡ true → paired false (drop i s) ≡ paired false (drop (i + 8) s)
+pub four-plain : (s : List ℕ) (i : ℕ) → i + 8 ≤ length s → plainFour s i ≡ true → Skipped s i (i + 8)
 unfolding plainFour
 four-plain s i h t =
     let a = isPlain (u16 s i) in
     let b = isPlain (u16 s (i + 2)) in
     let c = isPlain (u16 s (i + 4)) in
     let d = isPlain (u16 s (i + 6)) in
-    plain s i (omega arith) (ltb-true _ _ (and-l a b (and-l (a && b) c (and-l (a && b && c) d t))))
-    ∙ step (i + 2) (i + 4) (omega arith) (omega arith) (ltb-true _ _ (and-r a b (and-l (a && b) c (and-l (a && b && c) d t))))
-    ∙ step (i + 4) (i + 6) (omega arith) (omega arith) (ltb-true _ _ (and-r (a && b) c (and-l (a && b && c) d t)))
-    ∙ step (i + 6) (i + 8) (omega arith) (omega arith) (ltb-true _ _ (and-r (a && b && c) d t))
+    let three = and-l (a && b && c) d t in
+    let two = and-l (a && b) c three in
+    onward (plain s i (omega arith) (ltb-true _ _ (and-l a b two)))
+    (onward (step (i + 2) (i + 4) (omega arith) (omega arith) (ltb-true _ _ (and-r a b two)))
+    (onward (step (i + 4) (i + 6) (omega arith) (omega arith) (ltb-true _ _ (and-r (a && b) c three)))
+    (step (i + 6) (i + 8) (omega arith) (omega arith) (ltb-true _ _ (and-r (a && b && c) d t)))))
   where
-    step : (p q : ℕ) → p + 1 < length s → q ≡ p + 2 → u16 s p < 0xD800 → paired false (drop p s) ≡ paired false (drop q s)
-    step p q l e u = plain s p l u ∙ ap (λ (n : ℕ). paired false (drop n s)) (sym e)
+    step : (p q : ℕ) → p + 1 < length s → q ≡ p + 2 → u16 s p < 0xD800 → Skipped s p q
+    step p q l e u = rw e (plain s p l u)
 
 -- one byte is left over, or none
 over : (pending : Bool) (l : List ℕ) → length l ≡ 1 → paired pending l ≡ false

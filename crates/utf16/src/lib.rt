@@ -1,10 +1,12 @@
-// Whether bytes are UTF-16: units of two bytes, low byte first, whose surrogates stand in pairs.
+// Whether bytes are UTF-16: units of two bytes, low byte first, whose surrogates stand in pairs; and how many characters they are.
 use numbers::u16_at;
 ghost use mathlib.Core.Path.{_≡_};
 ghost use mathlib.Core.Bool.{true};
 ghost use Prim.Native.Nat.{_+_, _≤_};
 ghost use lib.ListN.{length};
 ghost use Rattle.rules.specs.Utf16.{isUtf16, isHigh, isLow};
+ghost use Rattle.rules.specs.Scalars.{scalars};
+ghost use Rattle.rules.proofs.ScalarLaws.{ended};
 ghost use Rattle.utf16.specs.Plain.{plainFour, Skipped};
 
 // The first surrogate, the first that comes second in a pair, and the first unit above both.
@@ -46,7 +48,7 @@ fn plain_four(bytes: &[u8], at: usize) -> bool
     bytes[at + 7] < HIGH_BYTE
 }
 
-// Skips the units from `start` on, four at a time, as long as none of the four is a surrogate.
+// Skips the units from `start` on, four at a time, as long as all four are below the surrogates.
 fn past_fours(bytes: &[u8], start: usize) -> usize
     requires { ⌜ start ≤ length (now bytes) ⌝ }
     ensures { λ r. ⌜ Skipped (now (bytes .entry)) start r ⌝ }
@@ -62,7 +64,7 @@ fn past_fours(bytes: &[u8], start: usize) -> usize
     i
 }
 
-// Skips the units from `start` on that are no surrogates, most often all there are.
+// Skips the units from `start` on that are below the surrogates, most often all there are.
 fn past_plain(bytes: &[u8], start: usize) -> usize
     requires { ⌜ start ≤ length (now bytes) ⌝ }
     ensures { λ r. ⌜ Skipped (now (bytes .entry)) start r ⌝ }
@@ -105,4 +107,24 @@ pub fn is_utf16(bytes: &[u8]) -> bool
         return false;
     }
     !pending
+}
+
+// How many characters a unit ends: the first half of a pair waits for the second.
+fn ended(u: u16) -> usize
+    ensures { λ r. ⌜ r ≡ ended u ⌝ }
+{
+    if is_high(u) { 0 } else { 1 }
+}
+
+// How many characters bytes of UTF-16 are: a pair is one.
+pub fn characters(bytes: &[u8]) -> usize
+    ensures { λ r. ⌜ r ≡ length (scalars (now (bytes .entry))) ⌝ }
+{
+    let mut i = past_plain(bytes, 0);
+    let mut n = i / 2;
+    while 1 < bytes.len() - i {
+        n += ended(u16_at(bytes, i));
+        i += 2;
+    }
+    n
 }

@@ -13,8 +13,8 @@ use Rattle.rules.specs.Listing.{characters, markWords, markWord, yesOrNo, numbe
 use Rattle.text.specs.Writer.{Wrote}
 
 -- what is shown for each mark up to 6
-abbrev pub values : ℕ → ℕ → ℕ → List ℕ → List (List ℕ)
-values low high size g = yesOrNo low ∷ text "-" ∷ number32 low ∷ number32 low ∷ (hex 8 high ++ hex 8 low) ∷ guidText g ∷ characters size ∷ []
+abbrev pub values : ℕ → ℕ → List ℕ → List (List ℕ)
+values low high g = yesOrNo low ∷ text "-" ∷ number32 low ∷ number32 low ∷ (hex 8 high ++ hex 8 low) ∷ guidText g ∷ characters g ∷ []
 
 -- ---- an arm of the code, by its number
 module _ {o n : List ℕ} {a r m : ℕ} (k : ℕ) (e : m ≡ k) where
@@ -22,7 +22,7 @@ module _ {o n : List ℕ} {a r m : ℕ} (k : ℕ) (e : m ≡ k) where
   unfolding markWord
   a-word w = rw e w
 
-  pub a-value : (low high size : ℕ) (g : List ℕ) → Wrote o a (getD (values low high size g) k (decimal size)) n r → Wrote o a (valueColumn m low high size g) n r
+  pub a-value : (low high size : ℕ) (g : List ℕ) → Wrote o a (getD (values low high g) k (decimal size)) n r → Wrote o a (valueColumn m low high size g) n r
   unfolding valueColumn
   a-value low high size g w = rw e w
 

@@ -6,7 +6,7 @@ use text::put_hex;
 use text::put_text;
 ghost use mathlib.Core.Path.{_≡_};
 ghost use Rattle.rules.specs.Bytes.{part};
-ghost use Rattle.rules.specs.Listing.{markWord, yesOrNo, number32, valueColumn};
+ghost use Rattle.rules.specs.Listing.{markWord, yesOrNo, number32, characters, valueColumn};
 ghost use Rattle.text.specs.Writer.{Wrote};
 
 pub fn put_word(out: &mut [u8], at: usize, mark: u32) -> usize
@@ -47,32 +47,6 @@ fn put_signed(out: &mut [u8], at: usize, low: u32) -> usize
     }
 }
 
-pub fn put_value(
-    out: &mut [u8],
-    at: usize,
-    mark: u32,
-    low: u32,
-    high: u32,
-    size: u32,
-    bytes: &[u8],
-) -> usize
-    ensures { λ r. ⌜ Wrote (now (out .entry)) at (valueColumn mark low high size (now (bytes .entry))) (now (out .exit)) r ⌝ }
-{
-    match mark {
-        0 => put_yes(out, at, low),
-        1 => put_byte(out, at, b'-'),
-        2 => put_signed(out, at, low),
-        3 => put_signed(out, at, low),
-        4 => {
-            let p = put_hex(out, at, 8, high);
-            put_hex(out, p, 8, low)
-        }
-        5 => put_guid(out, at, bytes),
-        6 => put_decimal(out, at, size / 2),
-        _ => put_decimal(out, at, size),
-    }
-}
-
 // The bytes of a value, as far as the stream has them.
 pub fn value_bytes(stream: &[u8], start: u32, size: u32) -> &[u8]
     ensures { λ r. ⌜ now r ≡ part (now (stream .entry)) start size ⌝ }
@@ -87,4 +61,39 @@ pub fn value_bytes(stream: &[u8], start: u32, size: u32) -> &[u8]
     }
     let end = first + most;
     &stream[first..end]
+}
+
+// How many characters the text of these bytes of the stream has.
+pub fn put_characters(out: &mut [u8], at: usize, stream: &[u8], start: u32, size: u32) -> usize
+    ensures { λ r. ⌜ Wrote (now (out .entry)) at (characters (part (now (stream .entry)) start size)) (now (out .exit)) r ⌝ }
+{
+    let count = utf16::characters(value_bytes(stream, start, size));
+    put_decimal(out, at, count as u32)
+}
+
+pub fn put_value(
+    out: &mut [u8],
+    at: usize,
+    mark: u32,
+    low: u32,
+    high: u32,
+    stream: &[u8],
+    start: u32,
+    size: u32,
+) -> usize
+    ensures { λ r. ⌜ Wrote (now (out .entry)) at (valueColumn mark low high size (part (now (stream .entry)) start size)) (now (out .exit)) r ⌝ }
+{
+    match mark {
+        0 => put_yes(out, at, low),
+        1 => put_byte(out, at, b'-'),
+        2 => put_signed(out, at, low),
+        3 => put_signed(out, at, low),
+        4 => {
+            let p = put_hex(out, at, 8, high);
+            put_hex(out, p, 8, low)
+        }
+        5 => put_guid(out, at, value_bytes(stream, start, size)),
+        6 => put_characters(out, at, stream, start, size),
+        _ => put_decimal(out, at, size),
+    }
 }

@@ -9,12 +9,11 @@ unfolding shownFields
 returns c =
     let blank : tie.After-put-byte = search in
     let word : tie.After-put-word = search in
-    let bytes : tie.After-value-bytes = search in
-    rw (bytes .value-bytes .ensures) at (word .put-word .ensures ⨟ blank .put-byte .ensures ⨟ c .before .before .put-value .ensures)
+    word .put-word .ensures ⨟ blank .put-byte .ensures ⨟ c .before .before .put-value .ensures
 
 pub put-shown-spec : {M : Type 1} → statement M
 put-shown-spec =
     tie.close
     (tie.spec
-    (λ c κs. search needs) (λ c κs. search needs) (λ c κs. search needs) (λ c κs. search needs) (λ c. search needs)
+    (λ c κs. search needs) (λ c κs. search needs) (λ c κs. search needs) (λ c. search needs)
     returns)

@@ -24,18 +24,18 @@ returns c =
     let blank-3 : tie.After-put-byte3 = search in
     let first : tie.After-put-decimal = search in
     let blank-2 : tie.After-put-byte2 = search in
-    let chars : tie.After-put-chars = search in
+    let chars : tie.After-put-name-size = search in
     let blank : tie.After-put-byte = search in
     let type-name : tie.After-put-type-name = search in
     let head = head-of type-name in
     let row = row-of head in
     let start = start-of row in
-    control-wrote (start .args .n) (rowAt controlWidth (start .args .n) (start .args .rows .now))
+    control-wrote (start .args .n) (rowAt controlWidth (start .args .n) (start .args .rows .now)) (start .args .stream .now)
     (row .get-control .ensures)
     (head .put-head .ensures)
     (type-name .put-type-name .ensures)
     (blank .put-byte .ensures)
-    (chars .put-chars .ensures)
+    (chars .put-name-size .ensures)
     (blank-2 .put-byte2 .ensures)
     (first .put-decimal .ensures)
     (blank-3 .put-byte3 .ensures)

@@ -1,9 +1,9 @@
-use mathlib.Core.Path.{refl, sym, _∙_}
+use mathlib.Core.Path.{sym, _∙_}
 use Prim.Native.Nat.{_-_}
 use native.Mathlib.Omega.{arith}
 use lib.ListN.{length}
 use Rattle.utf16.specs.Plain.{Skipped}
-use Rattle.utf16.proofs.Units.{four-plain}
+use Rattle.utf16.proofs.Units.{none, onward, four-plain}
 use Rattle.utf16.proofs.past_fours.Statement.{statement}
 use Rattle.utf16.proofs.past_fours.Tie as tie
 
@@ -16,7 +16,7 @@ abbrev μ-loop : tie.MeasureT-loop
 loop-again : tie.Need-loop-again Inv-loop μ-loop
 loop-again c =
     let l = c .before .before .before in
-    record { inside = omega arith; same = l .loop .inv .same ∙ four-plain _ _ (omega arith) (sym (c .before .plain-four .ensures) ∙ c .if1 .taken) }
+    onward (l .loop .inv) (four-plain _ _ (omega arith) (sym (c .before .plain-four .ensures) ∙ c .if1 .taken))
 
 pub past-fours-spec : {M : Type 1} → statement M
 past-fours-spec =
@@ -24,7 +24,7 @@ past-fours-spec =
     (tie.spec
     Inv-loop
     μ-loop
-    (λ c. record { inside = c .before .pre; same = refl })
+    (λ c. none _ _ (c .before .pre))
     (λ c. omega arith)
     (λ c κs. omega arith)
     (λ c. omega arith) (λ c. omega arith)

@@ -1,10 +1,9 @@
-use mathlib.Core.Path.{_∙_}
 use Prim.Native.Nat.{_-_}
 use native.Mathlib.Omega.{arith}
 use borrow.Author.Needs.{needs}
 use lib.ListN.{length}
 use Rattle.utf16.specs.Plain.{Skipped}
-use Rattle.utf16.proofs.Units.{plain}
+use Rattle.utf16.proofs.Units.{onward, plain}
 use Rattle.utf16.proofs.past_plain.Statement.{statement}
 use Rattle.utf16.proofs.past_plain.Tie as tie
 
@@ -19,7 +18,7 @@ loop-again c =
     let place-start : tie.Start Inv-loop μ-loop = search in
     let l = c .before .before .before in
     let b = place-start .args .bytes .now in
-    record { inside = omega arith; same = l .loop .inv .same ∙ plain b (l .loop .i) (omega arith) (omega (arith, c .before .u16-at .ensures, c .if1 .left)) }
+    onward (l .loop .inv) (plain b (l .loop .i) (omega arith) (omega (arith, c .before .u16-at .ensures, c .if1 .left)))
 
 pub past-plain-spec : {M : Type 1} → statement M
 past-plain-spec =
