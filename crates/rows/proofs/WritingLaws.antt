@@ -1,18 +1,19 @@
 -- Controls written in several goes, and one control: its properties one by one, then its row.
-use Prim.Native.Nat.{ℕ, _+_}
+use Prim.Native.Nat.{ℕ, _+_, _*_, _≤_}
 use native.Mathlib.Omega.{arith}
 use mathlib.Core.Path.{_≡_, refl, sym, ap, ap₂, _∙_}
 use mathlib.Core.List.{List, [], _∷_, _++_, map, append-nil}
 use lib.ListN.{length, length-append, length-map}
 use Rattle.rules.specs.Lists.{concat}
-use Rattle.rules.specs.Rows.{controlWidth, propertyWidth, written}
+use Rattle.rules.specs.Rows.{controlWidth, propertyWidth, written, rowAt}
 use Rattle.rules.specs.Reading.{Control, Reading, properties, propertiesOf, controlRow, controlRowsFrom, controlRows, propertyRow, propertyRows}
 use Rattle.rules.specs.declared.Property.{Property}
 use Rattle.rules.proofs.ListLaws.{map-append, concat-append}
 use Rattle.rules.proofs.ReadingLaws.{controls-wide, properties-wide, control-rows-many, rows-append, total}
 use Rattle.rows.specs.Put.{put}
+use Rattle.rows.specs.Get.{shownBy, propertiesFrom}
 use Rattle.rows.specs.Writing.{State, state, theirs, writeControls, writeProperties}
-use Rattle.rows.proofs.PutLaws.{put-length, put-none, put-append, written-put}
+use Rattle.rows.proofs.PutLaws.{put-length, put-none, put-append, put-first, written-put}
 
 -- ---- how many
 pub theirs-append : (a b : List Control) → theirs (a ++ b) ≡ theirs a ++ theirs b
@@ -53,6 +54,23 @@ pub properties-more : (q : Property) (a : List Property) (ps : List ℕ) (pi : �
     → writeProperties (q ∷ a) ps pi ≡ writeProperties a (put propertyWidth ps pi (propertyRow q ∷ [])) (pi + 1)
 unfolding writeProperties
 properties-more q a ps pi = properties-append (q ∷ []) a ps pi
+
+-- what was written is shown by its rows: the first, and all
+module _ (q : Property) (a : List Property) (ps : List ℕ) (pi : ℕ) (room : (pi + length (q ∷ a)) * propertyWidth ≤ length ps) where
+  pub first-shown : shownBy (rowAt propertyWidth pi (writeProperties (q ∷ a) ps pi)) ≡ q
+  unfolding writeProperties
+  first-shown =
+      let m : length (map propertyRow (q ∷ a)) ≡ length (q ∷ a) = simp length-map in
+      ap shownBy (put-first propertyWidth ps pi (propertyRow q) (map propertyRow a) (properties-wide (q ∷ a)) (omega (arith, room, m)))
+
+pub all-shown : (a : List Property) (ps : List ℕ) (pi : ℕ) → (pi + length a) * propertyWidth ≤ length ps → propertiesFrom (writeProperties a ps pi) pi (length a) ≡ a
+unfolding propertiesFrom
+all-shown [] ps pi room = refl
+all-shown (q ∷ a) ps pi room =
+    let p = put propertyWidth ps pi (propertyRow q ∷ []) in
+    let l = put-length propertyWidth ps pi (propertyRow q ∷ []) in
+    ap₂ _∷_ (first-shown q a ps pi room)
+    (ap (λ rows. propertiesFrom rows (pi + 1) (length a)) (properties-more q a ps pi) ∙ all-shown a p (pi + 1) (omega (arith, room, l)))
 
 -- ---- controls
 pub write-none : (st : State) → writeControls [] st ≡ st

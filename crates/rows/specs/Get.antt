@@ -1,11 +1,16 @@
 -- The words of a row by their names; a word that the row lacks is 0.
-use Prim.Native.Nat.{ℕ}
+use Prim.Native.Nat.{ℕ, zero, suc, _+_, _≤_, _<_}
 use mathlib.Core.Path.{_≡_}
-use mathlib.Core.List.{List}
+use mathlib.Core.List.{List, [], _∷_}
+use Rattle.rules.specs.Rows.{propertyWidth, rowAt}
 use Rattle.rules.specs.Listing.{word}
 use Rattle.rules.specs.declared.Property.{Property}
 use Rattle.rows.specs.declared.ControlRow.{ControlRow}
 use Rattle.rows.specs.declared.InfoRow.{InfoRow}
+
+-- a row has a word i, and no row has more than eight
+abbrev pub InRow : ℕ → ℕ → Type 0
+InRow width i = (i < width) × (width ≤ 8)
 
 pub record ControlOf (row : List ℕ) (r : ControlRow) : Type 0 where
   pub type-code : r .«type_code» ≡ word row 0
@@ -31,3 +36,11 @@ pub record InfoOf (row : List ℕ) (r : InfoRow) : Type 0 where
   pub start : r .start ≡ word row 2
   pub size : r .size ≡ word row 3
   pub cut : r .cut ≡ word row 4
+
+-- ---- properties by their rows: of one, and of n from row k on
+abbrev pub shownBy : List ℕ → Property
+shownBy row = record { id = word row 0; value = record { mark = word row 1; low = word row 2; high = word row 3 }; start = word row 4; size = word row 5 }
+
+unfoldable pub propertiesFrom : List ℕ → ℕ → ℕ → List Property
+propertiesFrom rows k zero = []
+propertiesFrom rows k (suc n) = shownBy (rowAt propertyWidth k rows) ∷ propertiesFrom rows (k + 1) n

@@ -11,13 +11,14 @@ use text::label_length;
 ghost use mathlib.Core.Path.{_≡_};
 ghost use mathlib.Core.List.{[], _∷_, _++_};
 ghost use Prim.Native.Nat.{_+_, _*_, _/_, _≤_};
-ghost use lib.ListN.{length, getD};
+ghost use lib.ListN.{length};
 ghost use Rattle.rules.specs.Answer.{answer, longest};
 ghost use Rattle.rules.specs.Rows.{controlWidth, propertyWidth, typeInfoWidth, rowAt};
 ghost use Rattle.rules.specs.Reading.{nameWords, propertyRow};
+ghost use Rattle.rules.specs.Listing.{word};
 ghost use Rattle.rules.specs.Tree.{isSection};
 ghost use Rattle.rows.specs.Put.{put, controlWords, infoWords};
-ghost use Rattle.rows.specs.Get.{ControlOf, PropertyOf, InfoOf};
+ghost use Rattle.rows.specs.Get.{InRow, ControlOf, PropertyOf, InfoOf};
 ghost use Rattle.rows.specs.Judge.{Answerable, Judged};
 
 // How many words a control's row has.
@@ -184,10 +185,12 @@ pub fn put_info(rows: &mut [u32], at: usize, row: InfoRow)
     rows[k + 4] = row.cut;
 }
 
-// 0 where the rows end before it.
-fn word_at(rows: &[u32], at: usize) -> u32
-    ensures { λ r. ⌜ r ≡ getD (now (rows .entry)) at 0 ⌝ }
+// Word `i` of row `n`, where a row has `width` words; 0 where the rows end before it.
+fn word_of(rows: &[u32], width: usize, n: u32, i: usize) -> u32
+    requires { ⌜ InRow «width» i ⌝ }
+    ensures { λ r. ⌜ r ≡ word (rowAt «width» n (now (rows .entry))) i ⌝ }
 {
+    let at = (n as usize) * width + i;
     if at < rows.len() { rows[at] } else { 0 }
 }
 
@@ -195,16 +198,15 @@ fn word_at(rows: &[u32], at: usize) -> u32
 pub fn get_control(rows: &[u32], n: u32) -> ControlRow
     ensures { λ r. ⌜ ControlOf (rowAt controlWidth n (now (rows .entry))) r ⌝ }
 {
-    let k = (n as usize) * CONTROL_WIDTH;
     ControlRow {
-        type_code: word_at(rows, k),
-        mark: word_at(rows, k + 1),
-        start: word_at(rows, k + 2),
-        size: word_at(rows, k + 3),
-        first: word_at(rows, k + 4),
-        count: word_at(rows, k + 5),
-        level: word_at(rows, k + 6),
-        parent: word_at(rows, k + 7),
+        type_code: word_of(rows, CONTROL_WIDTH, n, 0),
+        mark: word_of(rows, CONTROL_WIDTH, n, 1),
+        start: word_of(rows, CONTROL_WIDTH, n, 2),
+        size: word_of(rows, CONTROL_WIDTH, n, 3),
+        first: word_of(rows, CONTROL_WIDTH, n, 4),
+        count: word_of(rows, CONTROL_WIDTH, n, 5),
+        level: word_of(rows, CONTROL_WIDTH, n, 6),
+        parent: word_of(rows, CONTROL_WIDTH, n, 7),
     }
 }
 
@@ -212,16 +214,15 @@ pub fn get_control(rows: &[u32], n: u32) -> ControlRow
 pub fn get_property(rows: &[u32], n: u32) -> Property
     ensures { λ r. ⌜ PropertyOf (rowAt propertyWidth n (now (rows .entry))) r ⌝ }
 {
-    let k = (n as usize) * PROPERTY_WIDTH;
     Property {
-        id: word_at(rows, k),
+        id: word_of(rows, PROPERTY_WIDTH, n, 0),
         value: Value {
-            mark: word_at(rows, k + 1),
-            low: word_at(rows, k + 2),
-            high: word_at(rows, k + 3),
+            mark: word_of(rows, PROPERTY_WIDTH, n, 1),
+            low: word_of(rows, PROPERTY_WIDTH, n, 2),
+            high: word_of(rows, PROPERTY_WIDTH, n, 3),
         },
-        start: word_at(rows, k + 4),
-        size: word_at(rows, k + 5),
+        start: word_of(rows, PROPERTY_WIDTH, n, 4),
+        size: word_of(rows, PROPERTY_WIDTH, n, 5),
     }
 }
 
@@ -229,13 +230,12 @@ pub fn get_property(rows: &[u32], n: u32) -> Property
 pub fn get_info(rows: &[u32], n: u32) -> InfoRow
     ensures { λ r. ⌜ InfoOf (rowAt typeInfoWidth n (now (rows .entry))) r ⌝ }
 {
-    let k = (n as usize) * INFO_WIDTH;
     InfoRow {
-        type_code: word_at(rows, k),
-        index: word_at(rows, k + 1),
-        start: word_at(rows, k + 2),
-        size: word_at(rows, k + 3),
-        cut: word_at(rows, k + 4),
+        type_code: word_of(rows, INFO_WIDTH, n, 0),
+        index: word_of(rows, INFO_WIDTH, n, 1),
+        start: word_of(rows, INFO_WIDTH, n, 2),
+        size: word_of(rows, INFO_WIDTH, n, 3),
+        cut: word_of(rows, INFO_WIDTH, n, 4),
     }
 }
 
