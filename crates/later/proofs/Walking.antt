@@ -1,9 +1,9 @@
 -- The rows of the nodes of a later stream that a walk visits, from what the code answers.
-use Prim.Native.Nat.{ℕ, zero, suc, _+_, _≤_, _<_}
+use Prim.Native.Nat.{ℕ, zero, suc, _+_, _*_, _≤_, _<_}
 use native.Mathlib.Omega.{arith}
-use mathlib.Core.Path.{_≡_, refl, sym, ap, ap₂, subst, _∙_}
+use mathlib.Core.Path.{_≡_, refl, sym, ap, ap₂, _∙_}
 use mathlib.Core.Bool.{Bool, true, false}
-use mathlib.Core.List.{List, [], _∷_}
+use mathlib.Core.List.{List, [], _∷_, _++_, map}
 use mathlib.Core.Option.{Option, none, some}
 use lib.Dec.{ltb}
 use lib.ListN.{length}
@@ -11,26 +11,33 @@ use borrow.Author.Tests.{ltb-true, ltb-false}
 use Rattle.rules.specs.Lists.{_>>=_}
 use Rattle.rules.specs.Bytes.{u16}
 use Rattle.rules.specs.Answer.{longest}
-use Rattle.rules.specs.Tree.{Node, noParent, nodeIn, isReported}
+use Rattle.rules.specs.Rows.{controlWidth}
+use Rattle.rules.specs.Reading.{nameWords}
+use Rattle.rules.specs.Tree.{Node, noParent, isReported}
 use Rattle.rules.specs.Later.{Prop, childrenAt, nodesAt}
-use Rattle.rules.specs.ReadLater.{nameOf, controlOf}
+use Rattle.rules.specs.ReadLater.{propertyOf, controlOf}
 use Rattle.rules.specs.declared.Name.{Name}
 use Rattle.rules.proofs.ListLaws.{none-some}
+use Rattle.rows.specs.Put.{put, controlWords}
 use Rattle.rows.specs.Writing.{State, state, writeControls}
-use Rattle.rows.specs.Acts.{Nodes, topNodes, Fit}
+use Rattle.rows.specs.Acts.{Nodes, topNodes}
+use Rattle.rows.specs.declared.ControlRow.{ControlRow}
+use Rattle.rows.proofs.PutLaws.{put-length}
 use Rattle.countlater.specs.Count.{groupIn, childrenOf}
 use Rattle.countlater.proofs.NodeLaws.{head-past}
 use Rattle.cursor.specs.Walk.{Step}
 use Rattle.cursor.specs.Stack.{countOf, Moved}
-use Rattle.cursor.specs.Cursors.{cursor, nesting, Passed, PastReady, Past}
+use Rattle.cursor.specs.Cursors.{cursor, Passed, PastReady, Past}
 use Rattle.cursor.specs.declared.Cursor.{Cursor}
 use Rattle.cursor.proofs.RowLaws as laws
 use Rattle.cursor.proofs.RowLaws.{left, howMany}
 use Rattle.cursorlater.specs.Steps.{listOf, stepAt}
 use Rattle.cursorlater.proofs.StepLaws.{nodes-same}
-use Rattle.later.specs.Write.{nodeName, groupControl, next, ControlReady, ControlDone, treeControl, NodesReady, NodesDone}
+use Rattle.later.specs.Write.{nameAmong, GroupReady, GroupDone, next, treeControl, NodesReady, NodesDone}
 use Rattle.later.specs.declared.WrittenGroup.{WrittenGroup}
-use Rattle.later.proofs.WriteNodeLaws.{their-own, controls-kept, properties-kept, children-told}
+use Rattle.later.proofs.WriteGroupLaws.{group-kept, rows-show}
+use Rattle.later.proofs.NameLaws.{nameFrom, node-named}
+use Rattle.later.proofs.WriteNodeLaws.{Due, group-ready, row-ready, words-ready, control-done, children-told}
 
 -- ---- a node as the code reads it
 pub record Parts (s : List ℕ) (p : ℕ) (x : Step Prop) : Type 0 where
@@ -100,30 +107,36 @@ module _ {s : List ℕ} {whole : Nodes Prop} {old : State} {a : List ℕ} {c : C
         go true e = absurd (none-some (sym (head-past s (c .at) (ltb-true (length s) (c .at) e)) ∙ its .kids))
         go false e = ltb-false (length s) (c .at) e
 
-    -- the control of this node, by the type and name that the code has found
-    module _ {type : ℕ} (et : type ≡ u16 s (c .at)) {name : Name} (en : name ≡ nodeName s (c .at + 6)) where
-      control-is : treeControl s node ≡ groupControl s type name (nesting c) (length s) (c .at + 6)
-      unfolding controlOf nameOf nodeName
-      control-is = (λ i. treeControl s (nodeIn (c .level) (c .parent) (its .type-is i) (its .props-are i))) ∙ ap₂ (λ t m. groupControl s t m (nesting c) (length s) (c .at + 6)) (sym et) (sym en)
+    -- the control of this node is next
+    due : Due s (length s) (c .at + 6) (treeControl s node) (state cs ci ps pi)
+    unfolding controlOf
+    due = record { inside = omega arith; small = g .small; own = ap (map (propertyOf s)) (its .props-are); fits = laws.going-ready (g .walk) l 0 .fits }
 
-      pub going-ready : ControlReady s (length s) (next (c .at + 6) ci pi) type name (nesting c) cs ps
-      going-ready =
-          let r = laws.going-ready (g .walk) l 0 in
-          record { inside = omega arith; small = g .small; fits = subst (λ x. Fit (x ∷ []) (state cs ci ps pi)) control-is (r .fits) }
+    pub going-group : GroupReady s (length s) (c .at + 6) (length ps) pi
+    going-group = group-ready due
 
-      -- its row is written
-      module _ {w : WrittenGroup} {cs′ ps′ : List ℕ} (wrote : ControlDone s (length s) (next (c .at + 6) ci pi) type name (nesting c) cs ps cs′ ps′ w) where
-        pub going-adds : ci + pi + (1 + w .count) ≤ longest
-        going-adds = omega (arith, going-ready .fits .few, their-own going-ready, wrote .count)
+    pub going-row : ci * controlWidth + controlWidth ≤ length cs
+    going-row = row-ready due
 
-        kids-at : childrenAt s (w .trailer) (w .stop) ≡ some (countOf (entry .children), entry .next)
-        kids-at = ap₂ (childrenAt s) (wrote .trailer) (wrote .stop) ∙ children-told s (c .at) (countOf (entry .children), entry .next) (its .kids)
+    -- its group is written
+    module _ {w : WrittenGroup} {ps′ : List ℕ} (d : GroupDone s (length s) (c .at + 6) ps pi ps′ w) where
+      pub going-adds : ci + pi + (1 + w .count) ≤ longest
+      going-adds = words-ready due d
 
-        pub going-past : PastReady a c (childrenAt s (w .trailer) (w .stop))
-        going-past = record { before = laws.going-before (g .walk) l; there = rw kids-at tt }
+      kids-at : childrenAt s (w .trailer) (w .stop) ≡ some (countOf (entry .children), entry .next)
+      kids-at = ap₂ (childrenAt s) (d .trailer) (d .stop) ∙ children-told s (c .at) (countOf (entry .children), entry .next) (its .kids)
 
+      pub going-past : PastReady a c (childrenAt s (w .trailer) (w .stop))
+      going-past = record { before = laws.going-before (g .walk) l; there = rw kids-at tt }
+
+      -- its row is written, by the type and the name that the code has found
+      module _ {type : ℕ} (et : type ≡ u16 s (c .at)) {name : Name} (en : name ≡ nameFrom ps′ (pi + w .count) pi) {row : ControlRow}
+          (er : controlWords row ≡ type ∷ nameWords ci name ++ (pi ∷ w .count ∷ c .level ∷ c .parent ∷ [])) {cs′ : List ℕ} (ec : cs′ ≡ put controlWidth cs ci (controlWords row ∷ [])) where
         next-is : state cs′ (ci + 1) ps′ (pi + w .count) ≡ writeControls (treeControl s node ∷ []) (state cs ci ps pi)
-        next-is = wrote .is ∙ ap (λ x. writeControls (x ∷ []) (state cs ci ps pi)) (sym control-is)
+        unfolding controlOf
+        next-is =
+            let name-is = en ∙ ap nameAmong (rows-show going-group d ∙ ap (map (propertyOf s)) (sym (its .props-are))) ∙ node-named s node in
+            control-done due d name-is (er ∙ ap (λ t. t ∷ nameWords ci name ++ (pi ∷ w .count ∷ c .level ∷ c .parent ∷ [])) (et ∙ sym (its .type-is))) ec
 
         module _ (a′ : List ℕ) (r r′ : Cursor) (p : Past a c ci (childrenAt s (w .trailer) (w .stop)) a′ r) (k : Passed (stepAt s) isReported r r′) where
           moved : Moved a c ci (countOf (entry .children)) (entry .next) a′ r
@@ -136,6 +149,6 @@ module _ {s : List ℕ} {whole : Nodes Prop} {old : State} {a : List ℕ} {c : C
           going-next = record {
             walk = laws.going-next (g .walk) l _ next-is a′ r r′ moved k;
             small = g .small;
-            controls-same = controls-kept wrote ∙ g .controls-same;
-            properties-same = properties-kept wrote ∙ g .properties-same;
+            controls-same = ap length ec ∙ put-length controlWidth cs ci _ ∙ g .controls-same;
+            properties-same = group-kept d ∙ g .properties-same;
           }

@@ -2,7 +2,7 @@
 use Prim.Native.Nat.{ℕ, _+_, _*_, _≤_}
 use mathlib.Core.Path.{_≡_}
 use mathlib.Core.Bool.{Bool}
-use mathlib.Core.List.{List, [], _∷_, map}
+use mathlib.Core.List.{List, map}
 use mathlib.Core.Option.{Option, none, some}
 use lib.Dec.{eqb}
 use lib.ListN.{length}
@@ -10,14 +10,15 @@ use Rattle.rules.specs.Lists.{find}
 use Rattle.rules.specs.Answer.{longest}
 use Rattle.rules.specs.Rows.{propertyWidth}
 use Rattle.rules.specs.Reading.{Control}
-use Rattle.rules.specs.Tree.{Node, noParent}
+use Rattle.rules.specs.Tree.{Node}
 use Rattle.rules.specs.Later.{Prop, lengthAt, groupAt, scanFrom, objectGroup, treeOf, nodesBy}
-use Rattle.rules.specs.ReadLater.{propertyOf, nameOr, nameOf, scannedName, nameIn, controlOf}
+use Rattle.rules.specs.ReadLater.{propertyOf, nameBy, nameOf, scannedName, nameIn, controlOf}
+use Rattle.rules.specs.declared.Property.{Property}
 use Rattle.rules.specs.declared.Name.{Name}
-use Rattle.rows.specs.Writing.{State, state, writeControls, writeProperties}
+use Rattle.rules.specs.declared.Name.the-variants.{Numbered}
+use Rattle.rows.specs.Writing.{State, state, writeProperties}
 use Rattle.rows.specs.Acts.{Nodes, Fit, stood, actBy, Ready}
 use Rattle.rows.specs.declared.Next.{Next}
-use Rattle.rows.specs.declared.Nesting.{Nesting}
 use Rattle.countlater.specs.Count.{isTree}
 use Rattle.later.specs.declared.WrittenGroup.{WrittenGroup}
 
@@ -36,13 +37,6 @@ trailerOr0 (some t) = t
 abbrev pub propsAt : List ℕ → ℕ → ℕ → List Prop
 propsAt s limit at = groupAt s limit at .props
 
--- the name that the first property 0x0014 of these gives, and that of the node whose group is at `at`
-abbrev pub nameAmong : List ℕ → List Prop → Name
-nameAmong s qs = nameOr s (find (λ q. eqb (q .id) 0x0014) qs)
-
-unfoldable pub nodeName : List ℕ → ℕ → Name
-nodeName s at = nameAmong s (propsAt s (length s) at)
-
 pub record GroupReady (s : List ℕ) (limit at room first : ℕ) : Type 0 where
   pub inside : limit ≤ length s
   pub small : length s ≤ longest
@@ -54,37 +48,20 @@ pub record GroupDone (s : List ℕ) (limit at : ℕ) (old : List ℕ) (first : �
   pub stop : r .stop ≡ groupAt s limit at .stop
   pub trailer : r .trailer ≡ trailerOr0 (groupAt s limit at .trailer)
 
--- ---- a group with its control's row
-abbrev pub groupControl : List ℕ → ℕ → Name → Nesting → ℕ → ℕ → Control
-groupControl s type name nesting limit at = record {
-  type = type;
-  name = name;
-  properties = map (propertyOf s) (propsAt s limit at);
-  level = nesting .level;
-  parent = nesting .parent;
-}
+-- ---- a node's name: that of the first property 0x0014 among these
+abbrev pub nameOr : Option Property → Name
+nameOr none = Numbered
+nameOr (some q) = nameBy q
 
-abbrev pub next : ℕ → ℕ → ℕ → Next
-next at control property = record { at = at; control = control; property = property }
-
--- the slices, and the rows that are next in them
-abbrev pub stateAt : Next → List ℕ → List ℕ → State
-stateAt n cs ps = state cs (n .control) ps (n .property)
-
-pub record ControlReady (s : List ℕ) (limit : ℕ) (n : Next) (type : ℕ) (name : Name) (nesting : Nesting) (cs ps : List ℕ) : Type 0 where
-  pub inside : limit ≤ length s
-  pub small : length s ≤ longest
-  pub fits : Fit (groupControl s type name nesting limit (n .at) ∷ []) (stateAt n cs ps)
-
-pub record ControlDone (s : List ℕ) (limit : ℕ) (n : Next) (type : ℕ) (name : Name) (nesting : Nesting) (cs ps cs′ ps′ : List ℕ) (r : WrittenGroup) : Type 0 where
-  pub is : state cs′ (n .control + 1) ps′ (n .property + r .count) ≡ writeControls (groupControl s type name nesting limit (n .at) ∷ []) (stateAt n cs ps)
-  pub count : r .count ≡ length (propsAt s limit (n .at))
-  pub stop : r .stop ≡ groupAt s limit (n .at) .stop
-  pub trailer : r .trailer ≡ trailerOr0 (groupAt s limit (n .at) .trailer)
+unfoldable pub nameAmong : List Property → Name
+nameAmong qs = nameOr (find (λ q. eqb (q .id) 0x0014) qs)
 
 -- ---- nodes. What is written of them by f, which makes a control of a node: the slices at exit, and what is next in them and in the stream
 abbrev pub WrittenBy : (Node Prop → Control) → Nodes Prop → State → List ℕ → List ℕ → Next → Type 0
 WrittenBy f o old cs ps r = some (stood cs (r .control) ps (r .property) (r .at)) ≡ actBy f o old
+
+abbrev pub next : ℕ → ℕ → ℕ → Next
+next at control property = record { at = at; control = control; property = property }
 
 -- of the tree: there is room for their rows, and the stream is not too long
 abbrev pub treeControl : List ℕ → Node Prop → Control
@@ -99,10 +76,6 @@ NodesDone s = WrittenBy (treeControl s)
 -- of the scan, which ends with the stream
 abbrev pub scannedControl : List ℕ → Node Prop → Control
 scannedControl s = controlOf s (scannedName s)
-
--- where a control of the scan stands
-abbrev pub topmost : Nesting
-topmost = record { level = 0; parent = noParent }
 
 abbrev pub scanned : List ℕ → ℕ → Nodes Prop
 scanned s p = some (scanFrom s p, length s)

@@ -22,6 +22,7 @@ use rows::Nesting;
 use rows::Next;
 use rows::control_row;
 use rows::counted;
+use rows::get_property;
 use rows::judge;
 use rows::put_control;
 use rows::put_property;
@@ -30,22 +31,23 @@ use rules::Name;
 use rules::Property;
 ghost use mathlib.Core.Path.{_≡_};
 ghost use mathlib.Core.Option.{some};
-ghost use Prim.Native.Nat.{_≤_};
+ghost use Prim.Native.Nat.{_-_, _≤_};
 ghost use lib.ListN.{length};
 ghost use Rattle.rules.specs.Answer.{longest};
 ghost use Rattle.rules.specs.Later.{propertyAt, nodesAt};
 ghost use Rattle.rules.specs.ReadLater.{propertyOf, textName, nameBy, readLater};
+ghost use Rattle.rows.specs.Get.{propertiesFrom};
 ghost use Rattle.rows.specs.Writing.{state};
 ghost use Rattle.rows.specs.Acts.{topNodes};
 ghost use Rattle.rows.specs.Judge.{Written, Exits};
 ghost use Rattle.countlater.specs.Count.{wholeTree};
-ghost use Rattle.later.specs.Write.{nodeName, PropertyInside, GroupReady, GroupDone, ControlReady, ControlDone, NodesReady, NodesDone, ScanReady, ScanDone, BlobReady};
+ghost use Rattle.later.specs.Write.{nameAmong, PropertyInside, GroupReady, GroupDone, NodesReady, NodesDone, ScanReady, ScanDone, BlobReady};
 
 // Where a property's type stands, from its start on.
 const TYPE_AT: usize = 2;
 
 // The id of a control's name.
-const NAME_ID: u16 = 0x14;
+const NAME_ID: u32 = 0x14;
 
 // The value marks of Text: UTF-16, and bytes that aren't.
 const TEXT: u32 = 6;
@@ -103,28 +105,20 @@ fn name_by(q: Property) -> Name
     Name::Numbered
 }
 
-// The name of the node whose group is at `at`.
-fn node_name(s: &[u8], at: usize) -> Name
-    requires { ⌜ length (now s) ≤ longest ⌝ }
-    ensures { λ r. ⌜ r ≡ nodeName (now (s .entry)) at ⌝ }
+// The name of a node whose property rows are those from `first` to `end`.
+fn node_name(rows: &[u32], first: usize, end: usize) -> Name
+    requires { ⌜ end ≤ longest ⌝ }
+    ensures { λ r. ⌜ r ≡ nameAmong (propertiesFrom (now (rows .entry)) first (end - first)) ⌝ }
 {
-    let mut p = at;
-    loop {
-        match parse_entry(s, s.len(), p) {
-            Extent::Outside => {
-                return Name::Numbered;
-            }
-            Extent::Inside(size, next, trailer) => {
-                if u16_at(s, p) == NAME_ID {
-                    return name_by(property_at(s, p, size));
-                }
-                if ends_group(trailer) {
-                    return Name::Numbered;
-                }
-                p = next;
-            }
+    let mut i = first;
+    while i < end {
+        let q = get_property(rows, i as u32);
+        if q.id == NAME_ID {
+            return name_by(q);
         }
+        i = i + 1;
     }
+    Name::Numbered
 }
 
 // Writes a row for each property of the group at `at`, from row `first` on.
@@ -160,33 +154,6 @@ fn write_group(s: &[u8], limit: usize, at: usize, rows: &mut [u32], first: usize
     }
 }
 
-// Writes the group at `next` and the row of its control, which has this type, name and place in the tree.
-fn write_control(
-    s: &[u8],
-    limit: usize,
-    next: Next,
-    node_type: u16,
-    name: Name,
-    nesting: Nesting,
-    controls: &mut [u32],
-    properties: &mut [u32],
-) -> WrittenGroup
-    requires { ⌜ ControlReady (now s) limit next «node_type» name nesting (now controls) (now properties) ⌝ }
-    ensures { λ r. ⌜ ControlDone (now (s .entry)) limit next «node_type» name nesting (now (controls .entry)) (now (properties .entry)) (now (controls .exit)) (now (properties .exit)) r ⌝ }
-{
-    let w = write_group(s, limit, next.at, properties, next.property);
-    let row = control_row(
-        node_type as u32,
-        name,
-        next.control as u32,
-        next.property as u32,
-        w.count as u32,
-        nesting,
-    );
-    put_control(controls, next.control, row);
-    w
-}
-
 // Writes the reported of the `n` top nodes from `at` on, with all below them.
 fn write_sections(
     s: &[u8],
@@ -204,28 +171,23 @@ fn write_sections(
     let mut i: usize = 0;
     let mut j = property;
     while 0 < c.left {
-        let place = c.at;
-        let name = node_name(s, place + GROUP_AT);
-        let w = write_control(
-            s,
-            s.len(),
-            Next {
-                at: place + GROUP_AT,
-                control: i,
-                property: j,
-            },
-            u16_at(s, place),
-            name,
+        let w = write_group(s, s.len(), c.at + GROUP_AT, properties, j);
+        let end = j + w.count;
+        let row = control_row(
+            u16_at(s, c.at) as u32,
+            node_name(properties, j, end),
+            i as u32,
+            j as u32,
+            w.count as u32,
             Nesting {
                 level: c.level as u32,
                 parent: c.parent,
             },
-            controls,
-            properties,
         );
+        put_control(controls, i, row);
         c = reported(s, past(s, &mut stack, c, i as u32, w.trailer, w.stop));
         i = i + 1;
-        j = j + w.count;
+        j = end;
     }
     Next {
         at: c.at,
@@ -234,7 +196,7 @@ fn write_sections(
     }
 }
 
-// Writes what the scan from `from` on finds: a group's first property is its match, and that is its control's name.
+// Writes what the scan from `from` on finds: a group's first property is its control's name.
 fn write_scanned(
     s: &[u8],
     from: usize,
@@ -250,33 +212,25 @@ fn write_scanned(
     let mut j = property;
     while a < s.len() {
         let limit = find_match(s, a + MATCH_SIZE);
-        match parse_entry(s, limit, a) {
-            Extent::Outside => {
-                a = limit;
-            }
-            Extent::Inside(size, _, _) => {
-                let name = text_name(property_at(s, a, size));
-                let w = write_control(
-                    s,
-                    limit,
-                    Next {
-                        at: a,
-                        control: i,
-                        property: j,
-                    },
-                    0,
-                    name,
-                    Nesting {
-                        level: 0,
-                        parent: NO_PARENT,
-                    },
-                    controls,
-                    properties,
-                );
-                i = i + 1;
-                j = j + w.count;
-                a = limit;
-            }
+        let w = write_group(s, limit, a, properties, j);
+        if 0 < w.count {
+            let row = control_row(
+                0,
+                text_name(get_property(properties, j as u32)),
+                i as u32,
+                j as u32,
+                w.count as u32,
+                Nesting {
+                    level: 0,
+                    parent: NO_PARENT,
+                },
+            );
+            put_control(controls, i, row);
+            i = i + 1;
+            j = j + w.count;
+            a = limit;
+        } else {
+            a = limit;
         }
     }
     Next {
