@@ -3,10 +3,10 @@ use Prim.Native.Nat.{ℕ, _+_, _-_, _≤_, _<_}
 use native.Mathlib.Omega.{arith}
 use mathlib.Core.Path.{_≡_, refl, sym, _∙_}
 use mathlib.Core.Bool.{Bool, true, false, cond, _&&_, and-false}
-use mathlib.Core.List.{List, _++_}
+use mathlib.Core.List.{List}
 use borrow.Author.Tests.{lt-ltb, le-ltb, ltb-true, ltb-false}
 use lib.Dec.{ltb}
-use lib.ListN.{length, take, drop, length-append, length-drop}
+use lib.ListN.{length, take, drop, length-drop}
 use lib.Seq.{take-all, length-take-le}
 use Rattle.rules.specs.Answer.{refusal, badTable}
 use Rattle.rules.specs.CodeTable.{wellFormed}
@@ -15,7 +15,8 @@ use Rattle.joinlaws.proofs.JoinedLaws.{at-most}
 use Rattle.listing.proofs.Longest.{answer-short}
 use Rattle.listing.proofs.Placed.{held}
 use Rattle.text.specs.Writer.{Wrote}
-use Rattle.tabletext.specs.Input.{Began, whole, filled}
+use Rattle.tabletext.specs.Input.{Began}
+use Rattle.tabletext.proofs.Told.{told}
 use Rattle.tablejoin.specs.Said.{said, joinSaid}
 use Rattle.tablejoin.proofs.Exits.{said-short, said-bad}
 
@@ -69,10 +70,6 @@ input-long input h = go (ltb (length input) (4 + tableLength input)) refl
         input-whole input (omega arith) l ∙ said-bad (tableIn input) (blobIn input) (either-long (tableIn input) (blobIn input) _ refl (omega arith))
 
 -- ---- printed
-said-all : {room : ℕ} {read all : List ℕ} → 130204 < room → Began room read all → joinSaid read ≡ joinSaid all
-said-all r whole = refl
-said-all r (filled {read} h rest) = input-long read (omega arith) ∙ sym (input-long (read ++ rest) (simp length-append (omega arith)))
-
 refusal-short : length (answerLine (refusal badTable)) ≤ 65151
 refusal-short = omega (arith, answer-short (refusal badTable) (omega arith) (omega arith) (omega arith) (omega arith))
 
@@ -87,4 +84,4 @@ bounded input = go (ltb (length input) 4) (ltb (length input) (4 + tableLength i
 
 pub all-printed : {room end : ℕ} {read old new : List ℕ} → 130204 < room → Wrote old 0 (joinSaid read) new end → 65151 ≤ length old
     → (all : List ℕ) → Began room read all → take end new ≡ joinSaid all
-all-printed {read = read} r w h all b = held w (omega (arith, bounded read)) ∙ said-all r b
+all-printed {read = read} r w h all b = held w (omega (arith, bounded read)) ∙ told 130204 (λ s t g k. input-long s (omega arith) ∙ sym (input-long t (omega arith))) r b

@@ -8,7 +8,8 @@ use borrow.Author.Tests.{lt-ltb, le-ltb, eq-eqb, ne-eqb, ltb-true, ltb-false, eq
 use lib.Dec.{ltb, eqb}
 use lib.ListN.{length, take, drop, length-append}
 use lib.Seq.{take-at}
-use Rattle.tabletext.specs.Input.{Began, whole, filled}
+use Rattle.tabletext.specs.Input.{Began}
+use Rattle.tabletext.proofs.Told.{told}
 use Rattle.tablemaking.specs.Judged.{judged}
 use Rattle.tablelines.specs.Faults.{longText}
 use Rattle.tablemaking.specs.Made.{tableSaid, longestText, MadeExit, MadeAs, makeExit, written}
@@ -24,9 +25,7 @@ long-printed s h = rw (lt-ltb longestText (length s) h)
 
 -- all of the input says what was read of it
 pub all-printed : {room : ℕ} {read all : List ℕ} → longestText < room → Began room read all → printed read ≡ printed all
-all-printed g whole = refl
-all-printed {room} {read} g (filled h rest) =
-    long-printed read (omega arith) ∙ sym (long-printed (read ++ rest) (omega (arith, length-append read rest)))
+all-printed = told longestText (λ s t g k. long-printed s g ∙ sym (long-printed t k))
 
 module _ (s : List ℕ) (h : length s ≤ longestText) where
   table-printed : judged s .error ≡ 0 → printed s ≡ sizeText (length (tableSaid s)) ++ tableSaid s

@@ -1,14 +1,15 @@
 -- What is printed of a table, by what the code has found.
 use mathlib.Core.Path.{_≡_, refl, sym, ap, _∙_}
 use mathlib.Core.Bool.{Bool, true, false}
-use mathlib.Core.List.{List, _++_}
+use mathlib.Core.List.{List}
 use Prim.Native.Nat.{ℕ, _+_, _≤_, _<_}
 use native.Mathlib.Omega.{arith}
-use lib.ListN.{length, take, length-append}
+use lib.ListN.{length, take}
 use Rattle.rules.specs.CodeTable.{wellFormed}
 use Rattle.listing.proofs.Placed.{held}
 use Rattle.tabletext.specs.Text.{tableText}
-use Rattle.tabletext.specs.Input.{Began, whole, filled}
+use Rattle.tabletext.specs.Input.{Began}
+use Rattle.tabletext.proofs.Told.{told}
 use Rattle.joinlaws.proofs.JoinedLaws.{at-most}
 use Rattle.tabletext.proofs.Longest.{longest-table}
 use Rattle.tablebreak.specs.declared.Break.{Break}
@@ -38,14 +39,9 @@ long-shown t u h g =
     let b = long-broken u g (wellFormed u) refl in
     broken-shown t a ∙ ap breakText (over t a h ∙ sym (over u b g)) ∙ sym (broken-shown u b)
 
--- what was read tells what is shown of all
-all-shown : {room : ℕ} {read all : List ℕ} → longest < room → Began room read all → shownText read ≡ shownText all
-all-shown r whole = refl
-all-shown r (filled {read} h rest) = long-shown read (read ++ rest) (omega arith) (omega (arith, length-append read rest))
-
 -- what is written into a buffer that has room is what is shown of all
 pub printed : {t o new input : List ℕ} {e : ℕ} → ShowReady input o → ShownIn o t new e → (all : List ℕ) → Began (length input) t all → take e new ≡ shownText all
-printed ready shown all b = held (shown .wrote) (omega (arith, shown .short, ready .room)) ∙ all-shown (ready .all-read) b
+printed ready shown all b = held (shown .wrote) (omega (arith, shown .short, ready .room)) ∙ told longest long-shown (ready .all-read) b
 
 -- ---- what the code has found
 module _ (t : List ℕ) {b : Break} (is : b ≡ breakOf t) where

@@ -2,3 +2,4 @@
 pub mod Lines
 pub mod Longest
 pub mod Room
+pub mod Told
