@@ -9,10 +9,10 @@ use borrow.Author.Tests.{lt-ltb}
 use Rattle.rules.specs.CodeTable.{headerCount, scopes, rowCount, wellFormed}
 use Rattle.rules.specs.Texts.{textExit}
 use Rattle.rules.specs.Join.{joinScopes, scopesAgree, sameHead, tableBytes, joined, refuse, joinExit}
-use Rattle.joinlaws.proofs.TableBytesLaws.{length-codesAt}
+use Rattle.joinlaws.proofs.TableBytesLaws.{contentsBytes, bodiesBytes, length-codesAt}
 use Rattle.joinlaws.proofs.JoinedLaws.{same-head, exit-joins, joined-length, rows-most}
 use Rattle.join.specs.declared.Sized.{Sized}
-use Rattle.join.specs.Walk.{sized, Formed, Agreed, headBytes, contentsBytes, bodiesBytes}
+use Rattle.join.specs.Walk.{sized, Formed, Agreed, headBytes}
 
 module _ (a b : List ℕ) {out : List ℕ} where
   pub exit-first : wellFormed a ≡ false → joinExit a b out ≡ refuse 8 out

@@ -10,10 +10,10 @@ use Rattle.rules.specs.Lists.{concat, same}
 use Rattle.rules.specs.Bytes.{u16}
 use Rattle.rules.specs.CodeTable.{codesAt, layout, headerCount, header}
 use Rattle.rules.specs.Join.{twoBytes, sameHead}
-use Rattle.joinlaws.proofs.TableBytesLaws.{length-codesAt, no-codes}
+use Rattle.joinlaws.proofs.TableBytesLaws.{codesBytes, length-codesAt, no-codes}
 use Rattle.joinlaws.proofs.JoinedLaws.{same-true}
 use Rattle.codetable.proofs.Steps.{codes-next}
-use Rattle.join.specs.Walk.{codesBytes, headBytes}
+use Rattle.join.specs.Walk.{headBytes}
 
 -- ---- compared
 -- of n codes so many are left from `at` on, and those in front of them are the same

@@ -13,7 +13,7 @@ use Rattle.rules.proofs.ListLaws.{and-l, and-r}
 use Rattle.rules.proofs.CodeTableLaws.{formed}
 use Rattle.joinlaws.proofs.MergeLaws.{Ascends}
 use Rattle.joinlaws.proofs.JoinTurns.{Turn}
-use Rattle.joinlaws.proofs.TableBytesLaws.{length-tiesAt, no-scopes}
+use Rattle.joinlaws.proofs.TableBytesLaws.{contentsBytes, length-tiesAt, no-scopes}
 use Rattle.joinlaws.proofs.JoinLaws.{ScopeOk, scope-ok}
 use Rattle.joinlaws.proofs.JoinedLaws.{at-most, scopes-most, rows-most}
 use Rattle.codetable.proofs.Steps.{scopes-next}
@@ -23,7 +23,7 @@ use Rattle.join.specs.declared.Scopes.{Scopes}
 use Rattle.join.specs.declared.Taken.{Taken}
 use Rattle.join.specs.declared.ScopeTurn.{ScopeTurn}
 use Rattle.join.specs.declared.Counted.{Counted}
-use Rattle.join.specs.Walk.{alone, Walks, rowsIn, RowsWalk, scopesIn, scopesOf, ScopesWalk, ScopeLeft, ReadsKey, kindOf, codeOf, taken, stayed, ScopesTurn, counted, sized, Formed, Agreed, contentsBytes}
+use Rattle.join.specs.Walk.{alone, Walks, rowsIn, RowsWalk, scopesIn, scopesOf, ScopesWalk, ScopeLeft, ReadsKey, kindOf, codeOf, taken, stayed, ScopesTurn, counted, sized, Formed, Agreed}
 use Rattle.join.proofs.Turns.{Front, Both, alone-more, first-turn, second-turn, both-turn, turn-as, merge-end, agree-end}
 use Rattle.join.proofs.Writing.{Writing, all-left, turn-written}
 use Rattle.join.proofs.RowLaws.{few-joined}

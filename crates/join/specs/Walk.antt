@@ -5,11 +5,12 @@ use mathlib.Core.Bool.{Bool, true, cond, _&&_, _||_}
 use mathlib.Core.List.{List, _∷_, _++_, map}
 use lib.Dec.{ltb, eqb}
 use lib.ListN.{length}
-use Rattle.rules.specs.Lists.{concat, all, ascends, agree}
+use Rattle.rules.specs.Lists.{all, ascends, agree}
 use Rattle.rules.specs.Bytes.{byte, u16}
 use Rattle.rules.specs.CodeTable.{Tie, Scope, idOf, keyOf, key, tiesAt, scopesAt, layout, header, scopes, scopeCount, contentsAt, bodiesAt, scopeOk, rowCount, wellFormed}
-use Rattle.rules.specs.Join.{joinRows, joinScope, joinScopes, sameRow, rowsAgree, scopesAgree, twoBytes, tiesBytes, scopeBytes}
+use Rattle.rules.specs.Join.{joinRows, joinScope, joinScopes, sameRow, rowsAgree, scopesAgree, twoBytes}
 use Rattle.joinlaws.proofs.JoinTurns.{Turn}
+use Rattle.joinlaws.proofs.TableBytesLaws.{codesBytes}
 use Rattle.tablebytes.specs.Rows.{tieOf}
 use Rattle.join.specs.declared.Rows.{Rows}
 use Rattle.join.specs.declared.Scopes.{Scopes}
@@ -136,15 +137,6 @@ pub record Agreed (one other : List ℕ) : Type 0 where
   pub formed : Formed one other
   pub agree-all : scopesAgree (scopes one) (scopes other) ≡ true
 
--- ---- the parts of a table as they are written (`tableBytes`)
-abbrev pub codesBytes : List ℕ → List ℕ
-codesBytes codes = concat (map twoBytes codes)
-
+-- ---- the head of a table as it is written (`tableBytes`)
 abbrev pub headBytes : List ℕ → ℕ → List ℕ
 headBytes t n = layout t ∷ length (header t) ∷ twoBytes n ++ codesBytes (header t)
-
-abbrev pub contentsBytes : List Scope → List ℕ
-contentsBytes ss = concat (map scopeBytes ss)
-
-abbrev pub bodiesBytes : List Scope → List ℕ
-bodiesBytes ss = concat (map (λ (s : Scope). tiesBytes (s .rows)) ss)

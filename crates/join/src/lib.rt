@@ -37,7 +37,8 @@ ghost use Rattle.rules.specs.CodeTable as t;
 ghost use Rattle.rules.specs.Join.{joinRows, joinScopes, sameRow, scopesAgree, twoBytes, tiesBytes, sameHead, joinExit};
 ghost use Rattle.text.specs.Writer.{Wrote};
 ghost use Rattle.tablebytes.specs.Rows.{tieOf};
-ghost use Rattle.join.specs.Walk.{alone, Walks, NextTurn, rowsIn, RowsWalk, RowLeft, rowsAfter, RowsTurn, counted, scopesOf, ReadsKey, ScopesWalk, ScopeLeft, taken, stayed, ScopesTurn, sized, kindOf, codeOf, Formed, Agreed, codesBytes, headBytes, contentsBytes, bodiesBytes};
+ghost use Rattle.joinlaws.proofs.TableBytesLaws.{codesBytes, contentsBytes, bodiesBytes};
+ghost use Rattle.join.specs.Walk.{alone, Walks, NextTurn, rowsIn, RowsWalk, RowLeft, rowsAfter, RowsTurn, counted, scopesOf, ReadsKey, ScopesWalk, ScopeLeft, taken, stayed, ScopesTurn, sized, kindOf, codeOf, Formed, Agreed, headBytes};
 
 // Rows of a scope that are left: where the next one is, and how many they are.
 struct Rows {

@@ -3,14 +3,14 @@ use Prim.Native.Nat.{ℕ, _+_, _≤_, _<_}
 use native.Mathlib.Omega.{arith}
 use mathlib.Core.Path.{_≡_, refl, sym, ap, subst, _∙_}
 use mathlib.Core.Bool.{Bool, true, false, cond}
-use mathlib.Core.List.{List, [], _∷_, _++_, map, append-assoc, List·Memᴰ, List·Memᴰ·head, List·Memᴰ·tail}
+use mathlib.Core.List.{List, [], _∷_, _++_, append-assoc, List·Memᴰ, List·Memᴰ·head, List·Memᴰ·tail}
 use lib.ListN.{length, drop}
 use types.Run.{OneOf, miss}
 use denote.Enum.Declared.{tagOf}
 use Rattle.rules.specs.Lists.{concat}
 use Rattle.rules.specs.CodeTable.{Tie}
-use Rattle.rules.specs.CodeTable as table
 use Rattle.rules.specs.Join.{twoBytes, tieBytes, tiesBytes, scopeBytes, tableBytes}
+use Rattle.joinlaws.proofs.TableBytesLaws.{codesBytes, contentsBytes, bodiesBytes}
 use Rattle.text.specs.Writer.{Wrote}
 use Rattle.text.proofs.Remains.{Remains, all-remains, on, done}
 use Rattle.tablelines.specs.Items.{itemsOf, LineAt}
@@ -128,7 +128,7 @@ few-of item kind code items e f =
     g (record { kind = kind; code = code; rows = rowsOf items }) (List·Memᴰ·head refl)
 
 -- ---- the parts together
-pub codes-are : (items : List Item) → partsSaid false items ≡ concat (map twoBytes (headersOf items))
+pub codes-are : (items : List Item) → partsSaid false items ≡ codesBytes (headersOf items)
 unfolding byPart partsSaid partBytes concat codeBytes headersOf
 codes-are [] = refl
 codes-are (Nothing ∷ items) = codes-are items
@@ -138,7 +138,7 @@ codes-are (Scope kind code ∷ items) = codes-are items
 codes-are (Row id target kind ∷ items) = codes-are items
 codes-are (Bad error ∷ items) = codes-are items
 
-pub scopes-are : (items : List Item) → scopesSaid items ≡ concat (map scopeBytes (scopesOf items))
+pub scopes-are : (items : List Item) → scopesSaid items ≡ contentsBytes (scopesOf items)
 unfolding byPart scopesSaid concat scopeSaid scopesOf
 scopes-are [] = refl
 scopes-are (Nothing ∷ items) = scopes-are items
@@ -148,11 +148,8 @@ scopes-are (Scope kind code ∷ items) = ap (λ (x : List ℕ). scopeBytes (reco
 scopes-are (Row id target kind ∷ items) = scopes-are items
 scopes-are (Bad error ∷ items) = scopes-are items
 
-abbrev bodies : List table.Scope → List ℕ
-bodies ss = concat (map (λ (s : table.Scope). tiesBytes (s .rows)) ss)
-
 -- those above the first scope stand before the bodies
-rows-with : (items : List Item) → partsSaid true items ≡ tiesBytes (rowsOf items) ++ bodies (scopesOf items)
+rows-with : (items : List Item) → partsSaid true items ≡ tiesBytes (rowsOf items) ++ bodiesBytes (scopesOf items)
 unfolding byPart partsSaid partBytes concat rowBytes rowsOf scopesOf
 rows-with [] = refl
 rows-with (Nothing ∷ items) = rows-with items
@@ -161,7 +158,7 @@ rows-with (Header code ∷ items) = rows-with items
 rows-with (Scope kind code ∷ items) = rows-with items
 rows-with (Row id target kind ∷ items) =
     let r : Tie = tie id target kind in
-    ap (λ (x : List ℕ). tieBytes r ++ x) (rows-with items) ∙ sym (append-assoc (tieBytes r) (tiesBytes (rowsOf items)) (bodies (scopesOf items)))
+    ap (λ (x : List ℕ). tieBytes r ++ x) (rows-with items) ∙ sym (append-assoc (tieBytes r) (tiesBytes (rowsOf items)) (bodiesBytes (scopesOf items)))
 rows-with (Bad error ∷ items) = rows-with items
 
 no-ties : (rs : List Tie) → length rs ≡ 0 → tiesBytes rs ≡ []
@@ -169,8 +166,8 @@ unfolding concat
 no-ties [] e = refl
 no-ties (r ∷ rs) e = absurd (omega arith)
 
-pub rows-are : (items : List Item) → length (rowsOf items) ≡ 0 → partsSaid true items ≡ bodies (scopesOf items)
-rows-are items e = rows-with items ∙ ap (λ (x : List ℕ). x ++ bodies (scopesOf items)) (no-ties (rowsOf items) e)
+pub rows-are : (items : List Item) → length (rowsOf items) ≡ 0 → partsSaid true items ≡ bodiesBytes (scopesOf items)
+rows-are items e = rows-with items ∙ ap (λ (x : List ℕ). x ++ bodiesBytes (scopesOf items)) (no-ties (rowsOf items) e)
 
 -- the whole table
 pub parts-are : (s : List ℕ) (layout headers scopes : ℕ) → layout ≡ judged s .layout → headers ≡ length (headersOf (itemsOf s)) → scopes ≡ length (scopesOf (itemsOf s)) → length (rowsOf (itemsOf s)) ≡ 0

@@ -4,7 +4,8 @@ use mathlib.Core.List.{List}
 use Rattle.rules.specs.CodeTable.{Scope, scopes}
 use Rattle.rules.specs.Join.{joinScopes, tiesBytes}
 use Rattle.text.proofs.Chain.{same}
-use Rattle.join.specs.Walk.{scopesIn, ScopesWalk, bodiesBytes}
+use Rattle.joinlaws.proofs.TableBytesLaws.{bodiesBytes}
+use Rattle.join.specs.Walk.{scopesIn, ScopesWalk}
 use Rattle.join.proofs.ScopeLaws.{writing-start, scopes-none}
 use Rattle.join.proofs.Writing.{Writing, turn-written, none-left}
 use Rattle.join.proofs.put_bodies.Statement.{statement}

@@ -4,7 +4,7 @@ use mathlib.Core.Path.{ap}
 use Rattle.rules.specs.CodeTable.{codesAt}
 use Rattle.text.proofs.Chain.{same, wrote-as}
 use Rattle.text.proofs.Remains.{Left, all-left, one-less, none-left}
-use Rattle.join.specs.Walk.{codesBytes}
+use Rattle.joinlaws.proofs.TableBytesLaws.{codesBytes}
 use Rattle.join.proofs.HeadLaws.{bytes-next, bytes-done}
 use Rattle.join.proofs.put_codes.Statement.{statement}
 use Rattle.join.proofs.put_codes.Tie as tie
