@@ -9,6 +9,7 @@ use lib.Dec.{eqb}
 use borrow.Author.Tests.{eq-eqb, ne-eqb}
 use Rattle.rules.specs.Lists.{find}
 use Rattle.rules.specs.Rows.{propertyWidth, rowAt}
+use Rattle.rules.specs.Listing.{word}
 use Rattle.rules.specs.Tree.{Node}
 use Rattle.rules.specs.Later.{Prop}
 use Rattle.rules.specs.ReadLater as rules
@@ -45,17 +46,20 @@ module _ (rows : List ℕ) (end i : ℕ) where
       let z : end - i ≡ 0 = omega arith in
       sym (ap (λ n. nameAmong (propertiesFrom rows i n)) z)
 
-  module _ (more : i < end) {q : Property} (h : PropertyOf (rowAt propertyWidth i rows) q) where
-    first-is : propertiesFrom rows i (end - i) ≡ q ∷ propertiesFrom rows (i + 1) (end - (i + 1))
+  module _ (more : i < end) where
+    abbrev row : List ℕ
+    row = rowAt propertyWidth i rows
+
+    first-is : propertiesFrom rows i (end - i) ≡ shownBy row ∷ propertiesFrom rows (i + 1) (end - (i + 1))
     unfolding propertiesFrom
     first-is =
         let z : end - i ≡ suc (end - (i + 1)) = omega arith in
-        ap (propertiesFrom rows i) z ∙ ap (λ q. q ∷ propertiesFrom rows (i + 1) (end - (i + 1))) (sym (property-shown h))
+        ap (propertiesFrom rows i) z
 
-    pub name-found : q .id ≡ 0x0014 → nameBy q ≡ nameFrom rows end i
+    pub name-found : word row 0 ≡ 0x0014 → {q : Property} → PropertyOf row q → nameBy q ≡ nameFrom rows end i
     unfolding nameAmong find
-    name-found e = sym (ap nameAmong first-is ∙ rw (eq-eqb (q .id) 0x0014 e))
+    name-found e h = ap nameBy (property-shown h) ∙ sym (ap nameAmong first-is ∙ rw (eq-eqb (word row 0) 0x0014 e))
 
-    pub name-on : (q .id ≡ 0x0014 → ⊥) → nameFrom rows end (i + 1) ≡ nameFrom rows end i
+    pub name-on : (word row 0 ≡ 0x0014 → ⊥) → nameFrom rows end (i + 1) ≡ nameFrom rows end i
     unfolding nameAmong find
-    name-on e = sym (ap nameAmong first-is ∙ rw (ne-eqb (q .id) 0x0014 e))
+    name-on e = sym (ap nameAmong first-is ∙ rw (ne-eqb (word row 0) 0x0014 e))

@@ -22,6 +22,7 @@ use rows::Nesting;
 use rows::Next;
 use rows::control_row;
 use rows::counted;
+use rows::get_id;
 use rows::get_property;
 use rows::judge;
 use rows::put_control;
@@ -112,9 +113,8 @@ fn node_name(rows: &[u32], first: usize, end: usize) -> Name
 {
     let mut i = first;
     while i < end {
-        let q = get_property(rows, i as u32);
-        if q.id == NAME_ID {
-            return name_by(q);
+        if get_id(rows, i as u32) == NAME_ID {
+            return name_by(get_property(rows, i as u32));
         }
         i = i + 1;
     }

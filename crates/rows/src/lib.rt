@@ -30,7 +30,7 @@ pub const PROPERTY_WIDTH: usize = 6;
 // The same of a TypeInfo row.
 pub const INFO_WIDTH: usize = 5;
 
-// The parent's row of a control that has no parent.
+// The parent word of a control that has none.
 pub const NO_PARENT: u32 = 0xFFFFFFFF;
 
 // The types of sections.
@@ -210,12 +210,19 @@ pub fn get_control(rows: &[u32], n: u32) -> ControlRow
     }
 }
 
+// The id in row `n` of the property rows; 0 where the slice lacks it.
+pub fn get_id(rows: &[u32], n: u32) -> u32
+    ensures { λ r. ⌜ r ≡ word (rowAt propertyWidth n (now (rows .entry))) 0 ⌝ }
+{
+    word_of(rows, PROPERTY_WIDTH, n, 0)
+}
+
 // Reads row `n` of the property rows; a word that the slice lacks is 0.
 pub fn get_property(rows: &[u32], n: u32) -> Property
     ensures { λ r. ⌜ PropertyOf (rowAt propertyWidth n (now (rows .entry))) r ⌝ }
 {
     Property {
-        id: word_of(rows, PROPERTY_WIDTH, n, 0),
+        id: get_id(rows, n),
         value: Value {
             mark: word_of(rows, PROPERTY_WIDTH, n, 1),
             low: word_of(rows, PROPERTY_WIDTH, n, 2),
