@@ -78,27 +78,28 @@ module _ {P : Type 0} (step : Steps P) (pick : Entry P → Bool) where
 
 -- ---- the top list
 module _ {P : Type 0} (step : Steps P) (pick : Entry P → Bool) where
-  -- the cursor c came to `at` with `left` entries left, all of the others skipped
+  -- in the top list, the cursor c came to `at` with `left` entries left, all of the others skipped
   pub record Passing (c : Cursor) (at left : ℕ) : Type 0 where
+    pub top : c .level ≡ 0
     pub is : (n : ℕ) (a : List ℕ) → restBy step pick n a (cursor at (c .level) left (c .parent)) ≡ restBy step pick n a c
 
-  pub passing-none : (c : Cursor) → Passing c (c .at) (c .left)
-  passing-none c = record { is = λ n a. refl }
+  pub passing-none : (c : Cursor) → c .level ≡ 0 → Passing c (c .at) (c .left)
+  passing-none c top = record { top = top; is = λ n a. refl }
 
   pub passed-none : (c : Cursor) → 0 < c .level → Passed step pick c c
   passed-none c l = record { level-is = refl; picked = λ e _. absurd (omega arith); done = λ d. d; is = λ n a. refl }
 
 module _ {P : Type 0} {step : Steps P} {pick : Entry P → Bool} where
-  module _ {c : Cursor} {at left : ℕ} (h : Passing step pick c at left) (top : c .level ≡ 0) where
+  module _ {c : Cursor} {at left : ℕ} (h : Passing step pick c at left) where
     pub passed-all : left ≤ 0 → Passed step pick c (cursor at (c .level) left (c .parent))
-    passed-all e = record { level-is = refl; picked = λ _ l. absurd (omega arith); done = λ _ _. top; is = h .is }
+    passed-all e = record { level-is = refl; picked = λ _ l. absurd (omega arith); done = λ _ _. h .top; is = h .is }
 
     pub passed-some : Every (λ e. pick (e .0) ≡ true) (topAt step at) → Passed step pick c (cursor at (c .level) left (c .parent))
-    passed-some e = record { level-is = refl; picked = λ _ _. e; done = λ _ _. top; is = h .is }
+    passed-some e = record { level-is = refl; picked = λ _ _. e; done = λ _ _. h .top; is = h .is }
 
     pub passing-next : 0 < left → (e : Entry P) (next : ℕ) → topAt step at ≡ some (e, next) → pick e ≡ false → Passing step pick c next (left - 1)
     unfolding restBy outer
-    passing-next l e next r k = record { is = λ n a. rw top (go n left l) ∙ h .is n a }
+    passing-next l e next r k = record { top = h .top; is = λ n a. rw (h .top) (go n left l) ∙ h .is n a }
       where
         go : (n m : ℕ) → 0 < m → restAt step pick 256 n (frame (m - 1) (c .parent)) [] next ≡ restAt step pick 256 n (frame m (c .parent)) [] at
         go n zero l = absurd (omega arith)

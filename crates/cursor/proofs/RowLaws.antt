@@ -10,6 +10,7 @@ use Rattle.rules.specs.Tree.{Entries, Node, levels, levelsAt, isReported, preor
 use Rattle.rules.specs.Reading.{Control}
 use Rattle.rows.specs.Writing.{State, writeControls}
 use Rattle.rows.specs.Acts.{Nodes, topNodes, _then_, Held, Fit, actBy, Ready}
+use Rattle.rows.proofs.WritingLaws.{write-lengths}
 use Rattle.rows.proofs.ActLaws.{at-place}
 use Rattle.rows.proofs.RemainLaws.{Remain, remain-start, remain-as, remain-step, remain-done, ready-first}
 use Rattle.cursor.specs.Walk.{Step, nodeOf, Steps, entryBy, picked, _before_, restAt, tailAt}
@@ -53,6 +54,8 @@ module _ {P : Type 0} (step : Steps P) (K : Type 0) (f : Node P → Control) whe
     pub picked : Picked step isReported c
     pub done : c .left ≡ 0 → c .level ≡ 0
     pub remain : Remain K f (left step (now .ci) a c) whole old now
+    pub controls-same : length (now .cs) ≡ length (old .cs)
+    pub properties-same : length (now .ps) ≡ length (old .ps)
 
 module _ {P : Type 0} {step : Steps P} {K : Type 0} {f : Node P → Control} where
   pub going-start : {whole : Nodes P} (st : State) (a : List ℕ) (n at : ℕ) (r : Cursor) → topNodes (levelsAt (entryBy step) levels n at) ≡ whole → st .ci ≡ 0
@@ -63,6 +66,8 @@ module _ {P : Type 0} {step : Steps P} {K : Type 0} {f : Node P → Control} whe
     picked = p .picked;
     done = p .done (λ _. refl);
     remain = remain-start K f _ whole st (sym (ap (λ (i : ℕ). left step i a r) z ∙ p .is 0 a ∙ start-nodes step a n at ∙ e)) h;
+    controls-same = refl;
+    properties-same = refl;
   }
 
   module _ {whole : Nodes P} {old : State} {a : List ℕ} {c : Cursor} {now : State} (g : Going step K f whole old a c now) where
@@ -121,4 +126,6 @@ module _ {P : Type 0} {step : Steps P} {K : Type 0} {f : Node P → Control} whe
           done = k .done (done a c (now .ci) (countOf (entry .children)) (entry .next) a′ r m);
           remain = remain-as K f _ _ whole old next (sym onward)
               (remain-step K f (some (node ∷ [], c .at)) (λ _. behind-it) whole old now next (c .at) (first-left (c .at)) (ap (λ (st : State). some (at-place st (c .at))) w));
+          controls-same = ap (λ (st : State). length (st .cs)) w ∙ write-lengths (f node ∷ []) now .0 ∙ g .controls-same;
+          properties-same = ap (λ (st : State). length (st .ps)) w ∙ write-lengths (f node ∷ []) now .1 ∙ g .properties-same;
         }

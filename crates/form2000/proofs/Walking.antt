@@ -63,16 +63,12 @@ parts at s p x e = go (halfAt s p) (runAt s (p + 2)) refl e
 -- ---- the loop
 pub record Going (t scopes s : List ℕ) (n : ℕ) (controls rows : List ℕ) (start : Next) (a : List ℕ) (c : Cursor) (controls′ rows′ : List ℕ) (next : Next) : Type 0 where
   pub goes : laws.Going (stepAt s) (Given t scopes s) (controlOf t s) (topAt s n (start .at)) (stateAt controls rows start) a c (stateAt controls′ rows′ next)
-  pub controls-long : length controls′ ≡ length controls
-  pub rows-long : length rows′ ≡ length rows
 
 pub going-start : {t scopes s : List ℕ} {n : ℕ} {controls rows : List ℕ} {start : Next} (a : List ℕ) {b r : Cursor} → length a ≡ 512
     → TopReady t scopes s n controls rows start → b ≡ cursor (start .at) 0 n noParent → Passed (stepAt s) isReported b r
     → Going t scopes s n controls rows start a r controls rows start
 going-start {s = s} {n = n} {controls = controls} {rows = rows} {start = start} a {r = r} l h e p = record {
   goes = laws.going-start (stateAt controls rows start) a n (start .at) r (ap topNodes (sym (entries-same s levels n (start .at)))) (h .first) l (h .ready) (rw e at p);
-  controls-long = refl;
-  rows-long = refl;
 }
 
 module _ {t scopes s : List ℕ} {n : ℕ} {controls rows : List ℕ} {start : Next} {a : List ℕ} {c : Cursor} {controls′ rows′ : List ℕ} {next : Next}
@@ -124,9 +120,5 @@ module _ {t scopes s : List ℕ} {n : ℕ} {controls rows : List ℕ} {start : N
         pub going-less : howMany (left (stepAt s) (e .control) a′ r′) < howMany (left (stepAt s) (next .control) a c)
         going-less = laws.going-less (g .goes) l (stateAt controls″ rows″ e) (ap (λ (y : Stood). y .state) wrote) a′ r r′ moved k
 
-        pub going-next : length controls″ ≡ length controls′ → length rows″ ≡ length rows′ → Going t scopes s n controls rows start a′ r′ controls″ rows″ e
-        going-next x y = record {
-          goes = laws.going-next (g .goes) l (stateAt controls″ rows″ e) (ap (λ (y : Stood). y .state) wrote) a′ r r′ moved k;
-          controls-long = x ∙ g .controls-long;
-          rows-long = y ∙ g .rows-long;
-        }
+        pub going-next : Going t scopes s n controls rows start a′ r′ controls″ rows″ e
+        going-next = record { goes = laws.going-next (g .goes) l (stateAt controls″ rows″ e) (ap (λ (y : Stood). y .state) wrote) a′ r r′ moved k }

@@ -22,7 +22,6 @@ use Rattle.rows.specs.Put.{put, controlWords}
 use Rattle.rows.specs.Writing.{State, state, writeControls}
 use Rattle.rows.specs.Acts.{Nodes, topNodes}
 use Rattle.rows.specs.declared.ControlRow.{ControlRow}
-use Rattle.rows.proofs.PutLaws.{put-length}
 use Rattle.countlater.specs.Count.{groupIn, childrenOf}
 use Rattle.countlater.proofs.NodeLaws.{head-past}
 use Rattle.cursor.specs.Walk.{Step}
@@ -35,7 +34,7 @@ use Rattle.cursorlater.specs.Steps.{listOf, stepAt}
 use Rattle.cursorlater.proofs.StepLaws.{nodes-same}
 use Rattle.later.specs.Write.{nameAmong, GroupReady, GroupDone, next, treeControl, NodesReady, NodesDone}
 use Rattle.later.specs.declared.WrittenGroup.{WrittenGroup}
-use Rattle.later.proofs.WriteGroupLaws.{group-kept, rows-show}
+use Rattle.later.proofs.WriteGroupLaws.{rows-show}
 use Rattle.later.proofs.NameLaws.{nameFrom, node-named}
 use Rattle.later.proofs.WriteNodeLaws.{Due, group-ready, row-ready, words-ready, control-done, children-told}
 
@@ -70,20 +69,16 @@ parts s p x e = go (groupIn s p .trailer) refl e
 -- ---- the loop
 pub record Going (s : List ℕ) (whole : Nodes Prop) (old : State) (a : List ℕ) (c : Cursor) (now : State) : Type 0 where
   pub walk : laws.Going (stepAt s) (length s ≤ longest) (treeControl s) whole old a c now
-  pub small : length s ≤ longest
-  pub controls-same : length (now .cs) ≡ length (old .cs)
-  pub properties-same : length (now .ps) ≡ length (old .ps)
 
 pub going-start : {s a : List ℕ} {n at : ℕ} {b r : Cursor} {cs ps : List ℕ} {pi : ℕ} → length a ≡ 512 → NodesReady s (topNodes (nodesAt 256 s n at)) (state cs 0 ps pi)
     → b ≡ cursor at 0 n noParent → Passed (stepAt s) isReported b r → Going s (topNodes (nodesAt 256 s n at)) (state cs 0 ps pi) a r (state cs 0 ps pi)
-going-start {s} {a} {n} {at} {b} {r} {cs} {ps} {pi} l h e p = record {
-  walk = laws.going-start (state cs 0 ps pi) a n at r (ap topNodes (sym (nodes-same s 256 n at))) refl l h (rw e at p);
-  small = h .known;
-  controls-same = refl;
-  properties-same = refl;
-}
+going-start {s} {a} {n} {at} {b} {r} {cs} {ps} {pi} l h e p =
+    record { walk = laws.going-start (state cs 0 ps pi) a n at r (ap topNodes (sym (nodes-same s 256 n at))) refl l h (rw e at p) }
 
 module _ {s : List ℕ} {whole : Nodes Prop} {old : State} {a : List ℕ} {c : Cursor} {cs : List ℕ} {ci : ℕ} {ps : List ℕ} {pi : ℕ} (g : Going s whole old a c (state cs ci ps pi)) where
+  pub going-small : length s ≤ longest
+  going-small = g .walk .remain .ready .known
+
   pub going-done : c .left ≤ 0 → NodesDone s whole old cs ps (next (c .at) ci pi)
   going-done l = laws.going-done (g .walk) l
 
@@ -110,7 +105,7 @@ module _ {s : List ℕ} {whole : Nodes Prop} {old : State} {a : List ℕ} {c : C
     -- the control of this node is next
     due : Due s (length s) (c .at + 6) (treeControl s node) (state cs ci ps pi)
     unfolding controlOf
-    due = record { inside = omega arith; small = g .small; own = ap (map (propertyOf s)) (its .props-are); fits = laws.going-ready (g .walk) l 0 .fits }
+    due = record { inside = omega arith; small = going-small; own = ap (map (propertyOf s)) (its .props-are); fits = laws.going-ready (g .walk) l 0 .fits }
 
     pub going-group : GroupReady s (length s) (c .at + 6) (length ps) pi
     going-group = group-ready due
@@ -146,9 +141,4 @@ module _ {s : List ℕ} {whole : Nodes Prop} {old : State} {a : List ℕ} {c : C
           going-less = laws.going-less (g .walk) l _ next-is a′ r r′ moved k
 
           pub going-next : Going s whole old a′ r′ (state cs′ (ci + 1) ps′ (pi + w .count))
-          going-next = record {
-            walk = laws.going-next (g .walk) l _ next-is a′ r r′ moved k;
-            small = g .small;
-            controls-same = ap length ec ∙ put-length controlWidth cs ci _ ∙ g .controls-same;
-            properties-same = group-kept d ∙ g .properties-same;
-          }
+          going-next = record { walk = laws.going-next (g .walk) l _ next-is a′ r r′ moved k }

@@ -1,23 +1,14 @@
 use native.Mathlib.Omega.{arith}
 use borrow.Author.Needs.{needs}
-use Prim.Native.Nat.{ℕ}
-use mathlib.Core.Path.{_≡_}
-use mathlib.Core.List.{List}
 use Rattle.rules.specs.Tree.{isReported}
 use Rattle.cursor.specs.Cursors.{cursor}
-use Rattle.cursor.specs.declared.Cursor.{Cursor}
 use Rattle.cursor.proofs.CursorLaws.{Passing, passing-none, passed-all, passed-some, passing-next, passed-none}
 use Rattle.cursor2000.specs.Steps.{stepAt}
 use Rattle.cursor2000.proofs.reported.Statement.{statement}
 use Rattle.cursor2000.proofs.reported.Tie as tie
 
--- what the loop keeps, in the top list
-record Keeps (s : List ℕ) (c : Cursor) (at left : ℕ) : Type 0 where
-  passing : Passing (stepAt s) isReported c at left
-  top : c .level ≡ 0
-
 abbrev Inv-loop : tie.InvT-loop
-Inv-loop s level parent at₀ left₀ at left = Keeps s (cursor at₀ level left₀ parent) at left
+Inv-loop s level parent at₀ left₀ at left = Passing (stepAt s) isReported (cursor at₀ level left₀ parent) at left
 
 abbrev μ-loop : tie.MeasureT-loop
 μ-loop s level parent at₀ left₀ at left = left
@@ -26,23 +17,21 @@ returns : tie.Need-returns Inv-loop μ-loop
 returns c = passed-none _ _ _ (omega arith)
 
 loop-holds : tie.Need-loop-holds Inv-loop μ-loop
-loop-holds c = record { passing = passing-none _ _ _; top = omega arith }
+loop-holds c = passing-none _ _ _ (omega arith)
 
 loop-again : tie.Need-loop-again Inv-loop μ-loop
 loop-again c =
-    let at-loop : tie.At-loop Inv-loop μ-loop = search in
-    let b5 = at-loop in
+    let turn : tie.At-loop Inv-loop μ-loop = search in
     let x = c .before .before .before .skip .ensures .over _ (c .before .next .given .1) in
-    let inv = b5 .loop .inv in
-    record { passing = passing-next (inv .passing) (inv .top) (omega arith) (x .0) _ (x .1) (x .2); top = inv .top }
+    passing-next (turn .loop .inv) (omega arith) (x .0) _ (x .1) (x .2)
 
 returns-2 : tie.Need-returns-2 Inv-loop μ-loop
 returns-2 c =
-    let at-loop : tie.At-loop Inv-loop μ-loop = search in
-    passed-some (at-loop .loop .inv .passing) (omega arith) (c .before .before .skip .ensures .kept (c .enum-told .given .1))
+    let turn : tie.At-loop Inv-loop μ-loop = search in
+    passed-some (turn .loop .inv) (c .before .before .skip .ensures .kept (c .enum-told .given .1))
 
 returns-3 : tie.Need-returns-3 Inv-loop μ-loop
-returns-3 c = passed-all (c .before .loop .inv .passing) (c .before .loop .inv .top) (omega arith)
+returns-3 c = passed-all (c .before .loop .inv) (omega arith)
 
 pub reported-spec : {M : Type 1} → statement M
 reported-spec =

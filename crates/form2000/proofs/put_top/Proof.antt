@@ -55,8 +55,7 @@ loop-less c =
 loop-again : tie.Need-loop-again Inv-loop μ-loop
 loop-again c =
     let wrote : tie.After-put-node Inv-loop μ-loop = search in
-    let kept = wrote .put-node .kept .1 .1 .1 .1 in
-    going-next (turn-of wrote .loop .inv) (omega (arith, test-of wrote .if1 .taken)) (wrote .put-node .ensures) _ (c .before .past .ensures) (c .reported2 .ensures) (kept .0) (kept .1 .0)
+    going-next (turn-of wrote .loop .inv) (omega (arith, test-of wrote .if1 .taken)) (wrote .put-node .ensures) _ (c .before .past .ensures) (c .reported2 .ensures)
 
 pub put-top-spec : {M : Type 1} → statement M
 put-top-spec =
@@ -74,6 +73,6 @@ put-top-spec =
     (λ c κs. search needs)
     loop-less
     loop-again
-    (λ c. c .before .before .loop .inv .controls-long)
-    (λ c. c .before .before .loop .inv .rows-long)
+    (λ c. c .before .before .loop .inv .goes .controls-same)
+    (λ c. c .before .before .loop .inv .goes .properties-same)
     (λ c. going-done (c .before .before .loop .inv) (omega arith)))

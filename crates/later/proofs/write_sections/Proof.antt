@@ -8,7 +8,7 @@ use Rattle.rows.specs.Writing.{state}
 use Rattle.rows.specs.Acts.{topNodes}
 use Rattle.cursor.proofs.RowLaws.{left, howMany}
 use Rattle.cursorlater.specs.Steps.{stepAt}
-use Rattle.later.proofs.Walking.{Going, going-start, going-done, going-inside, going-low, going-group, going-row, going-adds, going-past, going-less, going-next}
+use Rattle.later.proofs.Walking.{Going, going-start, going-small, going-done, going-inside, going-low, going-group, going-row, going-adds, going-past, going-less, going-next}
 use Rattle.later.proofs.write_sections.Statement.{statement}
 use Rattle.later.proofs.write_sections.Tie as tie
 
@@ -45,7 +45,7 @@ loop-holds c =
 add-write-group : tie.Need-add-write-group Inv-loop μ-loop
 add-write-group c =
     let turn : tie.At-loop Inv-loop μ-loop = search in
-    omega (arith, going-inside (turn .loop .inv) (omega arith), turn .loop .inv .small)
+    omega (arith, going-inside (turn .loop .inv) (omega arith), going-small (turn .loop .inv))
 
 write-group-requires : tie.Need-write-group-requires Inv-loop μ-loop
 write-group-requires c κs =
@@ -116,6 +116,6 @@ write-sections-spec =
     add-i
     loop-less
     loop-again
-    (λ c. c .before .before .loop .inv .controls-same)
-    (λ c. c .before .before .loop .inv .properties-same)
+    (λ c. c .before .before .loop .inv .walk .controls-same)
+    (λ c. c .before .before .loop .inv .walk .properties-same)
     (λ c. going-done (c .before .before .loop .inv) (omega arith)))
