@@ -21,7 +21,7 @@ partOr s start size = cond (leb (start + size) (length s)) (part s start size) [
 abbrev pub Place : Type 0
 Place = ℕ × ℕ
 
--- so many bytes behind a place
+-- so many bytes after a place
 abbrev pub behind : Place → ℕ → Place
 behind p n = (p .0, p .1 + n)
 

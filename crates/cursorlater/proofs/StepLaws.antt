@@ -1,4 +1,4 @@
--- The nodes of a later stream are read by their steps; and the cursor behind a node.
+-- The nodes of a later stream are read by their steps; and the cursor after a node.
 use Prim.Native.Nat.{ℕ, zero, suc, _+_, _<_}
 use native.Mathlib.Omega.{arith}
 use mathlib.Core.Path.{_≡_, refl, sym, ap, _∙_}
@@ -83,7 +83,7 @@ top-same : (s : List ℕ) (p : ℕ) → nodeAt s (nodesAt 255 s) p ≡ topAt (st
 unfolding nodesAt
 top-same s p = node-same s (nodeAt s) 255 p ∙ ap (λ below. entryBy (stepAt s) below p) (λ i m q. nodes-by s 255 m q i)
 
--- ---- a top node that is reported, or can't be read, and one that is passed over
+-- ---- a top node that is reported, or can't be read, and one that is skipped
 module _ (s : List ℕ) (p : ℕ) (r : TopNode) (re : r ≡ topNode (oneNode 255 s p)) where
   pub kept-top : r ≡ TopNode.Reported → Every (λ e. isReported (e .0) ≡ true) (topAt (stepAt s) p)
   kept-top rk = rw (← top-same s p) (top-reported (oneNode 255 s p) r re rk)
@@ -104,7 +104,7 @@ children-small s h trailer p =
     every-if CountSmall (eqb trailer 254) _ _ (λ _. omega arith) λ _.
     every-if CountSmall (leb (p + 2) (length s)) _ _ (λ _. omega (arith, h p, h (p + 1))) λ _. tt
 
--- ---- behind a group
+-- ---- after a group
 module _ (s : List ℕ) (trailer stop : ℕ) (u : Children) (ue : u ≡ children (childrenAt s trailer stop)) where
   pub count-small : Bytes s → (n q : ℕ) → u ≡ Children.Of n q → n < 65536
   count-small h n q uk = every-at CountSmall (childrenAt s trailer stop) (n, q) (children-small s h trailer stop) (children-of (childrenAt s trailer stop) u n q ue uk)

@@ -46,7 +46,7 @@ pub fn reported(s: &[u8], c: Cursor) -> Cursor
     }
 }
 
-// Goes behind the node at `c`, which has row `row`, and whose group ended by `trailer` at `stop`.
+// Goes on after the node at `c`, which has row `row`, and whose group ended by `trailer` at `stop`.
 pub fn past(
     s: &[u8],
     stack: &mut [u32; STACK_WORDS],

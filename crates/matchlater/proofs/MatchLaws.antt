@@ -45,7 +45,7 @@ pub match-end : (s : List ℕ) (p : ℕ) → length s ≤ p → matchesFrom s p 
 unfolding matchesFrom matchesOf
 match-end s p h = enough (length s) zero s p (omega arith) (omega arith)
 
--- ---- places passed over
+-- ---- places skipped
 on-to : (k : ℕ) (s : List ℕ) (p : ℕ) → ((q : ℕ) → p ≤ q → q < p + k → matchAt s q ≡ false) → matchesFrom s p ≡ matchesFrom s (p + k)
 on-to zero s p h = ap (matchesFrom s) (omega arith)
 on-to (suc k) s p h =

@@ -1,4 +1,4 @@
-// The functions that C and Rust call: each hands its arguments on to the proved function behind it.
+// The functions that C and Rust call: each hands its arguments on to a proved function.
 ghost use mathlib.Core.Path.{_≡_};
 ghost use Rattle.rules.specs.Blob.{exit, exit2000, exitLater};
 ghost use Rattle.rules.specs.CodeTable.{wellFormed};
