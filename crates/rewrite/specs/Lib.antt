@@ -1,0 +1,2 @@
+-- What the walk through a stream says.
+pub mod Pieces
