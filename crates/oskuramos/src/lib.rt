@@ -6,6 +6,7 @@ ghost use Rattle.rules.specs.Join.{joinExit};
 ghost use Rattle.rules.specs.NamePart.{namePart};
 ghost use Rattle.rules.specs.NameTables.{textNames, numberNames, bytesNames, controlTypeNames};
 ghost use Rattle.rules.specs.Names.{namesFor, nameExit};
+ghost use Rattle.rules.specs.Rewrite.{rewriteExit};
 ghost use Rattle.rules.specs.Room.{room2000, roomLater, roomFor, typeInfoRoom};
 ghost use Rattle.rules.specs.Texts.{guidExit, labelExit};
 ghost use Rattle.rules.specs.TypeInfo.{typeInfoExit};
@@ -209,6 +210,15 @@ pub extern "C" fn oskuramos_join(one: &[u8], other: &[u8], out: &mut [u8]) -> An
     ensures { λ _. ⌜ now (out .exit) ≡ joinExit (now (one .entry)) (now (other .entry)) (now (out .entry)) .out ⌝ }
 {
     handed_answer(join::join(one, other, out))
+}
+
+// ---- an Access 2000 stream in its short spelling
+#[no_mangle]
+pub extern "C" fn oskuramos_rewrite(stream: &[u8], out: &mut [u8]) -> Answer
+    ensures { λ r. ⌜ r ≡ handedAnswer (rewriteExit (now (stream .entry)) (now (out .entry)) .answer) ⌝ }
+    ensures { λ _. ⌜ now (out .exit) ≡ rewriteExit (now (stream .entry)) (now (out .entry)) .out ⌝ }
+{
+    handed_answer(rewrite::rewrite(stream, out))
 }
 
 // ---- text
