@@ -16,15 +16,18 @@ use Rattle.rules.specs.Texts.{TextExit, guidExit, labelExit}
 use Rattle.rules.specs.TypeInfo.{TypeInfoExit, typeInfoExit}
 use Rattle.rules.specs.Blob.{Exit, exit, exit2000, exitLater}
 use Rattle.rules.specs.Join.{joinExit, result}
+use Rattle.rules.specs.Rewrite.{rewriteExit}
 use Rattle.rules.specs.NamePart.{partBytes}
 use Rattle.blob.specs.Exit.{partPlace}
 use Rattle.oskuramos.specs.Handed.{handedAnswer}
-use Rattle.claims.specs.Demand2.{Spelled, Judges}
-use Rattle.claims.specs.Demand3.{SameBut, Same}
+use Rattle.claims.specs.Demand2.{Given, Spelled, Judges}
+use Rattle.claims.specs.Demand3.{Lent, SameRoom, SameBut, Same}
 use Rattle.claims.specs.Readers.{Agree}
+use Rattle.claims.specs.Rewriting.{SameRows, Rewrites}
 use Rattle.calls.specs.Always.{Saying, Always, OneResult, Fn, Every, Gives, Call, handed, seen}
 use Rattle.codetable.proofs.well_formed.Met as well-formed-code
 use Rattle.join.proofs.join.Met as join-code
+use Rattle.rewrite.proofs.rewrite.Met as rewrite-code
 use Rattle.room.proofs.room_for.Met as room-code
 use Rattle.room.proofs.room_2000.Met as room-2000-code
 use Rattle.room.proofs.room_later.Met as room-later-code
@@ -53,6 +56,7 @@ use Rattle.oskuramos.proofs.oskuramos_read_later.Met as exported-read-later-cod
 use Rattle.oskuramos.proofs.oskuramos_read_type_info.Met as exported-read-type-info-code
 use Rattle.oskuramos.proofs.oskuramos_well_formed.Met as exported-well-formed-code
 use Rattle.oskuramos.proofs.oskuramos_join.Met as exported-join-code
+use Rattle.oskuramos.proofs.oskuramos_rewrite.Met as exported-rewrite-code
 use Rattle.oskuramos.proofs.oskuramos_room.Met as exported-room-code
 use Rattle.oskuramos.proofs.oskuramos_room_2000.Met as exported-room-2000-code
 use Rattle.oskuramos.proofs.oskuramos_room_later.Met as exported-room-later-code
@@ -83,6 +87,7 @@ use Rattle.oskuramos.proofs.oskuramos_bytes_name.Reads as exported-bytes-name-c
 use Rattle.oskuramos.proofs.oskuramos_control_type_name.Reads as exported-control-type-name-clauses
 use Rattle.oskuramos.proofs.oskuramos_value_name.Reads as exported-value-name-clauses
 use Rattle.join.proofs.join.Reads as join-clauses
+use Rattle.rewrite.proofs.rewrite.Reads as rewrite-clauses
 use Rattle.blob.proofs.control_name.Reads as control-name-clauses
 use Rattle.numbers.proofs.widen.Reads as widen-clauses
 use Rattle.oskuramos.proofs.oskuramos_read_blob.Reads as exported-read-blob-clauses
@@ -92,11 +97,12 @@ use Rattle.oskuramos.proofs.oskuramos_read_type_info.Reads as exported-read-typ
 use Rattle.oskuramos.proofs.oskuramos_guid_text.Reads as exported-guid-text-clauses
 use Rattle.oskuramos.proofs.oskuramos_label_text.Reads as exported-label-text-clauses
 use Rattle.oskuramos.proofs.oskuramos_join.Reads as exported-join-clauses
+use Rattle.oskuramos.proofs.oskuramos_rewrite.Reads as exported-rewrite-clauses
 use Rattle.calls.specs.Functions as f
 use Rattle.calls.specs.Functions.{Blob, Later}
 use Rattle.calls.specs.Calls as calls
 use Rattle.calls.proofs.Always.{both-facts, three-facts, so, told, Tells, knowing}
-use Rattle.calls.proofs.LentBytes.{stream-told, later-told, one-told, other-told}
+use Rattle.calls.proofs.LentBytes.{stream-told, later-told, rewrite-told, one-told, other-told}
 use Rattle.claims.proofs.Demand1.{demand1}
 use Rattle.claims.proofs.Demand2.{demand2}
 use Rattle.claims.proofs.Demand3.{demand3}
@@ -109,6 +115,7 @@ use Rattle.claims.proofs.CutNames.{wish6}
 use Rattle.claims.proofs.RowChecks.{row-checks}
 use Rattle.claims.proofs.Nesting.{nesting}
 use Rattle.claims.proofs.Rooms.{rooms}
+use Rattle.claims.proofs.Rewriting.{wish13}
 use Rattle.claims.proofs.ScanNames.{wish10}
 
 -- ---- a function whose contract is an equation with a definition
@@ -132,8 +139,8 @@ module _ {A B : Type 0} (f : Fn A B) (definition : A → B) (p : Proved f defini
   by-words c d e = call-told c ∙ ap definition e ∙ sym (call-told d)
 
 -- the stream of a call is a list of bytes
-module _ {A : Type 0} (f : Fn A Exit) (definition : A → Exit) (p : Proved f definition) (stream : A → List ℕ) (tells : Tells (f .function) (λ κs a. Bytes (stream (f .handed κs a)))) where
-  every-bytes : (said : A → Exit → Type 0) → ((a : A) → Bytes (stream a) → said a (definition a)) → Every f said
+module _ {A B : Type 0} (f : Fn A B) (definition : A → B) (p : Proved f definition) (stream : A → List ℕ) (tells : Tells (f .function) (λ κs a. Bytes (stream (f .handed κs a)))) where
+  every-bytes : (said : A → B → Type 0) → ((a : A) → Bytes (stream a) → said a (definition a)) → Every f said
   every-bytes said h = record {
     holds = knowing (f .function) (λ κs a. Bytes (stream (f .handed κs a))) (f .function .says) _ tells
         (λ κs a r e q small. subst (said (f .handed κs a)) (sym (p .told κs a r e q)) (h (f .handed κs a) small)) (p .met);
@@ -415,6 +422,49 @@ crates-join-allows a = (record { κs = ([], ([], ([], tt))); args = join-args a;
 exported-join-allows : (a : f.Join) → (c : Call (f.exported .join)) × (handed c ≡ a)
 exported-join-allows a = (record { κs = ([], ([], ([], tt))); args = join-args a; result = handedAnswer (join-of a .answer); left = (tt, (tt, (join-of a .out, tt))); allowed = (refl, refl) }, refl)
 
+-- ---- rewrite
+abbrev rewrite-of : f.Rewrite → TextExit
+rewrite-of a = rewriteExit (a .stream) (a .out)
+
+module _ (g : Fn f.Rewrite TextExit) (p : Proved g rewrite-of) (one : OneResult (g .function)) (tells : Tells (g .function) (λ κs a. Bytes (g .handed κs a .stream)))
+    (allows : (a : f.Rewrite) → (c : Call g) × (handed c ≡ a)) where
+  rewrite-streams : calls.RewriteStream g
+  rewrite-streams = record {
+    met = p .met;
+    is-exit = every g rewrite-of p _ (λ a. refl);
+    bytes = every-bytes g rewrite-of p (λ (a : f.Rewrite). a .stream) tells _ (λ a small. small);
+    demand1 = every g rewrite-of p _ (λ a. wish13 .answers (a .stream) (a .out));
+    refused = every-bytes g rewrite-of p (λ (a : f.Rewrite). a .stream) tells _ (λ a small. wish13 .refused (a .stream) (a .out) small);
+    rewrites = every-bytes g rewrite-of p (λ (a : f.Rewrite). a .stream) tells _ (λ a small r. wish13 .rewrites (a .stream) (a .out) r small);
+    beyond = every g rewrite-of p _ (λ a. wish13 .beyond (a .stream) (a .out));
+    room-enough = every-bytes g rewrite-of p (λ (a : f.Rewrite). a .stream) tells _ (λ a small. wish13 .room-enough (a .stream) (a .out) small);
+    one-spelling = λ c d t e h k r r′ x y.
+        wish13 .one-spelling (handed c .stream) (handed d .stream) (handed c .out) (handed d .out) r r′ t e h k
+        (sym (ap result (call-told g rewrite-of p c)) ∙ x) (sym (ap result (call-told g rewrite-of p d)) ∙ y);
+    one-result = one;
+    allows = allows;
+  }
+
+abbrev rewrite-args : f.Rewrite → RefT (List ℕ) × (RefT (List ℕ) × Unit {0})
+rewrite-args a = (somewhere (a .stream), (somewhere (a .out), tt))
+
+crates-rewrite-allows : (a : f.Rewrite) → (c : Call (f.crates .rewrite)) × (handed c ≡ a)
+crates-rewrite-allows a = (record { κs = ([], ([], tt)); args = rewrite-args a; result = rewrite-of a .answer; left = (tt, (rewrite-of a .out, tt)); allowed = (refl, refl) }, refl)
+
+exported-rewrite-allows : (a : f.Rewrite) → (c : Call (f.exported .rewrite)) × (handed c ≡ a)
+exported-rewrite-allows a = (record { κs = ([], ([], tt)); args = rewrite-args a; result = handedAnswer (rewrite-of a .answer); left = (tt, (rewrite-of a .out, tt)); allowed = (refl, refl) }, refl)
+
+-- a stream and its rewritten stream, by a reader whose definition shows the same rows of both
+rewritten-reads : (g : Fn Blob Exit) (definition : List ℕ → List ℕ → List ℕ → List ℕ → Exit) → Proved g (λ a. definition (a .table) (a .stream) (a .controls) (a .properties))
+    → ((s r : List ℕ) → Rewrites s r → (table : List ℕ) → Given table s → (lent lent′ : Lent) → SameRoom lent lent′
+    → SameRows s r (definition table s (lent .controls) (lent .properties)) (definition table r (lent′ .controls) (lent′ .properties)))
+    → calls.RewrittenRead g
+rewritten-reads g definition p same s r w c d b =
+    let read : seen c ≡ definition (handed c .table) s (handed c .controls) (handed c .properties) = call-told g _ p c ∙ ap (λ x. definition (handed c .table) x (handed c .controls) (handed c .properties)) (b .of-s) in
+    let read′ : seen d ≡ definition (handed c .table) r (handed d .controls) (handed d .properties) = call-told g _ p d ∙ ap₂ (λ t x. definition t x (handed d .controls) (handed d .properties)) (sym (b .same-table)) (b .of-r) in
+    subst (λ x. SameRows s r x (seen d)) (sym read) (subst (SameRows s r (definition (handed c .table) s (handed c .controls) (handed c .properties))) (sym read′)
+    (same s r w (handed c .table) (b .given) (calls.lent (handed c)) (calls.lent (handed d)) (b .same-room)))
+
 -- ---- as the crates have them
 of-crates : calls.Promised f.crates
 of-crates = record {
@@ -438,6 +488,12 @@ of-crates = record {
     met = told (f.crates .join .function) (λ w κs a r e. join-clauses.ensures κs a tt r e w) _ (λ w κs a r e. both-facts (w .𝓤) _ _) (λ w. join-code.met (w .𝓤) (w .H) (w .𝓜) (w .𝓖) (w .𝓡));
     told = λ κs a r e q i. record { answer = q .0 i; out = q .1 i };
   }) (λ κs a r r′ x y p q. (p .0 ∙ sym (q .0), λ i. (tt, (tt, ((p .1 ∙ sym (q .1)) i, tt))))) (one-told (f.crates .join .function .ended .signature .result)) (other-told (f.crates .join .function .ended .signature .result)) crates-join-allows;
+  rewrite = rewrite-streams (f.crates .rewrite) (record {
+    met = told (f.crates .rewrite .function) (λ w κs a r e. rewrite-clauses.ensures κs a tt r e w) _ (λ w κs a r e. both-facts (w .𝓤) _ _) (λ w. rewrite-code.met (w .𝓤) (w .H) (w .𝓜) (w .𝓖) (w .𝓡));
+    told = λ κs a r e q i. record { answer = q .0 i; out = q .1 i };
+  }) (λ κs a r r′ x y p q. (p .0 ∙ sym (q .0), λ i. (tt, ((p .1 ∙ sym (q .1)) i, tt)))) (rewrite-told (f.crates .rewrite .function .ended .signature .result)) crates-rewrite-allows;
+  rewritten-2000 = rewritten-reads (f.crates .read-2000) exit2000 crates-read-2000 (λ s r w table g. w .same table g .by-2000);
+  rewritten-blob = rewritten-reads (f.crates .read-blob) exit crates-read-blob (λ s r w table g. w .same table g .chosen);
   well-formed = gives (f.crates .well-formed) _ (record { met = λ w. well-formed-code.met (w .𝓤) (w .H) (w .𝓜) (w .𝓖) (w .𝓡); told = λ κs a r e q. q }) (λ κs a r r′ x y p q. (p ∙ sym q, refl));
   room = gives (f.crates .room) _ (record { met = λ w. room-code.met (w .𝓤) (w .H) (w .𝓜) (w .𝓖) (w .𝓡); told = λ κs a r e q. q }) (λ κs a r r′ x y p q. (p ∙ sym q, refl));
   room-2000 = gives (f.crates .room-2000) _ (record { met = λ w. room-2000-code.met (w .𝓤) (w .H) (w .𝓜) (w .𝓖) (w .𝓡); told = λ κs a r e q. q }) (λ κs a r r′ x y p q. (p ∙ sym q, refl));
@@ -492,6 +548,12 @@ of-exported = record {
     met = told (f.exported .join .function) (λ w κs a r e. exported-join-clauses.ensures κs a tt r e w) _ (λ w κs a r e. both-facts (w .𝓤) _ _) (λ w. exported-join-code.met (w .𝓤) (w .H) (w .𝓜) (w .𝓖) (w .𝓡));
     told = λ κs a r e q i. record { answer = f.takenAnswer (q .0 i); out = q .1 i };
   }) (λ κs a r r′ x y p q. (p .0 ∙ sym (q .0), λ i. (tt, (tt, ((p .1 ∙ sym (q .1)) i, tt))))) (one-told (f.exported .join .function .ended .signature .result)) (other-told (f.exported .join .function .ended .signature .result)) exported-join-allows;
+  rewrite = rewrite-streams (f.exported .rewrite) (record {
+    met = told (f.exported .rewrite .function) (λ w κs a r e. exported-rewrite-clauses.ensures κs a tt r e w) _ (λ w κs a r e. both-facts (w .𝓤) _ _) (λ w. exported-rewrite-code.met (w .𝓤) (w .H) (w .𝓜) (w .𝓖) (w .𝓡));
+    told = λ κs a r e q i. record { answer = f.takenAnswer (q .0 i); out = q .1 i };
+  }) (λ κs a r r′ x y p q. (p .0 ∙ sym (q .0), λ i. (tt, ((p .1 ∙ sym (q .1)) i, tt)))) (rewrite-told (f.exported .rewrite .function .ended .signature .result)) exported-rewrite-allows;
+  rewritten-2000 = rewritten-reads (f.exported .read-2000) exit2000 exported-read-2000 (λ s r w table g. w .same table g .by-2000);
+  rewritten-blob = rewritten-reads (f.exported .read-blob) exit exported-read-blob (λ s r w table g. w .same table g .chosen);
   well-formed = gives (f.exported .well-formed) _ (record { met = λ w. exported-well-formed-code.met (w .𝓤) (w .H) (w .𝓜) (w .𝓖) (w .𝓡); told = λ κs a r e q. q }) (λ κs a r r′ x y p q. (p ∙ sym q, refl));
   room = gives (f.exported .room) _ (record { met = λ w. exported-room-code.met (w .𝓤) (w .H) (w .𝓜) (w .𝓖) (w .𝓡); told = λ κs a r e q. ap f.takenRoom q }) (λ κs a r r′ x y p q. (p ∙ sym q, refl));
   room-2000 = gives (f.exported .room-2000) _ (record { met = λ w. exported-room-2000-code.met (w .𝓤) (w .H) (w .𝓜) (w .𝓖) (w .𝓡); told = λ κs a r e q. ap f.takenRoom q }) (λ κs a r r′ x y p q. (p ∙ sym q, refl));

@@ -91,6 +91,21 @@ later-told result w κs qs a vss =
     (via (w .𝓤) (sep (w .𝓤) O Q) (snd∗ (w .𝓤) P (sep (w .𝓤) O Q)) (fst∗ (w .𝓤) O Q)))
     (via (w .𝓤) (sep (w .𝓤) O L) (comm∗ (w .𝓤) L O) (slice-told w (named 0) (κs .0) (qs .0) (a .1 .0) (vss .1 .0)))
 
+-- rewrite's stream: the first of the arguments, with the first of the lifetimes
+abbrev rewrite-signature : Slot 2 → Signature
+rewrite-signature result = record { lifetimes = 2; outlives = []; params = SliceRef 0 tt u8 tt ∷ SliceRefMut 1 tt u8 tt ∷ []; result = result }
+
+pub rewrite-told : (result : Slot 2) (w : World) (κs : Lfts 2) (qs : Shares 2) (a : Args (rewrite-signature result) κs) (vss : Vals (rewrite-signature result) κs)
+    → ent (w .𝓤) (onEntry (w .𝓤) (w .H) (w .𝓖 .A) (rewrite-signature result) κs qs a vss) (w .H .⇛ (fact (w .𝓤) (Bytes (now (a .0)))))
+rewrite-told result w κs qs a vss =
+    let O : Pr w = sem (w .𝓤) (w .H) (w .𝓖 .A) (ShrSlice (named 0) (κs .0) u8 .own (a .0) (vss .0)) in
+    let L : Pr w = w .𝓖 .A .lft (κs .0) (qs .0) in
+    let L′ : Pr w = toks (w .𝓤) (w .𝓖 .A) 1 (κs .1) (qs .1) in
+    let Q : Pr w = sem (w .𝓤) (w .H) (w .𝓖 .A) (owns (MutSlice (named 1) (κs .1 .0) u8 ∷ []) (a .1) (vss .1)) in
+    via (w .𝓤) (sep (w .𝓤) L O)
+    (mono∗ (w .𝓤) (fst∗ (w .𝓤) L L′) (fst∗ (w .𝓤) O Q))
+    (via (w .𝓤) (sep (w .𝓤) O L) (comm∗ (w .𝓤) L O) (slice-told w (named 0) (κs .0) (qs .0) (a .0) (vss .0)))
+
 -- the two tables of join: the first and the second of the arguments
 abbrev join-signature : Slot 3 → Signature
 join-signature result = record { lifetimes = 3; outlives = []; params = SliceRef 0 tt u8 tt ∷ SliceRef 1 tt u8 tt ∷ SliceRefMut 2 tt u8 tt ∷ []; result = result }

@@ -11,7 +11,7 @@ use mathlib.Core.List.{List, _++_, map}
 use mathlib.Core.Logic.{_↔_}
 use mathlib.Core.Option.{some}
 use lib.Ieee.{binary32, binary64, ofBits}
-use lib.ListN.{length, drop}
+use lib.ListN.{length, take, drop}
 use Rattle.rules.specs.Lists.{_>>=_}
 use Rattle.rules.specs.Bytes.{Bytes}
 use Rattle.rules.specs.Utf16.{isUtf16}
@@ -23,6 +23,7 @@ use Rattle.rules.specs.Names.{namesFor, nameExit}
 use Rattle.rules.specs.TypeInfo.{TypeInfoExit, typeInfoExit}
 use Rattle.rules.specs.CodeTable.{layout, wellFormed}
 use Rattle.rules.specs.Join.{joinExit, result}
+use Rattle.rules.specs.Rewrite.{rewriteExit}
 use Rattle.rules.specs.NamePart.{Part, namePart, partBytes}
 use Rattle.rules.specs.Room.{room2000, roomLater, roomFor, typeInfoRoom}
 use Rattle.rules.specs.Blob.{Exit, is2000, exit, exit2000, exitLater, spots}
@@ -42,6 +43,7 @@ use Rattle.claims.specs.LaterTree as later
 use Rattle.claims.specs.Counts.{Counts, InfoCounts}
 use Rattle.claims.specs.CutNames.{CutNames}
 use Rattle.claims.specs.Rooms as rooms
+use Rattle.claims.specs.Rewriting.{RewriteAnswer, SameRows, Rewrites}
 use Rattle.claims.specs.ScanNames.{ScanNamed}
 use Rattle.claims.specs.RowChecks.{Checks, SeenItems}
 use Rattle.claims.specs.Nesting.{Nested, Lists2000, ListsLater}
@@ -56,6 +58,7 @@ use Rattle.calls.specs.Functions.{
   NameOf,
   ValueName,
   Join,
+  Rewrite,
   ControlName,
   Interface,
   crates,
@@ -257,6 +260,39 @@ pub record JoinTables (f : Fn Join TextExit) : Type 2 where
   -- the contract allows a call of any words, so that what is said of two calls isn't idle
   pub allows : (a : Join) → (c : Call f) × (handed c ≡ a)
 
+-- ---- rewrite(stream, out): wish 13 (Rewriting)
+pub record RewriteStream (f : Fn Rewrite TextExit) : Type 2 where
+  pub met : Always (f .function) (f .function .says)
+  -- what is seen is what the definition says: the answer, and every byte of the buffer
+  pub is-exit : Every f (λ a seen. seen ≡ rewriteExit (a .stream) (a .out))
+  pub bytes : Every f (λ a seen. Bytes (a .stream))
+  -- "Refusals: 5, 4, then 9."; a refusal writes nothing
+  pub demand1 : Every f (λ a seen. Texts (RewriteAnswer (a .stream) (a .out)) (a .out) seen)
+  pub refused : Every f (λ a seen. length (a .stream) ≤ 16777216 → (seen .answer .number ≡ 4) ↔ (¬ Spelled (a .stream)))
+  -- "the rewritten stream is accepted; .. the same rows ..; never longer ..; rewriting it again changes nothing; and no accepted stream .. is shorter"
+  pub rewrites : Every f (λ a seen. (r : List ℕ) → result seen ≡ some r → Rewrites (a .stream) r)
+  -- bytes beyond stay
+  pub beyond : Every f (λ a seen. (r : List ℕ) → result seen ≡ some r → seen .out ≡ r ++ drop (length r) (a .out))
+  -- a buffer as long as the stream is enough
+  pub room-enough : Every f (λ a seen. length (a .stream) ≤ length (a .out) → ¬ (seen .answer .number ≡ 9))
+  -- "One spelling". Of any two calls that the contract allows
+  pub one-spelling : (c d : Call f) (t : Stream) → take 10 (handed c .stream) ≡ take 10 (handed d .stream) → drop 10 (handed c .stream) spells t → drop 10 (handed d .stream) spells t
+      → (r r′ : List ℕ) → result (seen c) ≡ some r → result (seen d) ≡ some r′ → r ≡ r′
+  pub one-result : OneResult (f .function)
+  pub allows : (a : Rewrite) → (c : Call f) × (handed c ≡ a)
+
+-- of two calls of a reader: a stream s, and its rewritten stream r, under one table that speaks for s and in the same room
+pub record Both (s r : List ℕ) (a b : Blob) : Type 0 where
+  pub of-s : a .stream ≡ s
+  pub of-r : b .stream ≡ r
+  pub same-table : a .table ≡ b .table
+  pub same-room : SameRoom (lent a) (lent b)
+  pub given : Given (a .table) s
+
+-- they show the same rows but for starts. (`rewrites` above gives `Rewrites` of what a call rewrote)
+abbrev pub RewrittenRead : Fn Blob Exit → Type 0
+RewrittenRead reader = (s r : List ℕ) → Rewrites s r → (c d : Call reader) → Both s r (handed c) (handed d) → SameRows s r (seen c) (seen d)
+
 -- ---- the functions that both the crates and the archive have. `Gives f d` says that every call of f gives what d says, and that the contract allows nothing else
 pub record Promised (i : Interface) : Type 2 where
   pub read-blob : ReadBlob (i .read-blob)
@@ -267,6 +303,9 @@ pub record Promised (i : Interface) : Type 2 where
   pub guid-text : GuidText (i .guid-text)
   pub label-text : LabelText (i .label-text)
   pub join : JoinTables (i .join)
+  pub rewrite : RewriteStream (i .rewrite)
+  pub rewritten-2000 : RewrittenRead (i .read-2000)
+  pub rewritten-blob : RewrittenRead (i .read-blob)
   pub well-formed : Gives (i .well-formed) (λ table. wellFormed table)
   pub room : Gives (i .room) (λ length. roomFor length)
   pub room-2000 : Gives (i .room-2000) (λ length. room2000 length)

@@ -39,6 +39,7 @@ use Rattle.blob.proofs.read_blob as read_blob
 use Rattle.blob.proofs.read_2000 as «read_2000»
 use Rattle.blob.proofs.read_later as read_later
 use Rattle.blob.proofs.control_name as control_name
+use Rattle.rewrite.proofs.rewrite as rewrite
 use Rattle.room.proofs.room_for as room_for
 use Rattle.room.proofs.room_2000 as «room_2000»
 use Rattle.room.proofs.room_later as room_later
@@ -49,6 +50,7 @@ use Rattle.oskuramos.proofs.oskuramos_read_later as oskuramos_read_later
 use Rattle.oskuramos.proofs.oskuramos_read_type_info as oskuramos_read_type_info
 use Rattle.oskuramos.proofs.oskuramos_well_formed as oskuramos_well_formed
 use Rattle.oskuramos.proofs.oskuramos_join as oskuramos_join
+use Rattle.oskuramos.proofs.oskuramos_rewrite as oskuramos_rewrite
 use Rattle.oskuramos.proofs.oskuramos_room as oskuramos_room
 use Rattle.oskuramos.proofs.oskuramos_room_2000 as «oskuramos_room_2000»
 use Rattle.oskuramos.proofs.oskuramos_room_later as oskuramos_room_later
@@ -126,6 +128,14 @@ pub record Join : Type 0 where
 
 abbrev tables : Slice × (Slice × (Slice × End)) → Join
 tables a = record { one = now (a .0); other = now (a .1 .0); out = now (a .1 .1 .0) }
+
+-- (stream, out)
+pub record Rewrite : Type 0 where
+  pub stream : List ℕ
+  pub out : List ℕ
+
+abbrev rewriting : Slice × (Slice × End) → Rewrite
+rewriting a = record { stream = now (a .0); out = now (a .1 .0) }
 
 -- (stream, label, mark, start, length)
 pub record ControlName : Type 0 where
@@ -224,6 +234,9 @@ value-name-exit r e = record { answer = r; out = value-name e .out }
 abbrev join-exit : Answer → Slice × (Slice × (Slice × End)) → TextExit
 join-exit r e = record { answer = r; out = tables e .out }
 
+abbrev rewrite-exit : Answer → Slice × (Slice × End) → TextExit
+rewrite-exit r e = record { answer = r; out = rewriting e .out }
+
 -- what C gets has the same fields, in structs laid out as C's: here they are read back
 abbrev pub takenAnswer : c-answer.Answer → Answer
 takenAnswer a = record { number = a .number; first = a .first; second = a .second; third = a .third }
@@ -248,6 +261,7 @@ pub record Interface : Type 2 where
   pub guid-text : Fn Guid TextExit
   pub label-text : Fn Label TextExit
   pub join : Fn Join TextExit
+  pub rewrite : Fn Rewrite TextExit
   pub is-utf16 : Fn (List ℕ) Bool
   pub text-name : Fn NameOf TextExit
   pub number-name : Fn NameOf TextExit
@@ -320,6 +334,11 @@ crates = record {
     function = record { ended = join.ended; routine = join.Symbol.routine; says = join.Reads.Learnt };
     handed = λ κs a. tables a;
     seen = λ κs r e. join-exit r e;
+  };
+  rewrite = record {
+    function = record { ended = rewrite.ended; routine = rewrite.Symbol.routine; says = rewrite.Reads.Learnt };
+    handed = λ κs a. rewriting a;
+    seen = λ κs r e. rewrite-exit r e;
   };
   is-utf16 = record {
     function = record { ended = is_utf16.ended; routine = is_utf16.Symbol.routine; says = is_utf16.Reads.Learnt };
@@ -430,6 +449,11 @@ exported = record {
     function = record { ended = oskuramos_join.ended; routine = oskuramos_join.Symbol.routine; says = oskuramos_join.Reads.Learnt };
     handed = λ κs a. tables a;
     seen = λ κs r e. join-exit (takenAnswer r) e;
+  };
+  rewrite = record {
+    function = record { ended = oskuramos_rewrite.ended; routine = oskuramos_rewrite.Symbol.routine; says = oskuramos_rewrite.Reads.Learnt };
+    handed = λ κs a. rewriting a;
+    seen = λ κs r e. rewrite-exit (takenAnswer r) e;
   };
   is-utf16 = record {
     function = record { ended = oskuramos_is_utf16.ended; routine = oskuramos_is_utf16.Symbol.routine; says = oskuramos_is_utf16.Reads.Learnt };
