@@ -47,7 +47,7 @@ enum {
     OSKURAMOS_MORE_CONTROLS = 6,    /* more control rows needed than lent (TypeInfo: more rows) */
     OSKURAMOS_MORE_PROPERTIES = 7,  /* more property rows needed than lent */
     OSKURAMOS_BAD_TABLE = 8,        /* the code table isn't well formed */
-    OSKURAMOS_NO_ROOM_FOR_TEXT = 9, /* the buffer for text, or for a joined code table, is too short */
+    OSKURAMOS_NO_ROOM_FOR_TEXT = 9, /* the buffer for text, a joined code table or a rewritten stream is too short */
     OSKURAMOS_NOT_A_GUID = 10,      /* the GUID value isn't 16 bytes */
     OSKURAMOS_OTHER_LAYOUT = 15,    /* a reader for one layout is given a stream that speaks for the other */
     OSKURAMOS_OTHER_HEAD = 16,      /* two code tables differ in layout byte or header codes */
@@ -164,6 +164,17 @@ bool oskuramos_well_formed(const uint8_t *table, size_t table_length);
    A buffer of both lengths together is enough, and one of OSKURAMOS_TABLE_LONGEST for any two. It may not be one of the tables. */
 oskuramos_answer oskuramos_join(const uint8_t *one, size_t one_length, const uint8_t *other, size_t other_length, uint8_t *out,
                                 size_t out_length);
+
+/* ---- one spelling for an archive */
+/* Writes an Access 2000 stream anew in its shortest spelling: each length up to 254 in one byte, and 0xFE for a list of one entry. All else is kept:
+   the first ten bytes (the first isn't judged, so no code table is needed), every entry, reported or not, types, ids and values. What is written is
+   read as the same rows but for the starts of values and names, and the bytes there are the same. It is never longer than the stream, nor than any
+   stream with the same first ten bytes, types, ids, values and lists; rewritten again it stays.
+   Answers 0 with the length written, or 5, 4, 9, tried in this order. Bytes after it keep their values. A buffer as long as the stream is enough. It
+   may not be the stream.
+   Streams that show the same rows need not be rewritten as the same: an entry of type 0x98 without a list (98 00 FD) and one with an empty list
+   (98 00 FF 00 00) show one row. The later layout leaves no such choice: its lengths and trailers are fixed in size. */
+oskuramos_answer oskuramos_rewrite(const uint8_t *stream, size_t stream_length, uint8_t *out, size_t out_length);
 
 /* ---- the name of a control
    By its mark a name is

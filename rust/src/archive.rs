@@ -54,6 +54,7 @@ extern "C" {
     fn oskuramos_join(
         one: *const u8, one_length: usize, other: *const u8, other_length: usize, out: *mut u8, out_length: usize,
     ) -> Answer;
+    fn oskuramos_rewrite(stream: *const u8, stream_length: usize, out: *mut u8, out_length: usize) -> Answer;
     fn oskuramos_room(length: usize) -> Rows;
     fn oskuramos_room_2000(length: usize) -> Rows;
     fn oskuramos_room_later(length: usize) -> Rows;
@@ -101,6 +102,10 @@ pub fn well_formed(table: &[u8]) -> bool {
 
 pub fn join(one: &[u8], other: &[u8], out: &mut [u8]) -> Answer {
     unsafe { oskuramos_join(one.as_ptr(), one.len(), other.as_ptr(), other.len(), out.as_mut_ptr(), out.len()) }
+}
+
+pub fn rewrite(stream: &[u8], out: &mut [u8]) -> Answer {
+    unsafe { oskuramos_rewrite(stream.as_ptr(), stream.len(), out.as_mut_ptr(), out.len()) }
 }
 
 pub fn room(length: usize) -> Rows {

@@ -80,3 +80,9 @@ pub fn label_text(n: u32, out: &mut [u8]) -> Result<usize, Refused> {
 pub fn join(one: &[u8], other: &[u8], out: &mut [u8]) -> Result<usize, Refused> {
     of_written(archive::join(one, other, out))
 }
+
+/// Writes an Access 2000 stream in its shortest spelling, and says how many bytes it has: no more than the stream. Bytes after it keep their values.
+/// [`rewrite`](crate::rewrite()) does the same with room of its own.
+pub fn rewrite(stream: &[u8], out: &mut [u8]) -> Result<usize, Refused> {
+    of_written(archive::rewrite(stream, out))
+}

@@ -47,7 +47,7 @@ pub enum Refused {
     MoreProperties(Counts),
     /// 8: the code table isn't well formed.
     BadTable,
-    /// 9: the buffer for text, or for a joined code table, is too short.
+    /// 9: the buffer for text, a joined code table or a rewritten stream is too short.
     NoRoomForText,
     /// 10: the GUID value isn't 16 bytes.
     NotAGuid,
@@ -113,8 +113,8 @@ impl Display for Refused {
             Refused::NoRoomForText => {
                 write!(
                     f,
-                    "what is written doesn't fit the buffer: lend {GUID_TEXT} bytes for a GUID, {LABEL_LONGEST} for a label, and for code tables \
-                     joined the bytes of both, or {TABLE_LONGEST}"
+                    "what is written doesn't fit the buffer: lend {GUID_TEXT} bytes for a GUID, {LABEL_LONGEST} for a label, for code tables \
+                     joined the bytes of both, or {TABLE_LONGEST}, and for a stream rewritten its own length"
                 )
             }
             Refused::NotAGuid => write!(f, "the value hasn't {GUID_BYTES} bytes: it isn't a GUID"),
@@ -159,7 +159,7 @@ pub(crate) fn of_type_info(a: archive::Answer) -> Result<usize, Refused> {
     }
 }
 
-/// The bytes that were written, of text or of a code table, or the refusal.
+/// The bytes that were written, of text, of a code table or of a stream, or the refusal.
 pub(crate) fn of_written(a: archive::Answer) -> Result<usize, Refused> {
     of_others(a.number, a.first as usize)
 }

@@ -334,6 +334,30 @@ static void joinings(void) {
     check(longest_joined(), "the longest table of its halves, 65,100 bytes, and of itself");
 }
 
+/* ---- a stream rewritten */
+/* The object has 0xDC of two bytes with 0xFF before the length; then a list of one, with 0xFF: an entry that isn't reported. */
+static const uint8_t spelled[] = {7, 1, 2, 3, 4, 5, 6, 7, 8, 9, 0xDC, 0xFF, 2, 0, 0x41, 0, 0xFF, 1, 0, 5, 0, 0xFD};
+static const uint8_t spelled_short[] = {7, 1, 2, 3, 4, 5, 6, 7, 8, 9, 0xDC, 2, 0x41, 0, 0xFE, 5, 0, 0xFD};
+
+static bool rewritten(const uint8_t *stream, size_t length, size_t room) {
+    bytes out;
+    oskuramos_answer a = oskuramos_rewrite(stream, length, lend_bytes(&out), room);
+    return is(a, 0, sizeof spelled_short, 0, 0) && memcmp(out.byte + GUARD, spelled_short, sizeof spelled_short) == 0 && bytes_kept(&out, sizeof spelled_short);
+}
+
+static bool rewrite_refused(const uint8_t *stream, size_t length, size_t room, uint32_t number) {
+    bytes out;
+    return is(oskuramos_rewrite(stream, length, lend_bytes(&out), room), number, 0, 0, 0) && bytes_kept(&out, 0);
+}
+
+static void rewriting(const uint8_t *large) {
+    check(rewritten(spelled, sizeof spelled, sizeof spelled_short), "a stream rewritten with room to the byte: each byte, and the guards");
+    check(rewritten(spelled_short, sizeof spelled_short, ROOM), "rewritten again it stays; bytes beyond stay");
+    check(rewrite_refused(spelled, sizeof spelled, sizeof spelled_short - 1, 9), "9 of rewrite for a byte too few");
+    check(rewrite_refused(spelled, sizeof spelled - 1, 0, 4), "4 of rewrite for a stream whose last byte is missing, before 9");
+    check(rewrite_refused(large, OSKURAMOS_LONGEST + 1, 0, 5), "5 of rewrite for 16,777,217 bytes, before 4");
+}
+
 /* ---- text */
 static bool guid_refused(size_t guid_length, size_t out_length, uint32_t number) {
     static const uint8_t guid[17] = {0};
@@ -459,6 +483,7 @@ static void nulls(void) {
     check(!oskuramos_well_formed(NULL, 0) && oskuramos_well_formed(table, sizeof table), "null for a code table");
     check(is(oskuramos_join(NULL, 0, NULL, 0, NULL, 0), 8, 0, 0, 0), "null for two tables, and no room");
     check(is(oskuramos_join(table, sizeof table, table, sizeof table, NULL, 0), 9, 0, 0, 0), "null for the joined table");
+    check(is(oskuramos_rewrite(NULL, 0, NULL, 0), 4, 0, 0, 0), "null for a stream that is rewritten, and no room");
     check(oskuramos_guid_text(NULL, 0, NULL, 0).number == 10, "null for a GUID and its text");
     check(oskuramos_label_text(0, NULL, 0).number == 9, "null for a label");
     check(oskuramos_is_utf16(NULL, 0), "null for no bytes at all, which are UTF-16");
@@ -477,6 +502,7 @@ int main(void) {
     type_info(large);
     rooms();
     joinings();
+    rewriting(large);
     texts();
     parts();
     version();
