@@ -29,5 +29,6 @@ pub mod Rewrite  -- wish 13 of document 02: an Access 2000 stream in one spellin
 pub mod Room  -- wish 14 of document 02: how much room is enough
 pub mod NamePart  -- "Rows": the name as a part of a slice
 pub mod Listing  -- "Names and listing": `formlist`
+pub mod Pairing  -- wish 2 of document 02: controls paired with TypeInfo
 pub mod Dump  -- bytes as a hex dump, for the examples
 pub mod Examples  -- "Proved examples"

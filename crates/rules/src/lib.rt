@@ -59,6 +59,8 @@ pub const NO_ROOM_FOR_TEXT: u32 = 9;
 
 pub const NOT_A_GUID: u32 = 10;
 
+pub const BAD_ROWS: u32 = 11;
+
 pub const OTHER_LAYOUT: u32 = 15;
 
 pub const OTHER_HEAD: u32 = 16;
