@@ -43,4 +43,14 @@ bool compare_timed(compare_read_blob_t *read_blob, compare_read_type_info_t *rea
 /* Joins every telling pair of code tables and so many random ones of a seed by the library; false where one differs. */
 bool compare_join(oskuramos_answer (*join)(const uint8_t *, size_t, const uint8_t *, size_t, uint8_t *, size_t), size_t count, uint64_t seed);
 
+/* The library's pairing. */
+typedef oskuramos_answer compare_pair_t(const uint8_t *, size_t, uint32_t *, size_t, uint32_t, const uint8_t *, size_t, const uint32_t *, size_t,
+                                        uint32_t);
+
+/* Pairs so many random pairs of streams of a seed, and as many slices of any words, by the library; false where one differs. */
+bool compare_pair(compare_pair_t *pair, size_t count, uint64_t seed);
+
+/* Times the library's pairing against jetdb's merge_controls. */
+void compare_pair_bench(compare_pair_t *pair);
+
 #endif

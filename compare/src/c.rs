@@ -2,7 +2,7 @@
 
 use crate::cases::Kind;
 use crate::form::{BlobProperty, ControlInfo, ControlProperties};
-use crate::{file::FileError, form, form2000, large, oracle, pairs, speed};
+use crate::{file::FileError, form, form2000, large, oracle, paired, pairs, speed};
 
 /// A stream, as C sees it.
 #[repr(C)]
@@ -101,4 +101,16 @@ pub extern "C" fn compare_timed(read_blob: large::ReadBlob, read_type_info: larg
 #[no_mangle]
 pub extern "C" fn compare_join(join: pairs::Join, count: usize, seed: u64) -> bool {
     pairs::compare(join, count, seed)
+}
+
+/// Pairs random controls with TypeInfo by the library's function; false where one differs.
+#[no_mangle]
+pub extern "C" fn compare_pair(pair: paired::Pair, count: usize, seed: u64) -> bool {
+    paired::compare(pair, count, seed)
+}
+
+/// Times the library's function against `merge_controls`.
+#[no_mangle]
+pub extern "C" fn compare_pair_bench(pair: paired::Pair) {
+    paired::bench(pair);
 }

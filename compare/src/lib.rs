@@ -12,6 +12,7 @@ mod large;
 mod listing;
 mod long;
 mod oracle;
+mod paired;
 mod pairs;
 mod plain;
 mod program;

@@ -57,6 +57,11 @@ pub(crate) fn stored_name(props: &[BlobProperty]) -> Option<String> {
     name_in_blob(props)
 }
 
+/// `merge_controls`: the type of each control of a Blob, by the controls of TypeInfo.
+pub(crate) fn merged_types(groups: Vec<BlobControl>, infos: &[ControlInfo]) -> Vec<u16> {
+    merge_controls(groups, infos).iter().map(|control| control.type_code).collect()
+}
+
 /// The four name tables: text, number, bytes, control types.
 pub(crate) fn name_tables() -> [&'static [(u16, &'static str)]; 4] {
     [TEXT_NAMES, NUMBER_NAMES, BYTES_NAMES, CONTROL_TYPE_NAMES]

@@ -5,6 +5,7 @@ pub mod access2000;
 pub mod codes;
 pub mod join;
 pub mod later;
+pub mod pairing;
 pub mod readers;
 pub mod room;
 pub mod typeinfo;
