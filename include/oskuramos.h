@@ -49,6 +49,7 @@ enum {
     OSKURAMOS_BAD_TABLE = 8,        /* the code table isn't well formed */
     OSKURAMOS_NO_ROOM_FOR_TEXT = 9, /* the buffer for text, a joined code table or a rewritten stream is too short */
     OSKURAMOS_NOT_A_GUID = 10,      /* the GUID value isn't 16 bytes */
+    OSKURAMOS_BAD_ROWS = 11,        /* rows to pair: more counted than lent, a name mark above 2, or a name outside its stream */
     OSKURAMOS_OTHER_LAYOUT = 15,    /* a reader for one layout is given a stream that speaks for the other */
     OSKURAMOS_OTHER_HEAD = 16,      /* two code tables differ in layout byte or header codes */
     OSKURAMOS_TWO_ROWS = 17,        /* two code tables have different rows for one scope and id */
@@ -133,6 +134,18 @@ oskuramos_answer oskuramos_read_later(uint32_t layout, const uint8_t *stream, si
 /* Reads TypeInfo into rows.
    Answers 0 with the number of rows, or 5, 1, 2, 3, 6, tried in this order. Words after the rows that are written keep their values. */
 oskuramos_answer oskuramos_read_type_info(const uint8_t *stream, size_t stream_length, uint32_t *rows, size_t rows_length);
+
+/* Sets the type of each control row counted to that of the first TypeInfo row counted with the same name; without one it stays, and all other words
+   stay too. So a scanned control, whose type is 0 in a later Blob, gets the type that TypeInfo knows. The counts are those of the calls that read the rows.
+   Names match when both are wholly ASCII and equal after folding A to Z: a UTF-16 name by its units, a loose one by its bytes, a numbered one by its label.
+   Names beyond ASCII pair with none. A TypeInfo row whose name was cut is skipped.
+   Answers 0 with counts 0, or 11, tried before anything is written: where a count is above the rows lent or, among the rows counted, a control's mark is
+   above 2 or a row but a numbered one names bytes outside its stream. Rows that were read from these streams are never answered 11.
+   To learn which controls found no row, set their types to OSKURAMOS_NO_TYPE before the call: these keep it. The time grows with the product of the counts. */
+#define OSKURAMOS_NO_TYPE UINT32_C(0xFFFFFFFF)
+oskuramos_answer oskuramos_pair(const uint8_t *stream, size_t stream_length, uint32_t *controls, size_t controls_length,
+                                uint32_t control_count, const uint8_t *info_stream, size_t info_stream_length, const uint32_t *infos,
+                                size_t infos_length, uint32_t info_count);
 
 /* ---- room by the length */
 /* How many rows to lend: rows, not words. A buffer has OSKURAMOS_CONTROL_WORDS or OSKURAMOS_PROPERTY_WORDS words for each of them. */

@@ -50,6 +50,10 @@ extern "C" {
         controls: *mut u32, controls_length: usize, properties: *mut u32, properties_length: usize,
     ) -> Answer;
     fn oskuramos_read_type_info(stream: *const u8, stream_length: usize, rows: *mut u32, rows_length: usize) -> Answer;
+    fn oskuramos_pair(
+        stream: *const u8, stream_length: usize, controls: *mut u32, controls_length: usize, control_count: u32,
+        info_stream: *const u8, info_stream_length: usize, infos: *const u32, infos_length: usize, info_count: u32,
+    ) -> Answer;
     fn oskuramos_well_formed(table: *const u8, table_length: usize) -> bool;
     fn oskuramos_join(
         one: *const u8, one_length: usize, other: *const u8, other_length: usize, out: *mut u8, out_length: usize,
@@ -94,6 +98,12 @@ pub fn read_later(layout: u32, stream: &[u8], controls: &mut [u32], properties: 
 
 pub fn read_type_info(stream: &[u8], rows: &mut [u32]) -> Answer {
     unsafe { oskuramos_read_type_info(stream.as_ptr(), stream.len(), rows.as_mut_ptr(), rows.len()) }
+}
+
+pub fn pair(stream: &[u8], controls: &mut [u32], control_count: u32, info_stream: &[u8], infos: &[u32], info_count: u32) -> Answer {
+    let (s, t) = ((stream.as_ptr(), stream.len()), (info_stream.as_ptr(), info_stream.len()));
+    let (c, i) = ((controls.as_mut_ptr(), controls.len()), (infos.as_ptr(), infos.len()));
+    unsafe { oskuramos_pair(s.0, s.1, c.0, c.1, control_count, t.0, t.1, i.0, i.1, info_count) }
 }
 
 pub fn well_formed(table: &[u8]) -> bool {

@@ -1,9 +1,9 @@
 //! A Blob with room of its own, its rows taken apart.
 
-use crate::format::{answer, name, LABEL_LONGEST, NO_PARENT, UNMAPPED};
-use crate::lent::{control_name, label_text, read_2000, read_blob, read_later, ControlRow, PropertyRow};
+use crate::format::{answer, name, LABEL_LONGEST, NO_PARENT, NO_TYPE, UNMAPPED};
+use crate::lent::{control_name, count, label_text, pair, read_2000, read_blob, read_later, ControlRow, PropertyRow};
 use crate::text::ascii;
-use crate::{archive, control_type_name, value_name, Counts, Loose, Name, Refused, Text, Value};
+use crate::{archive, control_type_name, value_name, Counts, Loose, Name, Refused, Text, TypeInfo, Value};
 use std::fmt::{self, Display, Formatter};
 
 /// Which of the two layouts a Blob has. Access 2000 is told by its first byte, which is the code table's.
@@ -137,6 +137,37 @@ impl<'a> Blob<'a> {
         std::iter::successors(above(n), move |&n| above(n)).map(|n| (n, &self.controls[n]))
     }
 
+    /// Sets the type of each control to that of the first entry of TypeInfo with the same name, and returns the numbers of the controls without one,
+    /// which keep theirs. In a later Blob that was scanned for names every type is 0 before.
+    ///
+    /// Names match when both are wholly ASCII and equal but for the case of A to Z; a numbered control has its label. Entries whose name was cut
+    /// are skipped. The time grows with the product of controls and entries.
+    ///
+    /// ```
+    /// use oskuramos::{Blob, TypeInfo, ACCESS_2000_CODES};
+    ///
+    /// let (stream, names) = (std::fs::read("examples/later-tree.blob")?, std::fs::read("examples/form.typeinfo")?);
+    /// let mut form = Blob::read(ACCESS_2000_CODES, &stream)?;
+    /// let unpaired = form.pair(&TypeInfo::read(&names)?)?;
+    /// assert_eq!(form.controls[2].type_code, 0x126D); // 0x6D in the Blob
+    /// assert_eq!(form.controls[unpaired[0]].name, "lblVolt");
+    /// # Ok::<(), Box<dyn std::error::Error>>(())
+    /// ```
+    pub fn pair(&mut self, info: &TypeInfo) -> Result<Vec<usize>, Refused> {
+        let (mut names, mut info_names) = (Vec::new(), Vec::new());
+        let mut controls = self.controls.iter().map(|control| control.name.row(&mut names)).collect::<Result<Vec<_>, _>>()?;
+        let infos = info.entries.iter().map(|entry| entry.row(&mut info_names)).collect::<Result<Vec<_>, _>>()?;
+        pair(&names, &mut controls, &info_names, &infos)?;
+        let mut unpaired = Vec::new();
+        for (n, (control, row)) in self.controls.iter_mut().zip(&controls).enumerate() {
+            match u16::try_from(row[0]) {
+                Ok(type_code) => control.type_code = type_code,
+                Err(_) => unpaired.push(n),
+            }
+        }
+        Ok(unpaired)
+    }
+
     /// All properties in the order of their rows: its own, then each control's.
     pub fn properties(&self) -> impl Iterator<Item = &Property<'a>> {
         self.own.iter().chain(self.controls.iter().flat_map(|control| &control.properties))
@@ -212,6 +243,19 @@ impl<'a> ControlName<'a> {
             name::LOOSE => Some(ControlName::Loose(Loose(bytes))),
             _ => None,
         }
+    }
+}
+
+impl ControlName<'_> {
+    /// A row of this name without a type; its bytes are put at the end of those of other names.
+    fn row(&self, names: &mut Vec<u8>) -> Result<ControlRow, Refused> {
+        let (mark, start, bytes) = match self {
+            ControlName::Text(text) => (name::UTF16, count(names.len())?, text.as_bytes()),
+            ControlName::Loose(loose) => (name::LOOSE, count(names.len())?, loose.0),
+            ControlName::Numbered(n) => (name::NUMBERED, *n, &[][..]),
+        };
+        names.extend_from_slice(bytes);
+        Ok([NO_TYPE, mark, start, count(bytes.len())?, 0, 0, 0, NO_PARENT])
     }
 }
 

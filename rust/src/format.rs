@@ -6,6 +6,8 @@ pub const STACK: usize = 98_304;
 pub const CONTROL_WORDS: usize = 8;
 /// The parent's word of a control at level 0.
 pub const NO_PARENT: u32 = 0xFFFF_FFFF;
+/// A type that no row of TypeInfo has: a control that keeps it found none.
+pub const NO_TYPE: u32 = 0xFFFF_FFFF;
 /// Words of a property's row.
 pub const PROPERTY_WORDS: usize = 6;
 /// Words of a row of TypeInfo.
@@ -40,6 +42,7 @@ pub mod answer {
     pub const BAD_TABLE: u32 = 8;
     pub const NO_ROOM_FOR_TEXT: u32 = 9;
     pub const NOT_A_GUID: u32 = 10;
+    pub const BAD_ROWS: u32 = 11;
     pub const OTHER_LAYOUT: u32 = 15;
     pub const OTHER_HEAD: u32 = 16;
     pub const TWO_ROWS: u32 = 17;

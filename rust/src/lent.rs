@@ -6,9 +6,9 @@
 use crate::archive;
 use crate::format::OF_STREAM;
 pub use crate::format::{
-    CONTROL_WORDS, GUID_TEXT, LABEL_LONGEST, LONGEST, NAME_ROOM, NO_PARENT, PROPERTY_WORDS, STACK, TABLE_LONGEST, TYPE_INFO_WORDS,
+    CONTROL_WORDS, GUID_TEXT, LABEL_LONGEST, LONGEST, NAME_ROOM, NO_PARENT, NO_TYPE, PROPERTY_WORDS, STACK, TABLE_LONGEST, TYPE_INFO_WORDS,
 };
-use crate::refused::{of_blob, of_type_info, of_written, Counts, Refused};
+use crate::refused::{of_blob, of_paired, of_type_info, of_written, Counts, Refused};
 
 /// Type code, name mark, name start, name length, first property row, property count, level, and the parent's row, [`NO_PARENT`] at level 0.
 pub type ControlRow = [u32; CONTROL_WORDS];
@@ -50,6 +50,18 @@ pub fn read_later(layout: u32, stream: &[u8], controls: &mut [ControlRow], prope
 /// Reads TypeInfo, and says how many rows it has. Rows after them keep their words.
 pub fn read_type_info(stream: &[u8], rows: &mut [TypeInfoRow]) -> Result<usize, Refused> {
     of_type_info(archive::read_type_info(stream, rows.as_flattened_mut()))
+}
+
+/// Sets the type of each control row to that of the first TypeInfo row with the same name; without one it stays, and so do all other words. The streams
+/// are those that the rows were read from. A control whose type is [`NO_TYPE`] beforehand keeps it where it finds no row.
+pub fn pair(stream: &[u8], controls: &mut [ControlRow], info_stream: &[u8], infos: &[TypeInfoRow]) -> Result<(), Refused> {
+    let (n, m) = (count(controls.len())?, count(infos.len())?);
+    of_paired(archive::pair(stream, controls.as_flattened_mut(), n, info_stream, infos.as_flattened(), m))
+}
+
+/// A number of rows or a place, which has 32 bits.
+pub(crate) fn count(number: usize) -> Result<u32, Refused> {
+    number.try_into().map_err(|_| Refused::BadRows)
 }
 
 /// How many rows are enough for TypeInfo of at most so many bytes. For a Blob it is a [`Room`](crate::Room).

@@ -51,6 +51,8 @@ pub enum Refused {
     NoRoomForText,
     /// 10: the GUID value isn't 16 bytes.
     NotAGuid,
+    /// 11: rows to pair are more than were lent, have a name mark above 2, or name bytes outside their stream.
+    BadRows,
     /// 15: the stream's first byte speaks for the other layout than the one that was asked for.
     OtherLayout,
     /// 16: two code tables differ in layout byte or header codes.
@@ -77,6 +79,7 @@ impl Refused {
             Refused::BadTable => answer::BAD_TABLE,
             Refused::NoRoomForText => answer::NO_ROOM_FOR_TEXT,
             Refused::NotAGuid => answer::NOT_A_GUID,
+            Refused::BadRows => answer::BAD_ROWS,
             Refused::OtherLayout => answer::OTHER_LAYOUT,
             Refused::OtherHead => answer::OTHER_HEAD,
             Refused::TwoRows => answer::TWO_ROWS,
@@ -118,6 +121,9 @@ impl Display for Refused {
                 )
             }
             Refused::NotAGuid => write!(f, "the value hasn't {GUID_BYTES} bytes: it isn't a GUID"),
+            Refused::BadRows => {
+                write!(f, "rows to pair don't fit their streams: give each stream with the rows that were read from it, and so many")
+            }
             Refused::OtherLayout => {
                 write!(
                     f,
@@ -159,6 +165,11 @@ pub(crate) fn of_type_info(a: archive::Answer) -> Result<usize, Refused> {
     }
 }
 
+/// Nothing, or why no row was paired.
+pub(crate) fn of_paired(a: archive::Answer) -> Result<(), Refused> {
+    of_others(a.number, ())
+}
+
 /// The bytes that were written, of text, of a code table or of a stream, or the refusal.
 pub(crate) fn of_written(a: archive::Answer) -> Result<usize, Refused> {
     of_others(a.number, a.first as usize)
@@ -175,6 +186,7 @@ fn of_others<T>(number: u32, read: T) -> Result<T, Refused> {
         answer::BAD_TABLE => Refused::BadTable,
         answer::NO_ROOM_FOR_TEXT => Refused::NoRoomForText,
         answer::NOT_A_GUID => Refused::NotAGuid,
+        answer::BAD_ROWS => Refused::BadRows,
         answer::OTHER_LAYOUT => Refused::OtherLayout,
         answer::OTHER_HEAD => Refused::OtherHead,
         answer::TWO_ROWS => Refused::TwoRows,

@@ -1,7 +1,7 @@
 //! TypeInfo with room of its own.
 
 use crate::format::answer;
-use crate::lent::{read_type_info, TypeInfoRow};
+use crate::lent::{count, read_type_info, TypeInfoRow};
 use crate::Refused;
 
 /// A TypeInfo stream that was read.
@@ -67,6 +67,13 @@ impl<'a> TypeInfoEntry<'a> {
         let [type_code, index, start, length, cut] = *row;
         let name = stream.get(start as usize..)?.get(..length as usize)?;
         Some(TypeInfoEntry { type_code: type_code.try_into().ok()?, index, name, start: start as usize, cut: cut != 0 })
+    }
+
+    /// A row of this entry; its name's bytes are put at the end of those of other names.
+    pub(crate) fn row(&self, names: &mut Vec<u8>) -> Result<TypeInfoRow, Refused> {
+        let (start, length) = (count(names.len())?, count(self.name.len())?);
+        names.extend_from_slice(self.name);
+        Ok([self.type_code.into(), self.index, start, length, self.cut.into()])
     }
 
     /// The name where it is wholly ASCII, which every code page has alike.

@@ -40,17 +40,52 @@ fn each_refusal_has_its_words_and_its_number() {
         Refused::BadTable,
         Refused::NoRoomForText,
         Refused::NotAGuid,
+        Refused::BadRows,
         Refused::OtherHead,
         Refused::TwoRows,
         Refused::TooManyScopes,
     ];
-    assert_eq!(all.map(Refused::number), [1, 2, 3, 4, 5, 6, 7, 8, 9, 10, 16, 17, 18]);
+    assert_eq!(all.map(Refused::number), [1, 2, 3, 4, 5, 6, 7, 8, 9, 10, 11, 16, 17, 18]);
     assert_eq!(Refused::MoreRows(2).number(), 6);
     let words = HashSet::from(all.map(|refused| refused.to_string()));
     assert_eq!(words.len(), all.len());
     assert!(words.iter().all(|text| text.contains(": ")), "each says what is wrong, and then what it means or what may be done");
     assert_eq!(Refused::MoreControls(counts).to_string(), "2 control rows are needed and fewer were lent: lend so many");
     assert_eq!(Refused::MoreRows(2).to_string(), "2 rows of TypeInfo are needed and fewer were lent: lend so many");
+}
+
+#[test]
+fn a_scanned_form_takes_its_types_from_type_info() {
+    let (stream, names) = (example("later-scan.blob"), example("form.typeinfo"));
+    let mut form = Blob::read(ACCESS_2000_CODES, &stream).unwrap();
+    let info = TypeInfo::read(&names).unwrap();
+    assert!(form.controls.iter().all(|control| control.type_code == 0));
+    assert_eq!(form.pair(&info), Ok(vec![1, 3, 4, 5, 6, 7]));
+    assert_eq!([0, 2].map(|n| form.controls[n].type_name().unwrap().to_string()), ["Detail", "TextBox"]);
+    let paired = form.clone();
+    assert_eq!(form.pair(&info), Ok(vec![1, 3, 4, 5, 6, 7]), "again");
+    assert_eq!(form, paired);
+}
+
+#[test]
+fn an_entry_that_was_cut_is_skipped() {
+    let (stream, names) = (example("later-scan.blob"), example("form.typeinfo"));
+    let mut form = Blob::read(ACCESS_2000_CODES, &stream).unwrap();
+    let mut info = TypeInfo::read(&names).unwrap();
+    info.entries[1].cut = true; // txtVolt
+    assert_eq!(form.pair(&info), Ok(vec![1, 2, 3, 4, 5, 6, 7]));
+    assert_eq!(form.controls[2].type_code, 0);
+}
+
+#[test]
+fn rows_that_fit_no_stream_are_refused() {
+    let mut row = [7, 2, 0, 4, 0, 0, 0, lent::NO_PARENT];
+    assert_eq!(lent::pair(b"odd", &mut [row], b"", &[]), Err(Refused::BadRows));
+    row[3] = 3;
+    assert_eq!(lent::pair(b"odd", &mut [row], b"ODD", &[[9, 0, 0, 4, 0]]), Err(Refused::BadRows));
+    let mut rows = [row];
+    assert_eq!(lent::pair(b"odd", &mut rows, b"ODD", &[[9, 0, 0, 3, 0]]), Ok(()));
+    assert_eq!(rows, [[9, 2, 0, 3, 0, 0, 0, lent::NO_PARENT]]);
 }
 
 #[test]

@@ -39,6 +39,7 @@ fn numbers_are_the_headers() {
     }
     // an enum of C holds no number of 32 bits with the highest set
     assert!(header.contains(&format!("#define OSKURAMOS_NO_PARENT UINT32_C(0x{:08X})", lent::NO_PARENT)));
+    assert!(header.contains(&format!("#define OSKURAMOS_NO_TYPE UINT32_C(0x{:08X})", lent::NO_TYPE)));
     let refusals = [
         ("TOO_SHORT", Refused::TooShort),
         ("OTHER_MAGIC", Refused::OtherMagic),
@@ -51,6 +52,7 @@ fn numbers_are_the_headers() {
         ("BAD_TABLE", Refused::BadTable),
         ("NO_ROOM_FOR_TEXT", Refused::NoRoomForText),
         ("NOT_A_GUID", Refused::NotAGuid),
+        ("BAD_ROWS", Refused::BadRows),
         ("OTHER_LAYOUT", Refused::OtherLayout),
         ("OTHER_HEAD", Refused::OtherHead),
         ("TWO_ROWS", Refused::TwoRows),

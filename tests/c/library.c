@@ -204,6 +204,54 @@ static void type_info(const uint8_t *large) {
     check(info_answers(s, 31, ROOM, 1, 0), "1 before 2");
 }
 
+/* ---- controls paired with TypeInfo: "Odd" as UTF-16 at 0, "odd" as bytes at 6; in TypeInfo's stream "ODD", "CONTROL_1" and "o" */
+static const uint8_t control_names[9] = {'O', 0, 'd', 0, 'd', 0, 'o', 'd', 'd'};
+static const uint8_t info_names[] = "ODDCONTROL_1o";
+static const uint32_t infos[20] = {0x6E, 0, 0, 3, 1, 0x6D, 1, 0, 3, 0, 0x6F, 2, 3, 9, 0, 0x70, 3, 0, 3, 0};
+
+/* Four rows of these marks, starts and lengths; all other words are numbers of their own. */
+static void rows_to_pair(uint32_t *row) {
+    static const uint32_t name[12] = {0, 0, 6, 1, 1, 99, 2, 6, 3, 0, 0, 5};
+    for (size_t i = 0; i < 4; i++) memcpy(row + i * OSKURAMOS_CONTROL_WORDS + OSKURAMOS_CONTROL_NAME_MARK, name + 3 * i, 12);
+}
+
+static oskuramos_answer paired(uint32_t *rows, size_t length, uint32_t count, uint32_t info_count) {
+    return oskuramos_pair(control_names, sizeof control_names, rows, length, count, info_names, sizeof info_names - 1, infos, 20, info_count);
+}
+
+/* The types that four rows get; every other word stays, the type of the fourth too. */
+static bool pairs_as(uint32_t count, const uint32_t types[4]) {
+    words r;
+    uint32_t before[WHOLE], *rows = lend_words(&r);
+    rows_to_pair(rows);
+    memcpy(before, r.word, sizeof before);
+    oskuramos_answer a = paired(rows, 4 * OSKURAMOS_CONTROL_WORDS + 3, count, 4);
+    for (size_t i = 0; i < count; i++) before[GUARD + i * OSKURAMOS_CONTROL_WORDS] = types[i] != 0 ? types[i] : before[GUARD + i * OSKURAMOS_CONTROL_WORDS];
+    return is(a, 0, 0, 0, 0) && memcmp(before, r.word, sizeof before) == 0;
+}
+
+static bool refused_11(uint32_t word, uint32_t value, size_t length, uint32_t count, uint32_t info_count) {
+    words r;
+    uint32_t before[WHOLE], *rows = lend_words(&r);
+    rows_to_pair(rows);
+    if (word < length) rows[word] = value;
+    memcpy(before, r.word, sizeof before);
+    oskuramos_answer a = paired(rows, length, count, info_count);
+    return is(a, 11, 0, 0, 0) && memcmp(before, r.word, sizeof before) == 0;
+}
+
+static void pairings(void) {
+    const uint32_t types[4] = {0x6D, 0x6F, 0x6D, 0}, none = UINT32_MAX;
+    check(pairs_as(4, types), "four rows paired: the first row of the name that isn't cut, a label, bytes, and none for an odd length");
+    check(pairs_as(2, types), "two of four rows counted: the others stay");
+    check(pairs_as(0, types), "no row counted: all stay");
+    check(refused_11(none, 0, 31, 4, 4), "11 for more control rows than lent");
+    check(refused_11(none, 0, 32, 4, 5), "11 for more TypeInfo rows than lent");
+    check(refused_11(OSKURAMOS_CONTROL_NAME_MARK, 3, 32, 4, 4), "11 for a mark of 3");
+    check(refused_11(OSKURAMOS_CONTROL_NAME_LENGTH, 10, 32, 4, 4), "11 for a name outside the stream, before any row is set");
+    check(refused_11(OSKURAMOS_CONTROL_NAME_START, UINT32_MAX, 32, 4, 4), "11 for a start whose sum with the length wraps in 32 bits");
+}
+
 /* ---- room by the length */
 static bool rows_are(oskuramos_rows r, uint32_t controls, uint32_t properties) { return r.controls == controls && r.properties == properties; }
 
@@ -480,6 +528,7 @@ static void nulls(void) {
     check(oskuramos_read_2000(NULL, 0, NULL, 0, NULL, 0, NULL, 0).number == 8, "null for all that read_2000 is lent");
     check(is(oskuramos_read_later(0, NULL, 0, NULL, 0, NULL, 0), 0, 0, 0, 0), "null for all that read_later is lent");
     check(oskuramos_read_type_info(NULL, 0, NULL, 0).number == 1, "null for all that read_type_info is lent");
+    check(is(oskuramos_pair(NULL, 0, NULL, 0, 0, NULL, 0, NULL, 0, 0), 0, 0, 0, 0), "null for all that pair is lent");
     check(!oskuramos_well_formed(NULL, 0) && oskuramos_well_formed(table, sizeof table), "null for a code table");
     check(is(oskuramos_join(NULL, 0, NULL, 0, NULL, 0), 8, 0, 0, 0), "null for two tables, and no room");
     check(is(oskuramos_join(table, sizeof table, table, sizeof table, NULL, 0), 9, 0, 0, 0), "null for the joined table");
@@ -500,6 +549,7 @@ int main(void) {
     blob_refusals(large);
     readers(large);
     type_info(large);
+    pairings();
     rooms();
     joinings();
     rewriting(large);

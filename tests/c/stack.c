@@ -46,6 +46,13 @@ static void read_later(void) { answer = oskuramos_read_later(table[0], stream, l
 
 static void read_type_info(void) { answer = oskuramos_read_type_info(stream, length, controls, ROWS); }
 
+/* A numbered control and one by its bytes, against every row of TypeInfo; they stand in `properties`. */
+static void pair(void) {
+    static const uint32_t rows[16] = {0, 1, UINT32_MAX, 0, 0, 0, 0, 0, 0, 2, 0, 4};
+    memcpy(properties, rows, sizeof rows);
+    answer = oskuramos_pair(stream, length, properties, 16, 2, stream, length, controls, ROWS, 200);
+}
+
 static void well_formed(void) { answer.number = !oskuramos_well_formed(table, table_length); }
 
 /* The longest table of its halves. */
@@ -210,6 +217,8 @@ int main(int argc, char **argv) {
     type_info();
     told(read_type_info, "read_type_info");
     expect(0, "TypeInfo");
+    told(pair, "pair");
+    expect(0, "rows paired");
     told(well_formed, "well_formed");
     expect(0, "the code table");
     half_table(half[0], 0), half_table(half[1], 32);

@@ -17,6 +17,7 @@ use Rattle.rules.specs.TypeInfo.{TypeInfoExit, typeInfoExit}
 use Rattle.rules.specs.Blob.{Exit, exit, exit2000, exitLater}
 use Rattle.rules.specs.Join.{joinExit, result}
 use Rattle.rules.specs.Rewrite.{rewriteExit}
+use Rattle.rules.specs.Pairing.{PairExit, pairExit}
 use Rattle.rules.specs.NamePart.{partBytes}
 use Rattle.blob.specs.Exit.{partPlace}
 use Rattle.oskuramos.specs.Handed.{handedAnswer}
@@ -24,6 +25,7 @@ use Rattle.claims.specs.Demand2.{Given, Spelled, Judges}
 use Rattle.claims.specs.Demand3.{Lent, SameRoom, SameBut, Same}
 use Rattle.claims.specs.Readers.{Agree}
 use Rattle.claims.specs.Rewriting.{SameRows, Rewrites}
+use Rattle.claims.specs.Pairing.{NeverRefused}
 use Rattle.calls.specs.Always.{Saying, Always, OneResult, Fn, Every, Gives, Call, handed, seen}
 use Rattle.codetable.proofs.well_formed.Met as well-formed-code
 use Rattle.join.proofs.join.Met as join-code
@@ -46,6 +48,7 @@ use Rattle.numbers.proofs.widen.Met as widen-code
 use Rattle.text.proofs.guid_text.Met as guid-text-code
 use Rattle.text.proofs.label_text.Met as label-text-code
 use Rattle.typeinfo.proofs.read_type_info.Met as read-type-info-code
+use Rattle.pairing.proofs.pair.Met as pair-code
 use Rattle.blob.proofs.read_blob.Met as read-blob-code
 use Rattle.blob.proofs.read_2000.Met as read-2000-code
 use Rattle.blob.proofs.read_later.Met as read-later-code
@@ -54,6 +57,7 @@ use Rattle.oskuramos.proofs.oskuramos_read_blob.Met as exported-read-blob-code
 use Rattle.oskuramos.proofs.oskuramos_read_2000.Met as exported-read-2000-code
 use Rattle.oskuramos.proofs.oskuramos_read_later.Met as exported-read-later-code
 use Rattle.oskuramos.proofs.oskuramos_read_type_info.Met as exported-read-type-info-code
+use Rattle.oskuramos.proofs.oskuramos_pair.Met as exported-pair-code
 use Rattle.oskuramos.proofs.oskuramos_well_formed.Met as exported-well-formed-code
 use Rattle.oskuramos.proofs.oskuramos_join.Met as exported-join-code
 use Rattle.oskuramos.proofs.oskuramos_rewrite.Met as exported-rewrite-code
@@ -74,6 +78,7 @@ use Rattle.oskuramos.proofs.oskuramos_entry_value.Met as exported-entry-value-c
 use Rattle.oskuramos.proofs.oskuramos_stored_value.Met as exported-stored-value-code
 use Rattle.oskuramos.proofs.«oskuramos_value_as».Met as exported-value-as-code
 use Rattle.typeinfo.proofs.read_type_info.Reads as read-type-info-clauses
+use Rattle.pairing.proofs.pair.Reads as pair-clauses
 use Rattle.text.proofs.guid_text.Reads as guid-text-clauses
 use Rattle.text.proofs.label_text.Reads as label-text-clauses
 use Rattle.names.proofs.text_name.Reads as text-name-clauses
@@ -94,6 +99,7 @@ use Rattle.oskuramos.proofs.oskuramos_read_blob.Reads as exported-read-blob-cla
 use Rattle.oskuramos.proofs.oskuramos_read_2000.Reads as exported-read-2000-clauses
 use Rattle.oskuramos.proofs.oskuramos_read_later.Reads as exported-read-later-clauses
 use Rattle.oskuramos.proofs.oskuramos_read_type_info.Reads as exported-read-type-info-clauses
+use Rattle.oskuramos.proofs.oskuramos_pair.Reads as exported-pair-clauses
 use Rattle.oskuramos.proofs.oskuramos_guid_text.Reads as exported-guid-text-clauses
 use Rattle.oskuramos.proofs.oskuramos_label_text.Reads as exported-label-text-clauses
 use Rattle.oskuramos.proofs.oskuramos_join.Reads as exported-join-clauses
@@ -112,6 +118,7 @@ use Rattle.calls.proofs.JoiningCalls.{join-of, plans-carried}
 use Rattle.claims.proofs.LaterTree.{later-tree}
 use Rattle.claims.proofs.Counts.{counts-hold}
 use Rattle.claims.proofs.CutNames.{wish6}
+use Rattle.claims.proofs.Pairing.{wish2}
 use Rattle.claims.proofs.RowChecks.{row-checks}
 use Rattle.claims.proofs.Nesting.{nesting}
 use Rattle.claims.proofs.Rooms.{rooms}
@@ -328,7 +335,22 @@ exported-allows-later : (a : Later) → (c : Call (f.exported .read-later)) × (
 exported-allows-later a = (record { κs = ([], ([], ([], tt))); args = later-args a; result = handedAnswer (exit-later a .answer); left = left-later a; allowed = (refl, (refl, refl)) }, refl)
 
 -- ---- the functions of two clauses
-read-type-infos : (f : Fn f.TypeInfo TypeInfoExit) → Proved f (λ a. typeInfoExit (a .stream) (a .rows)) → OneResult (f .function) → calls.ReadTypeInfo f
+abbrev info-of : f.TypeInfo → TypeInfoExit
+info-of a = typeInfoExit (a .stream) (a .rows)
+
+crates-read-type-info : Proved (f.crates .read-type-info) info-of
+crates-read-type-info = record {
+  met = told (f.crates .read-type-info .function) (λ w κs a r e. read-type-info-clauses.ensures κs a tt r e w) _ (λ w κs a r e. both-facts (w .𝓤) _ _) (λ w. read-type-info-code.met (w .𝓤) (w .H) (w .𝓜) (w .𝓖) (w .𝓡));
+  told = λ κs a r e q i. record { answer = q .0 i; rows = q .1 i };
+}
+
+exported-read-type-info : Proved (f.exported .read-type-info) info-of
+exported-read-type-info = record {
+  met = told (f.exported .read-type-info .function) (λ w κs a r e. exported-read-type-info-clauses.ensures κs a tt r e w) _ (λ w κs a r e. both-facts (w .𝓤) _ _) (λ w. exported-read-type-info-code.met (w .𝓤) (w .H) (w .𝓜) (w .𝓖) (w .𝓡));
+  told = λ κs a r e q i. record { answer = f.takenAnswer (q .0 i); rows = q .1 i };
+}
+
+read-type-infos : (f : Fn f.TypeInfo TypeInfoExit) → Proved f info-of → OneResult (f .function) → calls.ReadTypeInfo f
 read-type-infos f p one = record {
   is-exit = every f _ p _ (λ a. refl);
   demand1 = every f _ p _ (λ a. demand1 .type-infos (a .stream) (a .rows));
@@ -464,6 +486,59 @@ rewritten-reads g definition p same s r w c d b =
     let read′ : seen d ≡ definition (handed c .table) r (handed d .controls) (handed d .properties) = call-told g _ p d ∙ ap₂ (λ t x. definition t x (handed d .controls) (handed d .properties)) (sym (b .same-table)) (b .of-r) in
     subst (λ x. SameRows s r x (seen d)) (sym read) (subst (SameRows s r (definition (handed c .table) s (handed c .controls) (handed c .properties))) (sym read′)
     (same s r w (handed c .table) (b .given) (calls.lent (handed c)) (calls.lent (handed d)) (b .same-room)))
+-- ---- pair
+abbrev pair-of : f.Pair → PairExit
+pair-of a = pairExit (a .stream) (a .controls) (a .control-count) (a .info-stream) (a .infos) (a .info-count)
+
+pair-rows : (g : Fn f.Pair PairExit) → Proved g pair-of → OneResult (g .function) → ((a : f.Pair) → (c : Call g) × (handed c ≡ a)) → calls.PairRows g
+pair-rows g p one allows = record {
+  is-exit = every g pair-of p _ (λ a. refl);
+  pairs = every g pair-of p _ (λ a. wish2 .pairs (a .stream) (a .controls) (a .control-count) (a .info-stream) (a .infos) (a .info-count));
+  again = λ c d h.
+      let a = handed c in
+      call-told g pair-of p d
+      ∙ (λ i. pairExit (h .same-stream i) (h .left-rows i) (h .same-count i) (h .same-info-stream i) (h .same-infos i) (h .same-info-count i))
+      ∙ ap (λ x. pairExit (a .stream) (x .controls) (a .control-count) (a .info-stream) (a .infos) (a .info-count)) (call-told g pair-of p c)
+      ∙ wish2 .again (a .stream) (a .controls) (a .control-count) (a .info-stream) (a .infos) (a .info-count)
+      ∙ sym (call-told g pair-of p c);
+  one-result = one;
+  allows = allows;
+}
+
+module _ {A : Type 0} (blob : Fn A Exit) (exit-by : A → Exit) (stream-of : A → List ℕ) (info : Fn f.TypeInfo TypeInfoExit) (pair : Fn f.Pair PairExit)
+    (b : Proved blob exit-by) (i : Proved info info-of) (p : Proved pair pair-of)
+    (claimed : (a : A) (t rows : List ℕ) → NeverRefused (stream-of a) t (exit-by a) (typeInfoExit t rows)) where
+  never-refused : calls.NeverRefused blob stream-of info pair
+  never-refused c d e zero-c zero-d h =
+      let told-c = call-told blob exit-by b c in
+      let told-d = call-told info info-of i d in
+      ap (λ x. x .answer .number)
+      (call-told pair pair-of p e
+      ∙ (λ j. pairExit (h .its-stream j) (h .its-controls j) (h .its-count j) (h .its-info-stream j) (h .its-infos j) (h .its-info-count j))
+      ∙ (λ j. pairExit (stream-of (handed c)) (told-c j .controls) (told-c j .answer .first) (handed d .stream) (told-d j .rows) (told-d j .answer .first)))
+      ∙ claimed (handed c) (handed d .stream) (handed d .rows)
+      (sym (ap (λ x. x .answer .number) told-c) ∙ zero-c) (sym (ap (λ x. x .answer .number) told-d) ∙ zero-d)
+
+abbrev pair-args : f.Pair → RefT (List ℕ) × (RefT (List ℕ) × (ℕ × (RefT (List ℕ) × (RefT (List ℕ) × (ℕ × Unit {0})))))
+pair-args a = (somewhere (a .stream), (somewhere (a .controls), (a .control-count, (somewhere (a .info-stream), (somewhere (a .infos), (a .info-count, tt))))))
+
+crates-pair : Proved (f.crates .pair) pair-of
+crates-pair = record {
+  met = told (f.crates .pair .function) (λ w κs a r e. pair-clauses.ensures κs a tt r e w) _ (λ w κs a r e. both-facts (w .𝓤) _ _) (λ w. pair-code.met (w .𝓤) (w .H) (w .𝓜) (w .𝓖) (w .𝓡));
+  told = λ κs a r e q i. record { answer = q .0 i; controls = q .1 i };
+}
+
+exported-pair : Proved (f.exported .pair) pair-of
+exported-pair = record {
+  met = told (f.exported .pair .function) (λ w κs a r e. exported-pair-clauses.ensures κs a tt r e w) _ (λ w κs a r e. both-facts (w .𝓤) _ _) (λ w. exported-pair-code.met (w .𝓤) (w .H) (w .𝓜) (w .𝓖) (w .𝓡));
+  told = λ κs a r e q i. record { answer = f.takenAnswer (q .0 i); controls = q .1 i };
+}
+
+crates-pair-allows : (a : f.Pair) → (c : Call (f.crates .pair)) × (handed c ≡ a)
+crates-pair-allows a = (record { κs = ([], ([], ([], ([], tt)))); args = pair-args a; result = pair-of a .answer; left = (tt, (pair-of a .controls, (tt, (tt, (tt, (tt, tt)))))); allowed = (refl, refl) }, refl)
+
+exported-pair-allows : (a : f.Pair) → (c : Call (f.exported .pair)) × (handed c ≡ a)
+exported-pair-allows a = (record { κs = ([], ([], ([], ([], tt)))); args = pair-args a; result = handedAnswer (pair-of a .answer); left = (tt, (pair-of a .controls, (tt, (tt, (tt, (tt, tt)))))); allowed = (refl, refl) }, refl)
 
 -- ---- as the crates have them
 of-crates : calls.Promised f.crates
@@ -472,10 +547,14 @@ of-crates = record {
   read-2000 = reads-2000 (f.crates .read-2000) crates-read-2000 crates-one-2000 (stream-told (f.crates .read-2000 .function .ended .signature .result)) crates-allows-2000;
   read-later = reads-later (f.crates .read-later) crates-read-later crates-one-later (later-told (f.crates .read-later .function .ended .signature .result)) crates-allows-later;
   readers-agree = agree-calls (f.crates .read-blob) (f.crates .read-2000) (f.crates .read-later) crates-read-blob crates-read-2000 crates-read-later;
-  read-type-info = read-type-infos (f.crates .read-type-info) (record {
-    met = told (f.crates .read-type-info .function) (λ w κs a r e. read-type-info-clauses.ensures κs a tt r e w) _ (λ w κs a r e. both-facts (w .𝓤) _ _) (λ w. read-type-info-code.met (w .𝓤) (w .H) (w .𝓜) (w .𝓖) (w .𝓡));
-    told = λ κs a r e q i. record { answer = q .0 i; rows = q .1 i };
-  }) (λ κs a r r′ x y p q. (p .0 ∙ sym (q .0), λ i. (tt, ((p .1 ∙ sym (q .1)) i, tt))));
+  read-type-info = read-type-infos (f.crates .read-type-info) crates-read-type-info (λ κs a r r′ x y p q. (p .0 ∙ sym (q .0), λ i. (tt, ((p .1 ∙ sym (q .1)) i, tt))));
+  pair = pair-rows (f.crates .pair) crates-pair (λ κs a r r′ x y p q. (p .0 ∙ sym (q .0), λ i. (tt, ((p .1 ∙ sym (q .1)) i, (tt, (tt, (tt, (tt, tt)))))))) crates-pair-allows;
+  never-refused = never-refused (f.crates .read-blob) exit-of (λ a. a .stream) (f.crates .read-type-info) (f.crates .pair) crates-read-blob crates-read-type-info crates-pair
+      (λ a. wish2 .as-read (a .table) (a .stream) (a .controls) (a .properties));
+  never-refused-later = never-refused (f.crates .read-later) exit-later (λ a. a .stream) (f.crates .read-type-info) (f.crates .pair) crates-read-later crates-read-type-info crates-pair
+      (λ a. wish2 .as-read-later (a .layout) (a .stream) (a .controls) (a .properties));
+  never-refused-2000 = never-refused (f.crates .read-2000) exit-2000 (λ a. a .stream) (f.crates .read-type-info) (f.crates .pair) crates-read-2000 crates-read-type-info crates-pair
+      (λ a. wish2 .as-read-2000 (a .table) (a .stream) (a .controls) (a .properties));
   guid-text = guid-texts (f.crates .guid-text) (record {
     met = told (f.crates .guid-text .function) (λ w κs a r e. guid-text-clauses.ensures κs a tt r e w) _ (λ w κs a r e. both-facts (w .𝓤) _ _) (λ w. guid-text-code.met (w .𝓤) (w .H) (w .𝓜) (w .𝓖) (w .𝓡));
     told = λ κs a r e q i. record { answer = q .0 i; out = q .1 i };
@@ -532,10 +611,14 @@ of-exported = record {
   read-2000 = reads-2000 (f.exported .read-2000) exported-read-2000 exported-one-2000 (stream-told (f.exported .read-2000 .function .ended .signature .result)) exported-allows-2000;
   read-later = reads-later (f.exported .read-later) exported-read-later exported-one-later (later-told (f.exported .read-later .function .ended .signature .result)) exported-allows-later;
   readers-agree = agree-calls (f.exported .read-blob) (f.exported .read-2000) (f.exported .read-later) exported-read-blob exported-read-2000 exported-read-later;
-  read-type-info = read-type-infos (f.exported .read-type-info) (record {
-    met = told (f.exported .read-type-info .function) (λ w κs a r e. exported-read-type-info-clauses.ensures κs a tt r e w) _ (λ w κs a r e. both-facts (w .𝓤) _ _) (λ w. exported-read-type-info-code.met (w .𝓤) (w .H) (w .𝓜) (w .𝓖) (w .𝓡));
-    told = λ κs a r e q i. record { answer = f.takenAnswer (q .0 i); rows = q .1 i };
-  }) (λ κs a r r′ x y p q. (p .0 ∙ sym (q .0), λ i. (tt, ((p .1 ∙ sym (q .1)) i, tt))));
+  read-type-info = read-type-infos (f.exported .read-type-info) exported-read-type-info (λ κs a r r′ x y p q. (p .0 ∙ sym (q .0), λ i. (tt, ((p .1 ∙ sym (q .1)) i, tt))));
+  pair = pair-rows (f.exported .pair) exported-pair (λ κs a r r′ x y p q. (p .0 ∙ sym (q .0), λ i. (tt, ((p .1 ∙ sym (q .1)) i, (tt, (tt, (tt, (tt, tt)))))))) exported-pair-allows;
+  never-refused = never-refused (f.exported .read-blob) exit-of (λ a. a .stream) (f.exported .read-type-info) (f.exported .pair) exported-read-blob exported-read-type-info exported-pair
+      (λ a. wish2 .as-read (a .table) (a .stream) (a .controls) (a .properties));
+  never-refused-later = never-refused (f.exported .read-later) exit-later (λ a. a .stream) (f.exported .read-type-info) (f.exported .pair) exported-read-later exported-read-type-info exported-pair
+      (λ a. wish2 .as-read-later (a .layout) (a .stream) (a .controls) (a .properties));
+  never-refused-2000 = never-refused (f.exported .read-2000) exit-2000 (λ a. a .stream) (f.exported .read-type-info) (f.exported .pair) exported-read-2000 exported-read-type-info exported-pair
+      (λ a. wish2 .as-read-2000 (a .table) (a .stream) (a .controls) (a .properties));
   guid-text = guid-texts (f.exported .guid-text) (record {
     met = told (f.exported .guid-text .function) (λ w κs a r e. exported-guid-text-clauses.ensures κs a tt r e w) _ (λ w κs a r e. both-facts (w .𝓤) _ _) (λ w. exported-guid-text-code.met (w .𝓤) (w .H) (w .𝓜) (w .𝓖) (w .𝓡));
     told = λ κs a r e q i. record { answer = f.takenAnswer (q .0 i); out = q .1 i };

@@ -25,6 +25,7 @@ use Rattle.rules.specs.CodeTable.{layout, wellFormed}
 use Rattle.rules.specs.Join.{joinExit, result}
 use Rattle.rules.specs.Rewrite.{rewriteExit}
 use Rattle.rules.specs.NamePart.{Part, namePart, partBytes}
+use Rattle.rules.specs.Pairing.{PairExit, pairExit}
 use Rattle.rules.specs.Room.{room2000, roomLater, roomFor, typeInfoRoom}
 use Rattle.rules.specs.Blob.{Exit, is2000, exit, exit2000, exitLater, spots}
 use Rattle.numbers.specs.Int.{intOf}
@@ -42,6 +43,7 @@ use Rattle.claims.specs.Stored.{storedOf, spotSays}
 use Rattle.claims.specs.LaterTree as later
 use Rattle.claims.specs.Counts.{Counts, InfoCounts}
 use Rattle.claims.specs.CutNames.{CutNames}
+use Rattle.claims.specs.Pairing.{Pairs}
 use Rattle.claims.specs.Rooms as rooms
 use Rattle.claims.specs.Rewriting.{RewriteAnswer, SameRows, Rewrites}
 use Rattle.claims.specs.ScanNames.{ScanNamed}
@@ -53,6 +55,7 @@ use Rattle.calls.specs.Functions.{
   Blob,
   Later,
   TypeInfo,
+  Pair,
   Guid,
   Label,
   NameOf,
@@ -196,6 +199,42 @@ pub record ReadTypeInfo (f : Fn TypeInfo TypeInfoExit) : Type 2 where
   pub room-enough : Every f (λ a seen. rooms.EnoughInfos (a .stream) (a .rows) seen)
   pub one-result : OneResult (f .function)
 
+-- ---- pair(stream, controls, control_count, info_stream, infos, info_count): wish 2 (Pairing)
+-- of two calls: the second pairs the rows that the first left
+pub record Anew (before after : Pair) (left : PairExit) : Type 0 where
+  pub same-stream : after .stream ≡ before .stream
+  pub left-rows : after .controls ≡ left .controls
+  pub same-count : after .control-count ≡ before .control-count
+  pub same-info-stream : after .info-stream ≡ before .info-stream
+  pub same-infos : after .infos ≡ before .infos
+  pub same-info-count : after .info-count ≡ before .info-count
+
+pub record PairRows (f : Fn Pair PairExit) : Type 2 where
+  -- what is seen is what the definition says: the answer, and every word of the control rows
+  pub is-exit : Every f (λ a seen. seen ≡ pairExit (a .stream) (a .controls) (a .control-count) (a .info-stream) (a .infos) (a .info-count))
+  -- 11 exactly when the wish says, and then nothing is written; else the types of the rows counted, and all other words stay
+  pub pairs : Every f (λ a seen. Pairs (a .stream) (a .controls) (a .control-count) (a .info-stream) (a .infos) (a .info-count) seen)
+  -- to pair again changes nothing more. Of any two calls that the contract allows
+  pub again : (c d : Call f) → Anew (handed c) (handed d) (seen c) → seen d ≡ seen c
+  pub one-result : OneResult (f .function)
+  -- the contract allows a call of any words, so that what is said of two calls isn't idle
+  pub allows : (a : Pair) → (c : Call f) × (handed c ≡ a)
+
+-- of three calls: the rows paired are those that a Blob's reader and TypeInfo's gave for these streams, with their counts
+pub record RowsOf (stream : List ℕ) (blob : Exit) (info-stream : List ℕ) (info : TypeInfoExit) (a : Pair) : Type 0 where
+  pub its-stream : a .stream ≡ stream
+  pub its-controls : a .controls ≡ blob .controls
+  pub its-count : a .control-count ≡ blob .answer .first
+  pub its-info-stream : a .info-stream ≡ info-stream
+  pub its-infos : a .infos ≡ info .rows
+  pub its-info-count : a .info-count ≡ info .answer .first
+
+-- where both read, such a call is never refused
+abbrev pub NeverRefused : {A : Type 0} → Fn A Exit → (A → List ℕ) → Fn TypeInfo TypeInfoExit → Fn Pair PairExit → Type 0
+NeverRefused reader stream-of read-info pair =
+    (c : Call reader) (d : Call read-info) (e : Call pair) → seen c .answer .number ≡ 0 → seen d .answer .number ≡ 0
+    → RowsOf (stream-of (handed c)) (seen c) (handed d .stream) (seen d) (handed e) → seen e .answer .number ≡ 0
+
 -- ---- guid_text(guid, out): `guidExit` says which bytes are written, and that those behind them stay
 pub record GuidText (f : Fn Guid TextExit) : Type 2 where
   pub is-exit : Every f (λ a seen. seen ≡ guidExit (a .guid) (a .out))
@@ -300,6 +339,10 @@ pub record Promised (i : Interface) : Type 2 where
   pub read-later : ReadLater (i .read-later)
   pub readers-agree : ReadersAgree (i .read-blob) (i .read-2000) (i .read-later)
   pub read-type-info : ReadTypeInfo (i .read-type-info)
+  pub pair : PairRows (i .pair)
+  pub never-refused : NeverRefused (i .read-blob) (λ a. a .stream) (i .read-type-info) (i .pair)
+  pub never-refused-later : NeverRefused (i .read-later) (λ a. a .stream) (i .read-type-info) (i .pair)
+  pub never-refused-2000 : NeverRefused (i .read-2000) (λ a. a .stream) (i .read-type-info) (i .pair)
   pub guid-text : GuidText (i .guid-text)
   pub label-text : LabelText (i .label-text)
   pub join : JoinTables (i .join)

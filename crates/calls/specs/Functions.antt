@@ -12,6 +12,7 @@ use Rattle.rules.specs.declared.Room.{Room}
 use Rattle.rules.specs.Texts.{TextExit}
 use Rattle.rules.specs.TypeInfo.{TypeInfoExit}
 use Rattle.rules.specs.Blob.{Exit}
+use Rattle.rules.specs.Pairing.{PairExit}
 use Rattle.numbers.specs.declared.Int.{Int}
 use Rattle.numbers.specs.declared.Wide.{Wide}
 use Rattle.blob.specs.Exit.{Place}
@@ -35,6 +36,7 @@ use Rattle.text.proofs.label_text as label_text
 use Rattle.codetable.proofs.well_formed as well_formed
 use Rattle.join.proofs.join as join
 use Rattle.typeinfo.proofs.read_type_info as read_type_info
+use Rattle.pairing.proofs.pair as pair
 use Rattle.blob.proofs.read_blob as read_blob
 use Rattle.blob.proofs.read_2000 as «read_2000»
 use Rattle.blob.proofs.read_later as read_later
@@ -48,6 +50,7 @@ use Rattle.oskuramos.proofs.oskuramos_read_blob as oskuramos_read_blob
 use Rattle.oskuramos.proofs.oskuramos_read_2000 as «oskuramos_read_2000»
 use Rattle.oskuramos.proofs.oskuramos_read_later as oskuramos_read_later
 use Rattle.oskuramos.proofs.oskuramos_read_type_info as oskuramos_read_type_info
+use Rattle.oskuramos.proofs.oskuramos_pair as oskuramos_pair
 use Rattle.oskuramos.proofs.oskuramos_well_formed as oskuramos_well_formed
 use Rattle.oskuramos.proofs.oskuramos_join as oskuramos_join
 use Rattle.oskuramos.proofs.oskuramos_rewrite as oskuramos_rewrite
@@ -103,6 +106,25 @@ pub record TypeInfo : Type 0 where
 
 abbrev type-info : Slice × (Slice × End) → TypeInfo
 type-info a = record { stream = now (a .0); rows = now (a .1 .0) }
+
+-- (stream, controls, control_count, info_stream, infos, info_count)
+pub record Pair : Type 0 where
+  pub stream : List ℕ
+  pub controls : List ℕ
+  pub control-count : ℕ
+  pub info-stream : List ℕ
+  pub infos : List ℕ
+  pub info-count : ℕ
+
+abbrev rows-to-pair : Slice × (Slice × (ℕ × (Slice × (Slice × (ℕ × End))))) → Pair
+rows-to-pair a = record {
+  stream = now (a .0);
+  controls = now (a .1 .0);
+  control-count = a .1 .1 .0;
+  info-stream = now (a .1 .1 .1 .0);
+  infos = now (a .1 .1 .1 .1 .0);
+  info-count = a .1 .1 .1 .1 .1 .0;
+}
 
 -- (guid, out)
 pub record Guid : Type 0 where
@@ -219,6 +241,9 @@ later-exit r e = record { answer = r; controls = later e .controls; properties =
 abbrev type-info-exit : Answer → Slice × (Slice × End) → TypeInfoExit
 type-info-exit r e = record { answer = r; rows = type-info e .rows }
 
+abbrev pair-exit : Answer → Slice × (Slice × (ℕ × (Slice × (Slice × (ℕ × End))))) → PairExit
+pair-exit r e = record { answer = r; controls = rows-to-pair e .controls }
+
 abbrev guid-exit : Answer → Slice × (Slice × End) → TextExit
 guid-exit r e = record { answer = r; out = guid e .out }
 
@@ -253,6 +278,7 @@ pub record Interface : Type 2 where
   pub read-2000 : Fn Blob Exit
   pub read-later : Fn Later Exit
   pub read-type-info : Fn TypeInfo TypeInfoExit
+  pub pair : Fn Pair PairExit
   pub well-formed : Fn (List ℕ) Bool
   pub room : Fn ℕ Room
   pub room-2000 : Fn ℕ Room
@@ -294,6 +320,11 @@ crates = record {
     function = record { ended = read_type_info.ended; routine = read_type_info.Symbol.routine; says = read_type_info.Reads.Learnt };
     handed = λ κs a. type-info a;
     seen = λ κs r e. type-info-exit r e;
+  };
+  pair = record {
+    function = record { ended = pair.ended; routine = pair.Symbol.routine; says = pair.Reads.Learnt };
+    handed = λ κs a. rows-to-pair a;
+    seen = λ κs r e. pair-exit r e;
   };
   well-formed = record {
     function = record { ended = well_formed.ended; routine = well_formed.Symbol.routine; says = well_formed.Reads.Learnt };
@@ -409,6 +440,11 @@ exported = record {
     function = record { ended = oskuramos_read_type_info.ended; routine = oskuramos_read_type_info.Symbol.routine; says = oskuramos_read_type_info.Reads.Learnt };
     handed = λ κs a. type-info a;
     seen = λ κs r e. type-info-exit (takenAnswer r) e;
+  };
+  pair = record {
+    function = record { ended = oskuramos_pair.ended; routine = oskuramos_pair.Symbol.routine; says = oskuramos_pair.Reads.Learnt };
+    handed = λ κs a. rows-to-pair a;
+    seen = λ κs r e. pair-exit (takenAnswer r) e;
   };
   well-formed = record {
     function = record { ended = oskuramos_well_formed.ended; routine = oskuramos_well_formed.Symbol.routine; says = oskuramos_well_formed.Reads.Learnt };

@@ -7,6 +7,7 @@ ghost use Rattle.rules.specs.NamePart.{namePart};
 ghost use Rattle.rules.specs.NameTables.{textNames, numberNames, bytesNames, controlTypeNames};
 ghost use Rattle.rules.specs.Names.{namesFor, nameExit};
 ghost use Rattle.rules.specs.Rewrite.{rewriteExit};
+ghost use Rattle.rules.specs.Pairing.{pairExit};
 ghost use Rattle.rules.specs.Room.{room2000, roomLater, roomFor, typeInfoRoom};
 ghost use Rattle.rules.specs.Texts.{guidExit, labelExit};
 ghost use Rattle.rules.specs.TypeInfo.{typeInfoExit};
@@ -129,6 +130,30 @@ pub extern "C" fn oskuramos_read_type_info(stream: &[u8], rows: &mut [u32]) -> A
     handed_answer(typeinfo::read_type_info(stream, rows))
 }
 
+// ---- controls paired with TypeInfo
+#[no_mangle]
+pub extern "C" fn oskuramos_pair(
+    stream: &[u8],
+    controls: &mut [u32],
+    control_count: u32,
+    info_stream: &[u8],
+    infos: &[u32],
+    info_count: u32,
+) -> Answer
+    ensures { λ r. ⌜ r ≡ handedAnswer (pairExit (now (stream .entry)) (now (controls .entry)) «control_count» (now («info_stream» .entry)) (now (infos .entry)) «info_count» .answer) ⌝ }
+    ensures { λ _. ⌜ now (controls .exit) ≡ pairExit (now (stream .entry)) (now (controls .entry)) «control_count» (now («info_stream» .entry)) (now (infos .entry)) «info_count» .controls ⌝ }
+{
+    handed_answer(pairing::pair(
+        stream,
+        controls,
+        control_count,
+        info_stream,
+        infos,
+        info_count,
+    ))
+}
+
+// ---- code tables
 #[no_mangle]
 pub extern "C" fn oskuramos_well_formed(table: &[u8]) -> bool
     ensures { λ r. ⌜ r ≡ wellFormed (now (table .entry)) ⌝ }
