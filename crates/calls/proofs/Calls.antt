@@ -121,6 +121,7 @@ use Rattle.claims.proofs.CutNames.{wish6}
 use Rattle.claims.proofs.Pairing.{wish2}
 use Rattle.claims.proofs.RowChecks.{row-checks}
 use Rattle.claims.proofs.Nesting.{nesting}
+use Rattle.claims.proofs.Characters.{wish5}
 use Rattle.claims.proofs.Rooms.{rooms}
 use Rattle.claims.proofs.Rewriting.{wish13}
 use Rattle.claims.proofs.ScanNames.{wish10}
@@ -186,6 +187,7 @@ module _ (f : Fn Blob Exit) (p : Proved f exit-of) (one : OneResult (f .function
     nested = every f exit-of p _ (λ a. nesting .nested (a .table) (a .stream) (a .controls) (a .properties));
     lists-2000 = every f exit-of p _ (λ a. nesting .lists-2000 (a .table) (a .stream) (a .controls) (a .properties));
     lists-later = every-bytes f exit-of p (λ (a : Blob). a .stream) tells _ (λ a small. nesting .lists-later (a .table) (a .stream) (a .controls) (a .properties) small);
+    formed = every f exit-of p _ (λ a. wish5 .formed (a .table) (a .stream) (a .controls) (a .properties));
     bounds = every f exit-of p _ (λ a. rooms .bounds (a .table) (a .stream) (a .controls) (a .properties));
     room-enough = every f exit-of p _ (λ a. rooms .enough (a .table) (a .stream) (a .controls) (a .properties));
     one-result = one;
@@ -486,6 +488,7 @@ rewritten-reads g definition p same s r w c d b =
     let read′ : seen d ≡ definition (handed c .table) r (handed d .controls) (handed d .properties) = call-told g _ p d ∙ ap₂ (λ t x. definition t x (handed d .controls) (handed d .properties)) (sym (b .same-table)) (b .of-r) in
     subst (λ x. SameRows s r x (seen d)) (sym read) (subst (SameRows s r (definition (handed c .table) s (handed c .controls) (handed c .properties))) (sym read′)
     (same s r w (handed c .table) (b .given) (calls.lent (handed c)) (calls.lent (handed d)) (b .same-room)))
+
 -- ---- pair
 abbrev pair-of : f.Pair → PairExit
 pair-of a = pairExit (a .stream) (a .controls) (a .control-count) (a .info-stream) (a .infos) (a .info-count)

@@ -49,6 +49,7 @@ use Rattle.claims.specs.Rewriting.{RewriteAnswer, SameRows, Rewrites}
 use Rattle.claims.specs.ScanNames.{ScanNamed}
 use Rattle.claims.specs.RowChecks.{Checks, SeenItems}
 use Rattle.claims.specs.Nesting.{Nested, Lists2000, ListsLater}
+use Rattle.claims.specs.Characters.{Formed}
 use Rattle.calls.specs.Always.{Always, OneResult, Fn, Every, Gives, Call, handed, seen}
 use Rattle.calls.specs.JoiningCalls.{PlansCarried}
 use Rattle.calls.specs.Functions.{
@@ -131,6 +132,8 @@ pub record ReadBlob (f : Fn Blob Exit) : Type 2 where
   pub nested : Every f (λ a seen. seen .answer .number ≡ 0 → Nested seen)
   pub lists-2000 : Every f (λ a seen. is2000 (a .table) (a .stream) ≡ true → seen .answer .number ≡ 0 → Lists2000 (a .stream) seen)
   pub lists-later : Every f (λ a seen. is2000 (a .table) (a .stream) ≡ false → seen .answer .number ≡ 0 → ListsLater (a .stream) seen)
+  -- wish 5 (Characters): the names and texts whose characters a listing counts are well-formed UTF-16
+  pub formed : Every f (λ a seen. seen .answer .number ≡ 0 → Formed (a .stream) seen)
   -- wish 14 (Rooms): "For every stream with answer 0, C controls and P property rows .."
   pub bounds : Every f (λ a seen. rooms.Bounds (a .table) (a .stream) (a .controls) (a .properties) seen)
   -- "So room computed from the length alone never brings 6 or 7."

@@ -19,9 +19,8 @@ use Rattle.rules.specs.CodeTable.{wellFormed}
 use Rattle.rules.specs.Tree.{Entries}
 use Rattle.rules.specs.Access2000.{Prop, streamOf}
 use Rattle.rules.specs.Reading.{Reading, properties}
-use Rattle.rules.specs.Read2000.{read2000}
 use Rattle.rules.specs.ReadLater.{readLater}
-use Rattle.rules.specs.Blob.{Outcome, refused, read, is2000, readBy, readingOf, counted, fit, answerOf, outcome, exit}
+use Rattle.rules.specs.Blob.{refused, read, is2000, readBy, readingOf, counted, fit, answerOf, outcome}
 use Rattle.rules.specs.declared.Answer.{Answer}
 use Rattle.claims.specs.Answers.{Judged, BlobAnswer, Entered, TypeInfoAnswer, GuidAnswer, TextAnswer}
 

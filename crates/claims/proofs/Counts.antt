@@ -1,5 +1,5 @@
 -- The counts of an answer are those of the reading, and on 0 the rows lent have room for it.
-use Prim.Native.Nat.{ℕ, _*_, _/_, _≤_}
+use Prim.Native.Nat.{ℕ, _*_, _≤_}
 use native.Mathlib.Omega.{arith}
 use mathlib.Core.Path.{_≡_, refl, sym, ap, _∙_}
 use mathlib.Core.Bool.{Bool, true, false, not, cond}
@@ -15,7 +15,7 @@ use Rattle.rules.specs.TypeInfo.{Info, typeInfoOf, typeInfoRow, typeInfoRows, t
 use Rattle.rules.specs.Rows.{controlWidth, propertyWidth, typeInfoWidth, room, written}
 use Rattle.rules.specs.declared.Answer.{Answer}
 use Rattle.rules.specs.Reading.{Reading, properties, controlRows, propertyRows}
-use Rattle.rules.specs.Blob.{Outcome, refused, read, counted, readingOf, fit, outcome, exitBy, exit}
+use Rattle.rules.specs.Blob.{refused, read, counted, readingOf, fit, outcome, exitBy, exit}
 use Rattle.rules.proofs.RowsLaws.{Wide, written-is}
 use Rattle.rules.proofs.ReadingLaws.{controls-wide, properties-wide, controls-counted, properties-counted}
 use Rattle.claims.specs.Answers.{TypeInfoAnswer}

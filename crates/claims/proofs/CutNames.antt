@@ -1,22 +1,21 @@
 -- Whether a TypeInfo name was cut is told by the fifth word of its row, and only the last row can be cut.
 use Prim.Native.Nat.{ℕ, zero, suc, _+_, _%_, _≤_, _<_, min}
 use native.Mathlib.Omega.{arith}
-use native.Mathlib.Numerals.{add-one}
-use mathlib.Core.Path.{_≡_, refl, sym, ap, _∙_}
-use mathlib.Core.Bool.{Bool, true, false, not, cond}
-use mathlib.Core.List.{List, [], _∷_, _++_, map}
+use mathlib.Core.Path.{_≡_, refl, ap, _∙_}
+use mathlib.Core.Bool.{Bool, true, false, cond}
+use mathlib.Core.List.{List, [], _∷_}
 use mathlib.Core.Logic.{_↔_, _⊎_, inl, inr}
 use borrow.Author.Tests.{leb-true, ltb-true, ltb-false, lt-leb}
 use lib.Dec.{leb, ltb, eqb}
 use lib.ListN.{length, getD, drop}
-use Rattle.rules.specs.Lists.{keep, concat}
+use Rattle.rules.specs.Lists.{keep}
 use Rattle.rules.specs.Bytes.{byte, u16, u32}
 use Rattle.rules.specs.Rows.{typeInfoWidth, rowAt}
 use Rattle.rules.specs.TypeInfo.{Named, Info, beforeNul, nulTerminated, firstName, secondName, infoAt, nextInfo, infosAt, isReportedInfo, typeInfoOf, typeInfoRow, typeInfoRows, typeInfoExit}
 use Rattle.rules.proofs.ListLaws.{getD-map}
 use Rattle.rules.proofs.RowsLaws.{row-of-words}
 use Rattle.rules.proofs.TypeInfoLaws.{name-within, next-within, no-nul-in, at-nul, at-end}
-use Rattle.claims.specs.CutNames.{CutRow, CutNames, Wish6}
+use Rattle.claims.specs.CutNames.{CutNames, Wish6}
 use Rattle.claims.proofs.Counts.{info-wide, info-many, info-counts}
 
 -- ---- a name

@@ -1,5 +1,5 @@
 -- Demand 3 holds.
-use Prim.Native.Nat.{ℕ, _*_, _/_, _<_, _≤_}
+use Prim.Native.Nat.{ℕ, _*_, _<_, _≤_}
 use native.Mathlib.Omega.{arith}
 use mathlib.Core.Path.{_≡_, refl, sym, ap, ap₂, subst, _∙_}
 use mathlib.Core.List.{List, [], map, head-eq-of-cons-eq}
@@ -8,12 +8,12 @@ use mathlib.Core.Option.{Option, none, some}
 use mathlib.Core.Logic.{_⊎_, inl, inr}
 use lib.Bits.{bitOr}
 use lib.Dec.{ltb}
-use lib.ListN.{length, getD, take, drop}
+use lib.ListN.{length, getD, take}
 use lib.Seq.{take-at}
 use borrow.Author.Tests.{ltb-false}
 use Rattle.rules.specs.Answer.{answer, refusal, noReading, tooLong, moreControls, moreProperties, otherLayout, longest}
-use Rattle.rules.specs.CodeTable.{Tie, wellFormed}
-use Rattle.rules.specs.Tree.{Entries, nodesOf}
+use Rattle.rules.specs.CodeTable.{Tie}
+use Rattle.rules.specs.Tree.{Entries}
 use Rattle.rules.specs.Access2000.{Prop, streamOf}
 use Rattle.rules.specs.Lists.{concat}
 use Rattle.rules.specs.Rows.{controlWidth, propertyWidth, room, rowAt, written}
@@ -26,7 +26,7 @@ use Rattle.rules.proofs.ListLaws.{none-some, map-map, getD-map}
 use Rattle.rules.proofs.CodeTableLaws.{found-held, held-found, kept, unmapped-large, target-small}
 use Rattle.rules.proofs.RowsLaws.{Wide, words-in, written-is, row-written, behind-written}
 use Rattle.rules.proofs.ReadingLaws.{controls-wide, properties-wide, controls-counted, properties-counted}
-use Rattle.rules.proofs.Read2000Laws.{shownAt, properties-from, properties-many, controls-many, counts-from, control-rows-same}
+use Rattle.rules.proofs.Read2000Laws.{shownAt, properties-from, properties-many, counts-from, control-rows-same}
 use Rattle.claims.specs.Demand3.{Successor, Learned, RowSays, no-spot, Lent, SameRoom, controlWords, propertyWords, Behind, Alike, SameBut, Same, exitOf2000, exitOf, Demand3}
 
 -- ---- what two calls with the same room leave in their slices

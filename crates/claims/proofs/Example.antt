@@ -1,11 +1,8 @@
 -- Demand 3 is not empty: K1's table, and one that has learned the form's code 0x31.
-use Prim.Native.Nat.{ℕ, _<_}
-use native.Mathlib.Omega.{arith}
+use Prim.Native.Nat.{ℕ}
 use mathlib.Core.Path.{_≡_, refl}
-use mathlib.Core.Bool.{true}
-use mathlib.Core.List.{List, [], _∷_, _++_, List·Memᴰ·tail}
+use mathlib.Core.List.{List, [], _∷_, List·Memᴰ·tail}
 use lib.ListN.{replicate}
-use Rattle.rules.specs.CodeTable.{Holds}
 use Rattle.rules.specs.Blob.{exit}
 use Rattle.rules.specs.Examples.{table, blob, old}
 use Rattle.rules.proofs.Open.{rules-open}

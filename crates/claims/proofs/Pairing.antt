@@ -6,19 +6,19 @@ use mathlib.Core.Bool.{Bool, true, false, not, cond, _&&_, _||_, true≢false}
 use mathlib.Core.List.{List, [], _∷_, map}
 use mathlib.Core.Logic.{_↔_, _⊎_, inl, inr}
 use mathlib.Core.Option.{Option, none, some}
-use borrow.Author.Tests.{ltb-true, ltb-false, lt-ltb, leb-true, leb-false, le-leb, eqb-true, eqb-false, eq-eqb, ne-eqb}
+use borrow.Author.Tests.{ltb-true, lt-ltb, leb-true, leb-false, le-leb, eqb-true, eqb-false, eq-eqb, ne-eqb}
 use lib.Dec.{ltb, leb, eqb}
 use lib.ListN.{length, getD}
 use lib.Seq.{length-sets}
 use Rattle.rules.specs.Lists.{_>>=_, concat, all, find, same}
 use Rattle.rules.specs.Bytes.{byte, u16}
-use Rattle.rules.specs.Answer.{answer, refusal, badRows, tooLong, badTable, otherLayout, longest}
+use Rattle.rules.specs.Answer.{answer, refusal, tooLong, badTable, otherLayout, longest}
 use Rattle.rules.specs.Texts.{label}
 use Rattle.rules.specs.CodeTable.{wellFormed}
 use Rattle.rules.specs.Access2000.{streamOf}
 use Rattle.rules.specs.ReadLater.{readLater}
 use Rattle.rules.specs.Rows.{controlWidth, propertyWidth, typeInfoWidth, room, rowAt, written}
-use Rattle.rules.specs.TypeInfo.{TypeInfoExit, typeInfoOf, typeInfoRows, typeInfoAnswer, typeInfoExit}
+use Rattle.rules.specs.TypeInfo.{TypeInfoExit, typeInfoRows, typeInfoAnswer, typeInfoExit}
 use Rattle.rules.specs.Blob.{Exit, refused, speaks2000, is2000, readBy, readingOf, fit, outcome, answerOf, controlsShown, exitBy, exit, outcome2000, outcomeLater, exit2000, exitLater}
 use Rattle.rules.specs.Pairing.{rowsFrom, controlsIn, infosIn, typeOf, markOf, startOf, sizeOf, cutOf, namedBytes, unitsIn, controlName, isAscii, folded, namesMatch, nameMatches, hasName, typeBy, pairedType, typesSet, isNamed, controlOk, mayPair, PairExit, pairExit}
 use Rattle.rules.specs.declared.Answer.{Answer}
@@ -28,7 +28,7 @@ use Rattle.rules.proofs.OpenTables.{tables-open}
 use Rattle.rules.proofs.PairingLaws.{Fair, fair, may-pair, lent, pair-yes, pair-no, pair-again, rows-all, all-rows, Found, found, as-long, other-stays, type-set}
 use Rattle.joinlaws.proofs.JoinedLaws.{same-true}
 use Rattle.claims.specs.Answers.{BlobAnswer, TypeInfoAnswer}
-use Rattle.claims.specs.CutNames.{CutRow, CutNames}
+use Rattle.claims.specs.CutNames.{CutRow}
 use Rattle.claims.specs.Demand1.{Refused}
 use Rattle.claims.specs.RowChecks.{nameMark, nameStart, nameLength, Named}
 use Rattle.claims.specs.Pairing.{WhollyAscii, Match, Units, NameOf, SameName, BadRows, PairAnswer, Typed, Paired, Pairs, NeverRefused, Wish2}

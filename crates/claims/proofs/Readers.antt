@@ -1,22 +1,21 @@
 -- The reader of each layout, and how the choice by the first byte agrees with them.
-use Prim.Native.Nat.{ℕ, _≤_, _<_}
+use Prim.Native.Nat.{ℕ, _≤_}
 use native.Mathlib.Omega.{arith}
 use mathlib.Core.Path.{_≡_, refl, sym, ap, _∙_}
-use mathlib.Core.Bool.{Bool, true, false, not, cond, _&&_}
+use mathlib.Core.Bool.{Bool, true, false, cond, _&&_}
 use mathlib.Core.List.{List}
 use borrow.Author.Tests.{ltb-true, ltb-false, lt-ltb, le-ltb, ne-eqb}
 use lib.Dec.{ltb, eqb}
 use lib.ListN.{length}
 use Rattle.rules.specs.Bytes.{Bytes, byte}
-use Rattle.rules.specs.Answer.{refusal, tooLong, badTable, otherLayout, moreControls, moreProperties, longest}
+use Rattle.rules.specs.Answer.{refusal, tooLong, otherLayout, moreControls, moreProperties, longest}
 use Rattle.rules.specs.CodeTable.{layout, wellFormed}
 use Rattle.rules.specs.Rows.{controlWidth, propertyWidth, room}
-use Rattle.rules.specs.Access2000.{streamOf}
 use Rattle.rules.specs.Reading.{Reading, properties}
 use Rattle.rules.specs.ReadLater.{readLater}
-use Rattle.rules.specs.Blob.{Outcome, refused, read, answerOf, counted, fit, readBy, speaks2000, is2000, readingOf, outcome, exitBy, exit, outcome2000, outcomeLater, exit2000, exitLater}
+use Rattle.rules.specs.Blob.{refused, read, answerOf, counted, speaks2000, is2000, readingOf, outcome, exitBy, exit, outcome2000, outcomeLater, exit2000, exitLater}
 use Rattle.rules.specs.declared.Answer.{Answer}
-use Rattle.claims.specs.Answers.{Judged, BlobAnswer}
+use Rattle.claims.specs.Answers.{Judged}
 use Rattle.claims.specs.Readers.{Answer2000, AnswerLater, Reads, NotMine, Agree, Wish8}
 use Rattle.claims.proofs.Answers.{exactly, blob-right, blob-told}
 use Rattle.claims.proofs.Demand1.{stays}

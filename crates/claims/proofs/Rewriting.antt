@@ -12,7 +12,7 @@ use lib.Seq.{length-take-le, take-at, drop-at, getD-take, take-append-seam}
 use borrow.Author.Tests.{lt-ltb, le-ltb, ltb-true, ltb-false}
 use Rattle.rules.specs.Lists.{_>>=_}
 use Rattle.rules.specs.Bytes.{Bytes, byte}
-use Rattle.rules.specs.Answer.{answer, refusal, longest}
+use Rattle.rules.specs.Answer.{answer, longest}
 use Rattle.rules.specs.Texts.{TextExit, textExit}
 use Rattle.rules.specs.Tree.{Entries}
 use Rattle.rules.specs.Access2000.{Prop, streamOf}

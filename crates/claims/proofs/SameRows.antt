@@ -2,31 +2,28 @@
 use Prim.Native.Nat.{ℕ, zero, suc, _+_, _-_, _≤_, _<_}
 use native.Mathlib.Omega.{arith}
 use mathlib.Core.Path.{_≡_, refl, sym, ap, ap₂, subst, _∙_}
-use mathlib.Core.Bool.{Bool, true, false, cond, _&&_}
+use mathlib.Core.Bool.{Bool, true, false, cond}
 use mathlib.Core.List.{List, [], _∷_, _++_, map}
 use mathlib.Core.Logic.{inl, inr}
-use mathlib.Core.Option.{some}
 use lib.Bits.{bitOr}
 use lib.Dec.{ltb, eqb}
-use lib.ListN.{length, getD, take, drop, length-drop, length-map}
-use lib.Seq.{length-take-le, getD-take}
+use lib.ListN.{length, getD, drop, length-drop}
+use lib.Seq.{length-take-le}
 use borrow.Author.Tests.{lt-ltb, le-ltb, ltb-true, ltb-false, eqb-true, eqb-false}
 use Rattle.rules.specs.Lists.{find, has}
 use Rattle.rules.specs.Bytes.{Bytes, byte, part}
 use Rattle.rules.specs.Answer.{answer}
-use Rattle.rules.specs.Access2000.{Prop, streamOf}
 use Rattle.rules.specs.Value.{storedValue, valueAs}
 use Rattle.rules.specs.Rows.{controlWidth, propertyWidth, room, rowAt}
 use Rattle.rules.specs.Tree.{noParent}
 use Rattle.rules.specs.CodeTable.{header, Holds}
 use Rattle.rules.specs.Reading.{Control, Reading, properties, nameWords, controlRow, controlRowsFrom, controlRows, propertyRow}
 use Rattle.rules.specs.Read2000.{Spot, bytesOf, property}
-use Rattle.rules.specs.Blob.{Exit, exit, counted, spots}
+use Rattle.rules.specs.Blob.{Exit, spots}
 use Rattle.rules.specs.declared.Answer.{Answer}
 use Rattle.rules.specs.declared.Value.{Value}
 use Rattle.rules.specs.declared.Name.{Name}
 use Rattle.rules.specs.declared.Name.the-variants.{Text, Numbered, Loose}
-use Rattle.rules.proofs.ListLaws.{getD-map}
 use Rattle.rules.proofs.RowsLaws.{row-of-words}
 use Rattle.rules.proofs.ReadingLaws.{controls-wide, controls-counted}
 use Rattle.claims.specs.Answers.{BlobAnswer}
@@ -36,7 +33,7 @@ use Rattle.claims.specs.Counts.{Counted}
 use Rattle.claims.specs.Stored.{reported, storedOf, spotSays, typeSays, isName, nameBy, controlSays, nameShows, controlShows}
 use Rattle.claims.specs.Demand2.{Given}
 use Rattle.claims.specs.Demand3.{Lent, SameRoom, exitOf, no-spot}
-use Rattle.claims.specs.RowChecks.{controlWord, nameMark, nameStart, nameLength, level, parentRow, propertyWord, shownId, valueStart, valueLength, Named, Known, RowOf, Checks, SeenItems}
+use Rattle.claims.specs.RowChecks.{controlWord, nameMark, nameStart, nameLength, level, parentRow, shownId, Named, Known, RowOf, Checks, SeenItems}
 use Rattle.claims.specs.Nesting.{lastBefore, parentBy}
 use Rattle.claims.specs.Rewriting.{SameProperty, SameControl, SameRows}
 use Rattle.claims.proofs.Demand1.{demand1}

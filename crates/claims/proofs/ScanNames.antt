@@ -1,5 +1,5 @@
 -- Every control that a scan reports has a Text name first.
-use Prim.Native.Nat.{ℕ, _+_, _≤_, _<_}
+use Prim.Native.Nat.{ℕ, _≤_, _<_}
 use native.Mathlib.Omega.{arith}
 use mathlib.Core.Path.{_≡_, refl, sym, ap, _∙_}
 use mathlib.Core.Bool.{Bool, true, false, cond}
@@ -19,12 +19,12 @@ use Rattle.rules.specs.Blob.{Exit}
 use Rattle.rules.specs.declared.Property.{Property}
 use Rattle.rules.specs.declared.Name.{Name}
 use Rattle.rules.specs.declared.Name.the-variants.{Text, Numbered, Loose}
-use Rattle.claims.specs.RowChecks.{nameMark, firstRow, propertyCount, valueMark, valueStart, valueLength}
+use Rattle.claims.specs.RowChecks.{firstRow, propertyCount}
 use Rattle.claims.specs.LaterScan as laterScan
-use Rattle.claims.specs.LaterScan.{wordsAt, sizeAt, Within, ControlAt, Scanned}
+use Rattle.claims.specs.LaterScan.{wordsAt, Within, ControlAt}
 use Rattle.claims.specs.ScanNames.{readAlike, TextFirst, TextNamed, Wish10}
 use Rattle.claims.proofs.Each.{each-at, each-map, each-same}
-use Rattle.claims.proofs.Scan.{match-numbers, FromMatch, Node-from, scan-nodes}
+use Rattle.claims.proofs.Scan.{match-numbers, Node-from, scan-nodes}
 use Rattle.claims.proofs.LaterScan.{first-is, named}
 use Rattle.claims.proofs.LaterTree.{later-tree}
 

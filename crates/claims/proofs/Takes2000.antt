@@ -2,7 +2,7 @@
 use Prim.Native.Nat.{ℕ, zero, suc, _+_, _*_, _≤_, _<_}
 use native.Mathlib.Omega.{arith}
 use mathlib.Core.Path.{_≡_, refl, _∙_}
-use mathlib.Core.List.{List, [], _∷_, _++_, map}
+use mathlib.Core.List.{List, map}
 use mathlib.Core.Logic.{_⊎_, inl, inr}
 use mathlib.Core.Option.{Option, none, some}
 use lib.Dec.{eqb}
@@ -10,7 +10,7 @@ use lib.ListN.{length, length-append, length-map}
 use borrow.Author.Tests.{eqb-true}
 use Rattle.rules.specs.Lists.{_>>=_, concat}
 use Rattle.rules.specs.Bytes.{byteAt, halfAt}
-use Rattle.rules.specs.Tree.{Entry, plain, parent, Entries, end, more, reported, nodesOf}
+use Rattle.rules.specs.Tree.{Entry, plain, parent, Entries, more, reported, nodesOf}
 use Rattle.rules.specs.Access2000.{Prop, propertyAt, goesOn, runOf, runAt, headAt, closeAt, entryAt, entriesAt, streamOf}
 use Rattle.rules.specs.Reading.{properties}
 use Rattle.rules.specs.Read2000.{objectKey, read2000, spotIn, nodeSpots, spotsOf}
@@ -18,7 +18,7 @@ use Rattle.rules.proofs.ListLaws.{Every, every-if, every-then, every-when}
 use Rattle.rules.proofs.Access2000Laws.{Within, property-within}
 use Rattle.rules.proofs.Read2000Laws.{properties-many, controls-many}
 use Rattle.claims.proofs.Levels.{levels-every}
-use Rattle.claims.proofs.Amounts.{entriesIn1, entriesIn, propsIn1, propsIn, propsOf, reported-less, nodes-many, each-long}
+use Rattle.claims.proofs.Amounts.{entriesIn1, entriesIn, propsIn1, propsIn, reported-less, nodes-many, each-long}
 
 module _ (s : List ℕ) where
   -- ---- a property takes a byte, a head takes one; a list's head takes three unless it says one entry

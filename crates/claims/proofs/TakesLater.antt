@@ -3,7 +3,7 @@ use Prim.Native.Nat.{ℕ, zero, suc, _+_, _*_, _≤_, _<_}
 use native.Mathlib.Omega.{arith}
 use mathlib.Core.Path.{_≡_, refl, ap, _∙_}
 use mathlib.Core.Bool.{true, not}
-use mathlib.Core.List.{List, [], _∷_, _++_, map}
+use mathlib.Core.List.{List, [], _∷_, map}
 use mathlib.Core.Option.{Option, none, some}
 use lib.Dec.{leb, eqb}
 use lib.ListN.{length, length-append, length-map}
@@ -11,7 +11,7 @@ use borrow.Author.Tests.{leb-true, eqb-true, le-ltb, lt-ltb}
 use Rattle.rules.specs.Lists.{concat, keep}
 use Rattle.rules.specs.Bytes.{u16}
 use Rattle.rules.specs.Tree.{Entry, Entries, end, more, isReported, reported, Node, noParent, nodeIn, nodesOf}
-use Rattle.rules.specs.Later.{Prop, endAt, trailerAt, isInside, endsGroup, Group, groupOf, groupAt, childrenAt, withChildren, nodeAt, nodesAt, objectGroup, treeOf, matchAt, matchesOf, matchesFrom, groupsOf, isEmpty, scanFrom, nodesBy, laterOf}
+use Rattle.rules.specs.Later.{Prop, trailerAt, isInside, endsGroup, Group, groupOf, groupAt, childrenAt, withChildren, nodeAt, nodesAt, objectGroup, treeOf, matchAt, matchesOf, matchesFrom, groupsOf, isEmpty, scanFrom, nodesBy, laterOf}
 use Rattle.rules.specs.Reading.{properties, propertiesOf}
 use Rattle.rules.specs.ReadLater.{propertyOf, nameIn, controlOf, readLater}
 use Rattle.rules.proofs.ListLaws.{Every, every-if, every-then, every-when, every-at, none-some, and-l, and-r, map-map}

@@ -1,7 +1,7 @@
 -- Names with mark 0 and values with mark 6 are well-formed UTF-16: nothing else gets these marks.
-use Prim.Native.Nat.{ℕ, _<_}
+use Prim.Native.Nat.{ℕ}
 use native.Mathlib.Omega.{arith}
-use mathlib.Core.Path.{_≡_, refl, ap, _∙_}
+use mathlib.Core.Path.{_≡_, refl}
 use mathlib.Core.Bool.{Bool, true, false, cond, _&&_, _||_}
 use mathlib.Core.List.{List, [], _∷_, _++_, map}
 use mathlib.Core.Option.{Option, none, some}
@@ -17,10 +17,10 @@ use Rattle.rules.specs.CodeTable.{Tie}
 use Rattle.rules.specs.Tree.{Entries, Node, nodesOf}
 use Rattle.rules.specs.Access2000 as old
 use Rattle.rules.specs.Later as later
-use Rattle.rules.specs.Reading.{Control, Reading, propertiesOf, properties, nameWords, controlRow, propertyRow}
+use Rattle.rules.specs.Reading.{Control, Reading, propertiesOf, properties, nameWords, controlRow}
 use Rattle.rules.specs.Read2000 as read2000
 use Rattle.rules.specs.ReadLater as readLater
-use Rattle.rules.specs.Blob.{Exit, read, is2000, readBy, readingOf, exitBy, exit}
+use Rattle.rules.specs.Blob.{read, is2000, readBy, readingOf, exitBy, exit}
 use Rattle.rules.specs.declared.Value.{Value}
 use Rattle.rules.specs.declared.Property.{Property}
 use Rattle.rules.specs.declared.Name.{Name}
@@ -28,7 +28,7 @@ use Rattle.rules.specs.declared.Name.the-variants.{Text, Numbered, Loose}
 use Rattle.rules.proofs.ListLaws.{none-some, and-r}
 use Rattle.claims.specs.Characters.{Formed}
 use Rattle.claims.proofs.Each.{Each, each-of, each-at}
-use Rattle.claims.proofs.RowsSeen.{no-control, no-property, firstOf, controlOf, Rows, Zero, zero-read}
+use Rattle.claims.proofs.RowsSeen.{no-control, no-property, firstOf, controlOf, Rows, zero-read}
 
 -- ---- values
 abbrev Sound : List ℕ → Value → Type 0

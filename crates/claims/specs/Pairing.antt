@@ -1,6 +1,6 @@
 -- Wish 2 of document 02: controls paired with TypeInfo. What is answered, which words change and to what, that pairing again changes nothing, and that
 -- rows which were read are never refused.
-use Prim.Native.Nat.{ℕ, _+_, _*_, _≤_, _<_}
+use Prim.Native.Nat.{ℕ, _+_, _*_, _<_}
 use mathlib.Core.Path.{_≡_}
 use mathlib.Core.List.{List, map}
 use mathlib.Core.Logic.{_↔_}

@@ -11,7 +11,6 @@ use Rattle.rules.specs.Later.{Prop, treeOf, laterOf}
 use Rattle.rules.specs.Reading.{Control, Reading}
 use Rattle.rules.specs.ReadLater.{propertyOf, nameOf, controlOf, readLater}
 use Rattle.rules.specs.Blob.{Exit, exit}
-use Rattle.rules.specs.declared.Name.{Name}
 use Rattle.rules.specs.declared.Name.the-variants.{Text, Numbered, Loose}
 use Rattle.claims.specs.RowChecks.{nameMark, nameStart, nameLength, firstRow, propertyCount, shownId, valueMark, valueStart, valueLength}
 use Rattle.claims.specs.LaterTree.{Spelled, Given}

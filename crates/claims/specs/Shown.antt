@@ -5,7 +5,7 @@ use mathlib.Core.Bool.{Bool, true, cond, _&&_}
 use mathlib.Core.List.{List, [], _∷_, _++_}
 use lib.Dec.{leb}
 use lib.ListN.{length}
-use Rattle.claims.specs.Grammar.{Property, Item, leaf, branch, Items, none, one}
+use Rattle.claims.specs.Grammar.{Item, leaf, branch, Items, none, one}
 
 -- how many items there are with all below them: of one item, and of a list
 abbrev mutual
