@@ -53,4 +53,7 @@ bool compare_pair(compare_pair_t *pair, size_t count, uint64_t seed);
 /* Times the library's pairing against jetdb's merge_controls. */
 void compare_pair_bench(compare_pair_t *pair);
 
+/* Rewrites so many random streams of a seed by the library; false where one differs. */
+bool compare_rewrite(oskuramos_answer (*rewrite)(const uint8_t *, size_t, uint8_t *, size_t), size_t count, uint64_t seed);
+
 #endif

@@ -2,7 +2,7 @@
 
 use crate::cases::Kind;
 use crate::form::{BlobProperty, ControlInfo, ControlProperties};
-use crate::{file::FileError, form, form2000, large, oracle, paired, pairs, speed};
+use crate::{file::FileError, form, form2000, large, oracle, paired, pairs, rewrites, speed};
 
 /// A stream, as C sees it.
 #[repr(C)]
@@ -113,4 +113,10 @@ pub extern "C" fn compare_pair(pair: paired::Pair, count: usize, seed: u64) -> b
 #[no_mangle]
 pub extern "C" fn compare_pair_bench(pair: paired::Pair) {
     paired::bench(pair);
+}
+
+/// Rewrites random streams by the library's function; false where one differs.
+#[no_mangle]
+pub extern "C" fn compare_rewrite(rewrite: rewrites::Rewrite, count: usize, seed: u64) -> bool {
+    rewrites::compare(Some(rewrite), count, seed)
 }

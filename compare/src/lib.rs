@@ -16,6 +16,7 @@ mod paired;
 mod pairs;
 mod plain;
 mod program;
+mod rewrites;
 mod run;
 mod small;
 mod speed;
@@ -40,6 +41,7 @@ compare random SEED COUNT                  random cases
 compare batch SEED COUNT NAME [LONGEST]    writes NAME.cases and NAME.expected, no case over LONGEST bytes (32768)
 compare judge NAME.cases PRINTED           holds what a program printed against what must be printed
 compare run COUNT SEED PROGRAM ..          fresh cases through a program that reads batch files; stops at the first difference
+compare rewrites COUNT SEED                streams rewritten by document 02 read plainly, and read again by the plain reader and by jetdb
 compare joins COUNT SEED [PROGRAM ..]      pairs of code tables alone; without a program document 02 is read in two ways
 compare readers COUNT SEED [PROGRAM ..]    Blobs for the reader of one layout alone, in the same way
 compare listings COUNT SEED [PROGRAM ..]   inputs of formlist alone, in the same way
@@ -82,6 +84,7 @@ fn command(words: &[&str]) -> Result<bool, String> {
         ["run", count, seed, ref program @ ..] if !program.is_empty() => {
             through(&judge, number(count)? as usize, number(seed)?, program, batch::drawn)
         }
+        ["rewrites", count, seed] => Ok(rewrites::compare(None, number(count)? as usize, number(seed)?)),
         ["joins", count, seed] => Ok(alone(&judge, number(seed)?, number(count)?, join::random)),
         ["readers", count, seed] => Ok(alone(&judge, number(seed)?, number(count)?, readers::random)),
         ["readers", count, seed, ref program @ ..] if !program.is_empty() => {

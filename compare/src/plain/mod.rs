@@ -7,6 +7,7 @@ pub mod join;
 pub mod later;
 pub mod pairing;
 pub mod readers;
+pub mod rewrite;
 pub mod room;
 pub mod typeinfo;
 pub mod value;
