@@ -64,7 +64,8 @@ fn difference(library: Option<Rewrite>, codes: &Codes, s: &[u8], room: usize) ->
     let same = all(s, &before.own) == all(&r, &after.own)
         && before.controls.len() == after.controls.len()
         && before.controls.iter().zip(&after.controls).all(|(a, b)| {
-            (a.level, a.type_code, name(s, a.name)) == (b.level, b.type_code, name(&r, b.name)) && all(s, &a.properties) == all(&r, &b.properties)
+            (a.level, a.type_code, name(s, a.name)) == (b.level, b.type_code, name(&r, b.name))
+                && all(s, &a.properties) == all(&r, &b.properties)
         });
     let by_jetdb = |s: &[u8]| format!("{:?}", form2000::read(s));
     let promised = [
