@@ -22,7 +22,7 @@ module _ (w m : ℕ) (l : List ℕ) where
   abbrev pub rest : ℕ → List (List ℕ)
   rest j = rowsFrom w j (m - j) l
 
-  pub all-whole : (p : List ℕ → Bool) → all p (rowsFrom w 0 m l) ≡ all p (rest 0)
+  all-whole : (p : List ℕ → Bool) → all p (rowsFrom w 0 m l) ≡ all p (rest 0)
   all-whole p = let n : m ≡ m - 0 = omega arith in ap (λ (k : ℕ). all p (rowsFrom w 0 k l)) n
 
   pub find-whole : (p : List ℕ → Bool) → find p (rowsFrom w 0 m l) ≡ find p (rest 0)
@@ -49,17 +49,36 @@ module _ (w m : ℕ) (l : List ℕ) where
     unfolding find
     find-end h = rw (no-row h)
 
-    pub all-fails : j < m → p (rowAt w j l) ≡ false → all p (rest j) ≡ false
+    all-fails : j < m → p (rowAt w j l) ≡ false → all p (rest j) ≡ false
     unfolding all
     all-fails h e = rw (next-row h, e)
 
-    pub all-next : j < m → p (rowAt w j l) ≡ true → all p (rest j) ≡ all p (rest (j + 1))
+    all-next : j < m → p (rowAt w j l) ≡ true → all p (rest j) ≡ all p (rest (j + 1))
     unfolding all
     all-next h e = rw (next-row h, e)
 
-    pub all-end : m ≤ j → all p (rest j) ≡ true
+    all-end : m ≤ j → all p (rest j) ≡ true
     unfolding all
     all-end h = rw (no-row h)
+
+-- ---- a loop that judges m rows by p: those from row j on decide
+pub record Judging (w m : ℕ) (l : List ℕ) (p : List ℕ → Bool) (j : ℕ) : Type 0 where
+  pub within : j ≤ m
+  pub decides : all p (rowsFrom w 0 m l) ≡ all p (rest w m l j)
+
+module _ {w m : ℕ} {l : List ℕ} {p : List ℕ → Bool} where
+  pub judging-start : Judging w m l p 0
+  judging-start = record { within = omega arith; decides = all-whole w m l p }
+
+  module _ {j : ℕ} (g : Judging w m l p j) where
+    pub judged-bad : j < m → p (rowAt w j l) ≡ false → false ≡ all p (rowsFrom w 0 m l)
+    judged-bad h e = sym (g .decides ∙ all-fails w m l p j h e)
+
+    pub judged-good : j < m → p (rowAt w j l) ≡ true → Judging w m l p (j + 1)
+    judged-good h e = record { within = omega arith; decides = g .decides ∙ all-next w m l p j h e }
+
+    pub judged-all : m ≤ j → true ≡ all p (rowsFrom w 0 m l)
+    judged-all h = sym (g .decides ∙ all-end w m l p j h)
 
 -- ---- words by their names
 module _ {row : List ℕ} {r : InfoRow} (i : InfoOf row r) where
