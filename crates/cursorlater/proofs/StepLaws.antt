@@ -105,13 +105,13 @@ children-small s h trailer p =
     every-if CountSmall (leb (p + 2) (length s)) _ _ (λ _. omega (arith, h p, h (p + 1))) λ _. tt
 
 -- ---- after a group
-module _ (s : List ℕ) (trailer stop : ℕ) (u : Children) (ue : u ≡ children (childrenAt s trailer stop)) where
-  pub count-small : Bytes s → (n q : ℕ) → u ≡ Children.Of n q → n < 65536
-  count-small h n q uk = every-at CountSmall (childrenAt s trailer stop) (n, q) (children-small s h trailer stop) (children-of (childrenAt s trailer stop) u n q ue uk)
+module _ (s : List ℕ) (trailer stop : ℕ) {u : Children} (ue : u ≡ children (childrenAt s trailer stop)) where
+  pub count-small : Bytes s → {n q : ℕ} → u ≡ Children.Of n q → n < 65536
+  count-small h {n} {q} uk = every-at CountSmall (childrenAt s trailer stop) (n, q) (children-small s h trailer stop) (children-of (childrenAt s trailer stop) u n q ue uk)
 
-  pub past-bad : u ≡ Children.Bad → (a : List ℕ) (c : Cursor) → PastReady a c (childrenAt s trailer stop) → ⊥
-  past-bad uk a c h = rw (children-bad (childrenAt s trailer stop) u ue uk) at (h .there)
+  pub past-bad : u ≡ Children.Bad → {a : List ℕ} {c : Cursor} → PastReady a c (childrenAt s trailer stop) → ⊥
+  past-bad uk h = rw (children-bad (childrenAt s trailer stop) u ue uk) at (h .there)
 
-  pub past-of : (n q : ℕ) → u ≡ Children.Of n q → (a : List ℕ) (c : Cursor) (row : ℕ) (a′ : List ℕ) (r : Cursor)
+  pub past-of : {n q : ℕ} → u ≡ Children.Of n q → {a : List ℕ} {c : Cursor} {row : ℕ} {a′ : List ℕ} {r : Cursor}
       → Moved a c row n q a′ r → Past a c row (childrenAt s trailer stop) a′ r
-  past-of n q uk a c row a′ r m = rw (children-of (childrenAt s trailer stop) u n q ue uk) m
+  past-of {n} {q} uk m = rw (children-of (childrenAt s trailer stop) u n q ue uk) m

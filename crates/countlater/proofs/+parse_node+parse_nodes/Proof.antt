@@ -72,23 +72,23 @@ pub +parse-node+parse-nodes-spec : {M : Type 1} → statement M
 unfolding nodesAt
 +parse-node+parse-nodes-spec = close μ-parse-node μ-parse-nodes (λ t. parse-node-lts.spec (parse-node-calls t) (parse-node-at t) parse-node.Post
     (λ c κs. search needs) (λ c. search needs) (λ c. search needs)
-    (λ c. counted-none _ _ _ (unheaded _ _ _ (c .before .before .head-at .ensures) (c .enum-told .given .1)))
+    (λ c. counted-none _ _ _ (unheaded _ _ (c .before .before .head-at .ensures) (c .enum-told .given .1)))
     (λ c κs. omega arith) (λ c. search needs) (λ c. search needs)
-    (λ c. let told : Head-told t = search in let head : Head-read t = search in let h = headed _ _ _ _ _ _ (head .head-at .ensures) (told .count .given .1) in omega (arith, node-room _ _ _ _ _ _ h _ (c .before .before .before .parse-nodes .ensures) _ _ _ (c .before .controls .given .1)))
-    (λ c. let told : Head-told t = search in let head : Head-read t = search in let h = headed _ _ _ _ _ _ (head .head-at .ensures) (told .count .given .1) in omega (arith, node-room _ _ _ _ _ _ h _ (c .before .before .before .parse-nodes .ensures) _ _ _ (c .before .controls .given .1)))
-    (λ c. let told : Head-told t = search in let head : Head-read t = search in counted-bad _ _ _ _ _ _ (headed _ _ _ _ _ _ (head .head-at .ensures) (told .count .given .1)) _ (c .before .before .parse-nodes .ensures) (c .enum-told2 .given .1))
-    (λ c. let told : Head-told t = search in let head : Head-read t = search in counted-of _ _ _ _ _ _ (headed _ _ _ _ _ _ (head .head-at .ensures) (told .count .given .1)) _ (c .before .before .before .parse-nodes .ensures) _ _ _ (c .before .controls .given .1)))
+    (λ c. let told : Head-told t = search in let head : Head-read t = search in let h = headed (head .head-at .ensures) (told .count .given .1) in omega (arith, node-room _ h (c .before .before .before .parse-nodes .ensures) (c .before .controls .given .1)))
+    (λ c. let told : Head-told t = search in let head : Head-read t = search in let h = headed (head .head-at .ensures) (told .count .given .1) in omega (arith, node-room _ h (c .before .before .before .parse-nodes .ensures) (c .before .controls .given .1)))
+    (λ c. let told : Head-told t = search in let head : Head-read t = search in counted-bad _ (headed (head .head-at .ensures) (told .count .given .1)) (c .before .before .parse-nodes .ensures) (c .enum-told2 .given .1))
+    (λ c. let told : Head-told t = search in let head : Head-read t = search in counted-of _ (headed (head .head-at .ensures) (told .count .given .1)) (c .before .before .before .parse-nodes .ensures) (c .before .controls .given .1)))
     λ t. parse-nodes-lts.spec (parse-nodes-calls t) (parse-nodes-at t) parse-nodes.Post Inv-loop μ-loop
     (λ c. record { few = omega arith; counts = counting-start })
     (λ c. counting-deep (c .before .before .loop .inv .counts) (c .if1 .taken) (c .before .loop-test .taken))
     (λ c. search needs) (λ c κs. omega arith) (λ c. search needs)
     (λ c. let test : In-loop t = search in let start : At-loop t = search in counting-bad (start .loop .inv .counts) (c .before .before .before .if1 .left) (test .loop-test .taken) _ (c .before .before .parse-node .ensures) (c .enum-told .given .1))
     (λ c. search needs)
-    (λ c. omega (arith, node-fits _ _ _ _ _ _ _ (c .before .before .before .parse-node .ensures) (c .before .controls .given .1)))
-    (λ c. omega (arith, node-fits _ _ _ _ _ _ _ (c .before .before .before .parse-node .ensures) (c .before .controls .given .1)))
+    (λ c. omega (arith, node-fits _ _ _ (c .before .before .before .parse-node .ensures) (c .before .controls .given .1)))
+    (λ c. omega (arith, node-fits _ _ _ (c .before .before .before .parse-node .ensures) (c .before .controls .given .1)))
     (λ c. search needs) (λ c. search needs)
     (λ c. let level : Level-left t = search in let test : In-loop t = search in let start : At-loop t = search in record {
-      few = omega (arith, node-fits _ _ _ _ _ _ _ (c .before .before .before .parse-node .ensures) (c .before .controls .given .1));
+      few = omega (arith, node-fits _ _ _ (c .before .before .before .parse-node .ensures) (c .before .controls .given .1));
       counts = counting-more (start .loop .inv .counts) (level .if1 .left) (test .loop-test .taken) _ (c .before .before .before .parse-node .ensures) _ _ _ (c .before .controls .given .1);
     })
     (λ c. counting-all (c .before .loop .inv .counts) (c .loop-test .left))

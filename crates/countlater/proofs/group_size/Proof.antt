@@ -8,5 +8,5 @@ group-size-spec =
     tie.close
     (tie.spec
     (λ c κs. search needs) (λ c. search needs) (λ c. search needs)
-    (λ c. size-open _ _ _ _ _ _ (c .before .before .before .parse-group .ensures) (c .before .count .given .1))
-    (λ c. size-ended _ _ _ _ _ _ _ (c .before .before .before .parse-group .ensures) (c .before .count2 .given .1)))
+    (λ c. size-open _ _ _ (c .before .before .before .parse-group .ensures) (c .before .count .given .1))
+    (λ c. size-ended _ _ _ (c .before .before .before .parse-group .ensures) (c .before .count2 .given .1)))

@@ -10,7 +10,7 @@ head-at-spec =
     (tie.spec
     (λ c. head-none _ _ (head-past _ _ (omega arith)))
     (λ c. search needs) (λ c κs. search needs) (λ c. search needs) (λ c. search needs)
-    (λ c. head-open _ _ _ (c .before .before .parse-group .ensures) _ _ (c .enum-told .given .1))
+    (λ c. head-open _ _ (c .before .before .parse-group .ensures) (c .enum-told .given .1))
     (λ c κs. search needs) (λ c. search needs) (λ c. search needs)
-    (λ c. let after-count : tie.After-count = search in let after-parse-group : tie.After-parse-group = search in head-bad _ _ _ (after-parse-group .parse-group .ensures) _ _ _ (after-count .count .given .1) _ (c .before .before .children-at .ensures) (c .enum-told2 .given .1))
-    (λ c. let after-count : tie.After-count = search in let after-parse-group : tie.After-parse-group = search in head-of _ _ _ (after-parse-group .parse-group .ensures) _ _ _ (after-count .count .given .1) _ (c .before .before .before .children-at .ensures) _ _ (c .before .below .given .1)))
+    (λ c. let after-count : tie.After-count = search in let after-parse-group : tie.After-parse-group = search in head-bad _ _ (after-parse-group .parse-group .ensures) (after-count .count .given .1) (c .before .before .children-at .ensures) (c .enum-told2 .given .1))
+    (λ c. let after-count : tie.After-count = search in let after-parse-group : tie.After-parse-group = search in head-of _ _ (after-parse-group .parse-group .ensures) (after-count .count .given .1) (c .before .before .before .children-at .ensures) (c .before .below .given .1)))

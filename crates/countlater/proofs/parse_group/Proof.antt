@@ -21,13 +21,13 @@ parse-group-spec =
     tie.close
     (tie.spec
     Inv-loop μ-loop
-    (λ c. record { few = omega arith; passed = passed-start _ _ _ })
+    (λ c. record { few = omega arith; passed = passed-start })
     (λ c κs. search needs) (λ c. search needs)
-    (λ c. let start : tie.Start Inv-loop μ-loop = search in passed-none _ _ _ _ _ (start .pre) (c .before .before .before .loop .inv .passed) _ (c .before .before .parse-entry .ensures) (c .enum-told .given .1))
+    (λ c. let start : tie.Start Inv-loop μ-loop = search in passed-none (start .pre) (c .before .before .before .loop .inv .passed) (c .before .before .parse-entry .ensures) (c .enum-told .given .1))
     (λ c. search needs)
-    (λ c. omega (arith, extent-inside _ _ _ _ _ _ _ (c .before .before .before .parse-entry .ensures) (c .before .next .given .1)))
+    (λ c. omega (arith, extent-inside (c .before .before .before .parse-entry .ensures) (c .before .next .given .1)))
     (λ c κs. search needs)
-    (λ c. let after-parse-entry : tie.After-parse-entry Inv-loop μ-loop = search in let at-loop : tie.At-loop Inv-loop μ-loop = search in let start : tie.Start Inv-loop μ-loop = search in passed-last _ _ _ _ _ (start .pre) (at-loop .loop .inv .passed) _ (after-parse-entry .parse-entry .ensures) _ _ _ (c .before .before .before .next .given .1) _ (c .before .ends-group .ensures) (c .if1 .taken))
-    (λ c. let after-parse-entry : tie.After-parse-entry Inv-loop μ-loop = search in omega (arith, extent-inside _ _ _ _ _ _ _ (after-parse-entry .parse-entry .ensures) (c .before .before .before .next .given .1)))
-    (λ c. let after-parse-entry : tie.After-parse-entry Inv-loop μ-loop = search in let at-loop : tie.At-loop Inv-loop μ-loop = search in let start : tie.Start Inv-loop μ-loop = search in let i = extent-inside _ _ _ _ _ _ _ (after-parse-entry .parse-entry .ensures) (c .before .before .before .next .given .1) in
-    record { few = omega (arith, i .room, at-loop .loop .inv .few); passed = passed-more _ _ _ _ _ (start .pre) (at-loop .loop .inv .passed) _ (after-parse-entry .parse-entry .ensures) _ _ _ (c .before .before .before .next .given .1) _ (c .before .ends-group .ensures) (c .if1 .left) }))
+    (λ c. let after-parse-entry : tie.After-parse-entry Inv-loop μ-loop = search in let at-loop : tie.At-loop Inv-loop μ-loop = search in let start : tie.Start Inv-loop μ-loop = search in passed-last (start .pre) (at-loop .loop .inv .passed) (after-parse-entry .parse-entry .ensures) (c .before .before .before .next .given .1) (c .before .ends-group .ensures) (c .if1 .taken))
+    (λ c. let after-parse-entry : tie.After-parse-entry Inv-loop μ-loop = search in omega (arith, extent-inside (after-parse-entry .parse-entry .ensures) (c .before .before .before .next .given .1)))
+    (λ c. let after-parse-entry : tie.After-parse-entry Inv-loop μ-loop = search in let at-loop : tie.At-loop Inv-loop μ-loop = search in let start : tie.Start Inv-loop μ-loop = search in let i = extent-inside (after-parse-entry .parse-entry .ensures) (c .before .before .before .next .given .1) in
+    record { few = omega (arith, i .room, at-loop .loop .inv .few); passed = passed-more (start .pre) (at-loop .loop .inv .passed) (after-parse-entry .parse-entry .ensures) (c .before .before .before .next .given .1) (c .before .ends-group .ensures) (c .if1 .left) }))

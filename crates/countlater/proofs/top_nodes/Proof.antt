@@ -29,19 +29,19 @@ top-nodes-spec =
     (λ c. record { few = omega arith; chosen = choosing-start })
     (λ c κs. search needs) (λ c. search needs) (λ c. search needs) (λ c. search needs)
     (λ c. let in-loop : tie.In-loop Inv-loop μ-loop = search in let at-loop : tie.At-loop Inv-loop μ-loop = search in record {
-      few = omega (arith, left-behind _ _ _ _ _ (c .before .before .before .top-node-at .ensures) (c .before .next .given .1));
-      chosen = choosing-left (at-loop .loop .inv .chosen) (eqb-false 256 0 refl) (in-loop .loop-test .taken) _ (left-tally _ _ _ _ (c .before .before .before .top-node-at .ensures) _ (c .before .next .given .1));
+      few = omega (arith, left-behind _ _ _ (c .before .before .before .top-node-at .ensures) (c .before .next .given .1));
+      chosen = choosing-left (at-loop .loop .inv .chosen) (eqb-false 256 0 refl) (in-loop .loop-test .taken) _ (left-tally _ _ _ (c .before .before .before .top-node-at .ensures) (c .before .next .given .1));
     })
     (λ c. search needs) (λ c κs. search needs) (λ c. search needs)
-    (λ c. let after-top-node-at : tie.After-top-node-at Inv-loop μ-loop = search in let in-loop : tie.In-loop Inv-loop μ-loop = search in let at-loop : tie.At-loop Inv-loop μ-loop = search in choosing-bad (at-loop .loop .inv .chosen) (eqb-false 256 0 refl) (in-loop .loop-test .taken) _ (c .before .before .parse-node .ensures ∙ sym (kept-tally _ _ _ _ (after-top-node-at .top-node-at .ensures) (c .before .before .before .enum-told .given .1))) (c .enum-told2 .given .1))
+    (λ c. let after-top-node-at : tie.After-top-node-at Inv-loop μ-loop = search in let in-loop : tie.In-loop Inv-loop μ-loop = search in let at-loop : tie.At-loop Inv-loop μ-loop = search in choosing-bad (at-loop .loop .inv .chosen) (eqb-false 256 0 refl) (in-loop .loop-test .taken) _ (c .before .before .parse-node .ensures ∙ sym (kept-tally _ _ _ (after-top-node-at .top-node-at .ensures) (c .before .before .before .enum-told .given .1))) (c .enum-told2 .given .1))
     (λ c. search needs)
-    (λ c. omega (arith, node-fits _ _ _ _ _ _ _ (c .before .before .before .parse-node .ensures) (c .before .controls .given .1)))
-    (λ c. omega (arith, node-fits _ _ _ _ _ _ _ (c .before .before .before .parse-node .ensures) (c .before .controls .given .1)))
+    (λ c. omega (arith, node-fits _ _ _ (c .before .before .before .parse-node .ensures) (c .before .controls .given .1)))
+    (λ c. omega (arith, node-fits _ _ _ (c .before .before .before .parse-node .ensures) (c .before .controls .given .1)))
     (λ c. search needs) (λ c. search needs)
     (λ c. record {
-      few = omega (arith, node-fits _ _ _ _ _ _ _ (c .before .before .before .parse-node .ensures) (c .before .controls .given .1));
+      few = omega (arith, node-fits _ _ _ (c .before .before .before .parse-node .ensures) (c .before .controls .given .1));
       chosen =
           let at-parse-node = c .before .before .before in let at-enum-told = at-parse-node .before in let at-section-at = at-enum-told .before .before in let in-turn = at-section-at .before in let turn = in-turn .before in
-          choosing-more (turn .loop .inv .chosen) (eqb-false 256 0 refl) (in-turn .loop-test .taken) _ (at-parse-node .parse-node .ensures ∙ sym (kept-tally _ _ _ _ (at-section-at .top-node-at .ensures) (at-enum-told .enum-told .given .1))) _ _ _ (c .before .controls .given .1);
+          choosing-more (turn .loop .inv .chosen) (eqb-false 256 0 refl) (in-turn .loop-test .taken) _ (at-parse-node .parse-node .ensures ∙ sym (kept-tally _ _ _ (at-section-at .top-node-at .ensures) (at-enum-told .enum-told .given .1))) _ _ _ (c .before .controls .given .1);
     })
     (λ c. choosing-all (c .before .loop .inv .chosen) (c .loop-test .left)))

@@ -10,7 +10,7 @@ cast-write-sections : tie.Need-cast-write-sections
 cast-write-sections c =
     let known : tie.After-shared-slice-known = search in
     let kids : tie.After-children-at = search in
-    omega (arith, count-small _ _ _ _ (kids .children-at .ensures) (λ i. known .shared-slice-known .given i .fits) _ _ (c .before .count .given .1))
+    omega (arith, count-small _ _ _ (kids .children-at .ensures) (λ i. known .shared-slice-known .given i .fits) (c .before .count .given .1))
 
 write-sections-requires : tie.Need-write-sections-requires
 write-sections-requires c κs =
