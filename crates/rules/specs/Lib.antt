@@ -30,5 +30,7 @@ pub mod Room  -- wish 14 of document 02: how much room is enough
 pub mod NamePart  -- "Rows": the name as a part of a slice
 pub mod Listing  -- "Names and listing": `formlist`
 pub mod Pairing  -- wish 2 of document 02: controls paired with TypeInfo
+pub mod Utf8  -- wish 7 of document 02: text as UTF-8
+pub mod Csv  -- wish 7 of document 02: comma-separated text
 pub mod Dump  -- bytes as a hex dump, for the examples
 pub mod Examples  -- "Proved examples"

@@ -16,6 +16,10 @@ propertyWidth = 6
 abbrev pub typeInfoWidth : ℕ
 typeInfoWidth = 5
 
+-- a field of comma-separated text; wish 7: "a start and length for each"
+abbrev pub fieldWidth : ℕ
+fieldWidth = 2
+
 -- "Row room is the lent length divided by the row's words, rounded down."
 abbrev pub room : ℕ → List ℕ → ℕ
 room width lent = length lent / width

@@ -36,6 +36,23 @@ pub struct Room {
     pub properties: u32,
 }
 
+// Where a reader of comma-separated text is: at the start of a field, in one that isn't quoted, in one that is, after a quote in that one, after CR.
+pub enum Mode {
+    Start,
+    Plain,
+    Quoted,
+    Closing,
+    Returned,
+}
+
+// What a byte does, with where the reader is then and in which field of the record: it is none of a field's; it is the field's; it ends the field; it may not stand there.
+pub enum Step {
+    Pass { mode: Mode, field: u32 },
+    Put { mode: Mode, field: u32 },
+    Close { mode: Mode, field: u32 },
+    Refuse,
+}
+
 // ---- answers: read or written, and the refusals (specs/Answer.antt)
 pub const READ: u32 = 0;
 
@@ -60,6 +77,10 @@ pub const NO_ROOM_FOR_TEXT: u32 = 9;
 pub const NOT_A_GUID: u32 = 10;
 
 pub const BAD_ROWS: u32 = 11;
+
+pub const NO_ROOM_FOR_SHEET: u32 = 13;
+
+pub const NOT_A_SHEET: u32 = 14;
 
 pub const OTHER_LAYOUT: u32 = 15;
 
