@@ -25,6 +25,7 @@ pub mod Reading  -- "Rows": a reading, and its rows
 pub mod Read2000  -- "Access 2000 layout", from the tree to a reading
 pub mod ReadLater  -- "Later layout", from nodes to a reading
 pub mod Blob  -- "Answer numbers": a Blob's answer and rows
+pub mod Totals  -- wish 4 of document 02: running totals for a whole depot
 pub mod Rewrite  -- wish 13 of document 02: an Access 2000 stream in one spelling
 pub mod Room  -- wish 14 of document 02: how much room is enough
 pub mod NamePart  -- "Rows": the name as a part of a slice

@@ -36,6 +36,22 @@ pub struct Room {
     pub properties: u32,
 }
 
+// Running totals over many streams: by answer number, by type name, unmapped and mapped properties, by mark.
+// What each place counts stands in specs/Totals.antt.
+pub struct Totals {
+    pub answers: [u32; 6],
+    pub types: [u32; 31],
+    pub unmapped: u32,
+    pub mapped: u32,
+    pub marks: [u32; 9],
+}
+
+// What a stream's count comes to: the answer, and the totals at exit.
+pub struct Totalled {
+    pub answer: Answer,
+    pub totals: Totals,
+}
+
 // Where a reader of comma-separated text is: at the start of a field, in one that isn't quoted, in one that is, after a quote in that one, after CR.
 pub enum Mode {
     Start,
@@ -77,6 +93,8 @@ pub const NO_ROOM_FOR_TEXT: u32 = 9;
 pub const NOT_A_GUID: u32 = 10;
 
 pub const BAD_ROWS: u32 = 11;
+
+pub const OVER_CEILING: u32 = 12;
 
 pub const NO_ROOM_FOR_SHEET: u32 = 13;
 
