@@ -33,5 +33,6 @@ pub mod Listing  -- "Names and listing": `formlist`
 pub mod Pairing  -- wish 2 of document 02: controls paired with TypeInfo
 pub mod Utf8  -- wish 7 of document 02: text as UTF-8
 pub mod Csv  -- wish 7 of document 02: comma-separated text
+pub mod Panel  -- wish 11 of document 02: the rules of panels
 pub mod Dump  -- bytes as a hex dump, for the examples
 pub mod Examples  -- "Proved examples"
