@@ -34,5 +34,6 @@ pub mod Pairing  -- wish 2 of document 02: controls paired with TypeInfo
 pub mod Utf8  -- wish 7 of document 02: text as UTF-8
 pub mod Csv  -- wish 7 of document 02: comma-separated text
 pub mod Panel  -- wish 11 of document 02: the rules of panels
+pub mod Differences  -- which properties come out otherwise under a newer code table
 pub mod Dump  -- bytes as a hex dump, for the examples
 pub mod Examples  -- "Proved examples"

@@ -20,6 +20,10 @@ typeInfoWidth = 5
 abbrev pub fieldWidth : ℕ
 fieldWidth = 2
 
+-- a difference, ten words
+abbrev pub differenceWidth : ℕ
+differenceWidth = 10
+
 -- "Row room is the lent length divided by the row's words, rounded down."
 abbrev pub room : ℕ → List ℕ → ℕ
 room width lent = length lent / width
