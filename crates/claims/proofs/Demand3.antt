@@ -170,7 +170,7 @@ module _ (older newer : List ℕ) (two : Successor older newer) (s : List ℕ) w
         inr (row-by older (some r) e
         ∙ sym (row-by newer (some r) (kept older newer (two .newer-formed) (two .holds-every-row) (x .scope .kind) (x .scope .code) (x .prop .id) r e)))
 
-    row-says : RowSays older newer s x (row older) (row newer)
+    pub row-says : RowSays older newer s x (row older) (row newer)
     row-says = go (either (tied older (x .scope) (x .prop .id)) (tied newer (x .scope) (x .prop .id)) refl refl)
       where
         go : Learned older newer x ⊎ (row older ≡ row newer) → RowSays older newer s x (row older) (row newer)
@@ -289,7 +289,7 @@ module _ (older newer : List ℕ) (two : Successor older newer) (s : List ℕ) w
   unfolding is2000
   choice-same = rw (two .one-layout)
 
-not-true : (b : Bool) → ¬ (b ≡ true) → b ≡ false
+pub not-true : (b : Bool) → ¬ (b ≡ true) → b ≡ false
 not-true true h = absurd (h refl)
 not-true false h = refl
 
