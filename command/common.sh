@@ -16,7 +16,8 @@ version() {
 
 # ---- files
 scratch=
-trap '[ -z "$scratch" ] || rm -rf "$scratch"' EXIT
+beside=
+trap '[ -z "$scratch" ] || rm -rf "$scratch"; [ -z "$beside" ] || rm -f -- "$beside"' EXIT
 trap 'exit 2' HUP INT TERM
 
 # Makes the folder `scratch`, which is removed at the end.
@@ -55,23 +56,48 @@ size_of() { # FILE
     wc -c <"$1" | tr -d ' '
 }
 
+# The first byte of a file in hex, nothing for an empty one.
+first_byte() { # FILE
+    od -A n -t x1 -N 1 -- "$1" | tr -d ' \n' | tr a-f A-F
+}
+
+# Gives a new file the owner, group and mode of the file OLD that it is to replace; where there is none to keep, the usual mode.
+give_mode() { # NEW [OLD]
+    if [ -z "${2-}" ]; then
+        chmod "$(printf '%03o' $((0666 & ~$(umask))))" "$1"
+    elif ! { chown "$(stat -L -c %u:%g -- "$2")" "$1" && chmod "$(stat -L -c %a -- "$2")" "$1"; } 2>/dev/null; then
+        say "owner, group and mode of $2 can't be kept; let its owner do it"
+        return 1
+    fi
+}
+
 # Writes the last SIZE bytes of SOURCE: to standard output where TO is -, else beside the place of the file TO, which is then moved there whole.
-write_whole() { # SOURCE SIZE TO
+# What is there and isn't a file, such as /dev/null, isn't replaced but written to.
+# KEEP is a file whose owner, group and mode TO is to have. What can't be written is told, and the status is 2.
+write_whole() { # SOURCE SIZE TO [KEEP]
     if [ "$3" = - ]; then
         tail -c "$2" "$1"
         return
     fi
     place=$3
-    [ ! -d "$place" ] || die "$place is a folder; name a file in it"
+    [ ! -d "$place" ] || { say "$place is a folder; name a file in it"; return 2; }
+    if [ -e "$place" ] && [ ! -f "$place" ]; then
+        tail -c "$2" "$1" >"$place" || { say "$place can't be written"; return 2; }
+        return 0
+    fi
     case $place in -*) place=./$place ;; esac
     [ ! -L "$place" ] || place=$(readlink -f -- "$place")
-    beside=$(mktemp "$place.XXXXXX" 2>/dev/null) || die "$place can't be written: see who may write in its folder (ls -ld)"
-    if tail -c "$2" "$1" >"$beside" && [ "$(size_of "$beside")" -eq "$2" ] &&
-        chmod "$(printf '%03o' $((0666 & ~$(umask))))" "$beside" && mv -f -- "$beside" "$place"; then
+    folder=$(dirname -- "$place")
+    [ -d "$folder" ] || { say "$place can't be written: there is no folder $folder"; return 2; }
+    beside=$(mktemp "$place.XXXXXX" 2>/dev/null) || { say "$place can't be written: see who may write in its folder (ls -ld)"; return 2; }
+    if tail -c "$2" "$1" >"$beside" && [ "$(size_of "$beside")" -eq "$2" ] && give_mode "$beside" "${4-}" && mv -f -- "$beside" "$place"; then
+        beside=
         return 0
     fi
     rm -f -- "$beside"
-    die "$place can't be written"
+    beside=
+    say "$place can't be written"
+    return 2
 }
 
 # ---- the proved programs

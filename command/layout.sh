@@ -37,10 +37,10 @@ verb_option() {
     esac
 }
 
-# The first byte of a file in hex, nothing for an empty one. It is all that is read.
-first_byte() { # FILE
+# `first` is the first byte of a file. It is all that is read.
+take_first() { # FILE
     take_file "$1" 0 || return 2
-    first=$(od -A n -t x1 -N 1 -- "$taken" | tr -d ' \n' | tr a-f A-F)
+    first=$(first_byte "$taken")
 }
 
 verb_ready() {
@@ -48,7 +48,7 @@ verb_ready() {
     for file in "$@"; do
         [ "$table" != - ] || [ "$file" != - ] || wrong_use "standard input can't be both the code table and a Blob"
     done
-    first_byte "$table" || exit 2
+    take_first "$table" || exit 2
     layout=$first
     [ -n "$layout" ] || die "$table is no code table: it is empty"
 }
@@ -57,7 +57,7 @@ verb_ready() {
 verb_heading() { :; }
 
 verb_file() { # FILE
-    first_byte "$1" || return 2
+    take_first "$1" || return 2
     if [ "$first" = "$layout" ]; then
         found=2000 words="Access 2000" other="the later layout" why="it begins with $layout, the layout byte"
     else
