@@ -41,14 +41,25 @@ def long(id, value):
     return bytes([id]) + struct.pack("<i", value)
 
 
+LONG = False  # whether a short length and a list of one entry are spelled with 0xFF too
+
+
 def sized(id, value):
-    length = bytes([len(value)]) if len(value) < 255 else b"\xff" + u16(len(value))
+    length = bytes([len(value)]) if len(value) < 255 and not LONG else b"\xff" + u16(len(value))
     return bytes([id]) + length + value
 
 
 def entries(items):
-    head = b"\xfe" if len(items) == 1 else b"\xff" + u16(len(items))
+    head = b"\xfe" if len(items) == 1 and not LONG else b"\xff" + u16(len(items))
     return head + b"".join(items)
+
+
+def spelled_long(make):
+    global LONG
+    LONG = True
+    stream = make()
+    LONG = False
+    return stream
 
 
 def entry(type_code, properties, inside=None):
@@ -232,6 +243,7 @@ def main():
     for title, blob in blobs.items():
         (folder / f"{title}.blob").write_bytes(blob)
         (folder / f"{title}.input").write_bytes(u32(len(table)) + table + blob)
+    (folder / "panel-2000.long").write_bytes(spelled_long(panel_2000))  # ./oskuramos rewrite makes panel-2000.blob of it
     (folder / "form.typeinfo").write_bytes(type_info())
     (folder / "cut.typeinfo").write_bytes(type_info()[:-4])  # a copy that lost its tail, within the last name
     for office, table in OFFICES.items():
