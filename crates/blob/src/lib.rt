@@ -7,29 +7,18 @@ use rules::NAME_NUMBERED;
 use rules::NAME_TEXT;
 use rules::OTHER_LAYOUT;
 use rules::TOO_LONG;
+use text::refused;
 ghost use mathlib.Core.Path.{_≡_};
-ghost use mathlib.Core.List.{[]};
 ghost use mathlib.Core.Bool.{true};
 ghost use Prim.Native.Nat.{_+_, _≤_};
 ghost use lib.ListN.{length};
-ghost use Rattle.rules.specs.Answer.{refusal, longest};
+ghost use Rattle.rules.specs.Answer.{longest};
 ghost use Rattle.rules.specs.CodeTable.{wellFormed};
 ghost use Rattle.rules.specs.Access2000.{streamOf};
 ghost use Rattle.rules.specs.Blob.{speaks2000, is2000, readBy, exit, exit2000, exitLater};
 ghost use Rattle.rules.specs.NamePart.{namePart, partBytes};
 ghost use Rattle.rows.specs.Judge.{Exits};
 ghost use Rattle.blob.specs.Exit.{exited, partOr, placeOr, partPlace};
-
-fn refused(number: u32) -> Answer
-    ensures { λ r. ⌜ r ≡ refusal number ⌝ }
-{
-    Answer {
-        number,
-        first: 0,
-        second: 0,
-        third: 0,
-    }
-}
 
 // The stream's first byte is the code table's layout byte.
 fn is_2000(table: &[u8], stream: &[u8]) -> bool
