@@ -21,7 +21,7 @@ wordTexts =
     ∷ text "begin with layout, header, form, report, entry or a row's id"
     ∷ text "two hex digits must follow, such as layout 13"
     ∷ text "the second word must be four hex digits, as 0064"
-    ∷ text "there are too many words; remarks stand behind #"
+    ∷ text "there are too many words; remarks stand after #"
     ∷ []
 
 unfoldable pub wordsWhy : ℕ → List ℕ

@@ -37,7 +37,7 @@ fn put_words_why(out: &mut [u8], at: usize, error: u32) -> usize
         ),
         5 => put_text(out, at, b"two hex digits must follow, such as layout 13"),
         6 => put_text(out, at, b"the second word must be four hex digits, as 0064"),
-        7 => put_text(out, at, b"there are too many words; remarks stand behind #"),
+        7 => put_text(out, at, b"there are too many words; remarks stand after #"),
         _ => put_text(out, at, b"header lines stand before the first scope"),
     }
 }

@@ -1,16 +1,14 @@
--- The longest line has 131 bytes.
+-- The longest line has 130 bytes.
 use mathlib.Core.Path.{_≡_, refl}
 use mathlib.Core.Bool.{Bool, true, false}
-use mathlib.Core.List.{List, [], _∷_}
-use Prim.Native.Nat.{ℕ, _+_, _-_, _≤_}
+use mathlib.Core.List.{List, _∷_}
+use Prim.Native.Nat.{ℕ, _-_, _≤_}
 use native.Mathlib.Omega.{arith}
 use borrow.Author.Tests.{ltb-true, ltb-false, eqb-true, eqb-false}
 use lib.Dec.{ltb, eqb}
 use lib.ListN.{length, length-append}
-use Rattle.rules.specs.Digits.{decimal, hex}
 use Rattle.text.proofs.Arms.{Short, no-more, _also_, one-short}
 use Rattle.listing.proofs.Longest.{Word32, decimal-short, hex-length}
-use Rattle.tabletext.specs.Text.{scopeName}
 use Rattle.tabletext.proofs.Longest.{scope-name-short}
 use Rattle.tablebreak.specs.declared.Break.{Break}
 use Rattle.tablewords.specs.Words.{scopePlace, rowPlace, within, scopesOrder, contentsWords, contentsRule, bodyWords, bodyRule, ruleText, breakText}
@@ -31,7 +29,7 @@ pub record Words32 (b : Break) : Type 0 where
   pub row : Word32 (b .row)
   pub found : Word32 (b .found)
 
-short : {x : List ℕ} {xs : List (List ℕ)} → length x ≤ 83 → Short 83 xs → Short 83 (x ∷ xs)
+short : {x : List ℕ} {xs : List (List ℕ)} → length x ≤ 82 → Short 82 xs → Short 82 (x ∷ xs)
 short l s = l also s
 
 module _ (b : Break) (h : Words32 b) where
@@ -39,11 +37,11 @@ module _ (b : Break) (h : Words32 b) where
   within-short true e = rw (of-scope b (eqb-true (b .row) 0 e)) (omega (arith, scope-short (b .scope) (h .scope) (eqb (b .scope) 0) refl))
   within-short false e = rw (of-row b (eqb-false (b .row) 0 e)) (row-short (b .row) (b .kind) (b .code) (h .row))
 
-  order-short : length (scopesOrder b) ≤ 83
+  order-short : length (scopesOrder b) ≤ 82
   unfolding scopesOrder
   order-short = simp length-append (omega (arith, scope-name-short (b .kind) (b .code), scope-name-short (b .found) (b .before)))
 
-  contents-short : length (contentsRule b) ≤ 83
+  contents-short : length (contentsRule b) ≤ 82
   unfolding contentsRule contentsWords
   contents-short =
       let count = decimal-short (b .found) (h .found) in
@@ -53,7 +51,7 @@ module _ (b : Break) (h : Words32 b) where
       (short (omega arith) (short (simp length-append (omega arith)) (short (simp length-append (omega arith)) (short (simp length-append (omega arith)) (short (simp length-append (omega arith)) (short (simp length-append (omega arith)) no-more))))))
       order-short (b .rule)
 
-  body-short : length (bodyRule b) ≤ 83
+  body-short : length (bodyRule b) ≤ 82
   unfolding bodyRule bodyWords
   body-short =
       let count = decimal-short (b .found) (h .found) in
@@ -64,11 +62,11 @@ module _ (b : Break) (h : Words32 b) where
       (short (simp length-append (omega arith)) (short (simp length-append (omega arith)) (short (simp length-append (omega arith)) (short (simp length-append (omega arith)) (short (simp length-append (omega arith)) (short (simp length-append (omega arith)) no-more))))))
       (omega arith) (b .rule - 7)
 
-  rule-short : (t : Bool) → ltb (b .rule) 7 ≡ t → length (ruleText b) ≤ 83
+  rule-short : (t : Bool) → ltb (b .rule) 7 ≡ t → length (ruleText b) ≤ 82
   rule-short true e = rw (early b (ltb-true (b .rule) 7 e)) contents-short
   rule-short false e = rw (late b (ltb-false (b .rule) 7 e)) body-short
 
-  pub longest-break : length (breakText b) ≤ 131
+  pub longest-break : length (breakText b) ≤ 130
   unfolding breakText
   longest-break =
       simp length-append

@@ -28,12 +28,12 @@ abbrev pub coded : List ℕ → ℕ → ℕ → List ℕ → List ℕ
 coded before digits n after = before ++ (hex digits n ++ after)
 
 abbrev pub ordered : List ℕ → ℕ → ℕ → ℕ → List ℕ → List ℕ
-ordered before digits n other after = before ++ (hex digits n ++ (text " stands behind " ++ (hex digits other ++ after)))
+ordered before digits n other after = before ++ (hex digits n ++ (text " stands after " ++ (hex digits other ++ after)))
 
 unfoldable pub scopesOrder : Break → List ℕ
 scopesOrder b =
     scopeName (b .kind) (b .code)
-    ++ (text " stands behind " ++ (scopeName (b .found) (b .before)
+    ++ (text " stands after " ++ (scopeName (b .found) (b .before)
     ++ text "; form, report, entries by code must ascend"))
 
 -- the rules of the contents, by their numbers up to 5; the last, 6, is the order of scopes

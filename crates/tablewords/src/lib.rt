@@ -70,7 +70,7 @@ fn put_ordered(
 {
     let p = put_text(out, at, before);
     let p = put_hex(out, p, digits, n);
-    let p = put_text(out, p, b" stands behind ");
+    let p = put_text(out, p, b" stands after ");
     let p = put_hex(out, p, digits, other);
     put_text(out, p, after)
 }
@@ -79,7 +79,7 @@ fn put_scopes_order(out: &mut [u8], at: usize, b: Break) -> usize
     ensures { λ r. ⌜ Wrote (now (out .entry)) at (w.scopesOrder b) (now (out .exit)) r ⌝ }
 {
     let p = put_scope_name(out, at, b.kind, b.code);
-    let p = put_text(out, p, b" stands behind ");
+    let p = put_text(out, p, b" stands after ");
     let p = put_scope_name(out, p, b.found, b.before);
     put_text(out, p, b"; form, report, entries by code must ascend")
 }

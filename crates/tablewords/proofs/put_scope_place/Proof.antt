@@ -1,4 +1,3 @@
-use native.Mathlib.Omega.{arith}
 use borrow.Author.Needs.{needs}
 use Rattle.text.proofs.Chain.{nothing, _⨟_}
 use Rattle.tablewords.proofs.Sentences.{no-scope, a-scope}
