@@ -8,8 +8,8 @@ use mathlib.Core.List.{List, []}
 use mathlib.Core.Logic.{_⊎_, inl, inr}
 use lib.Dec.{leb, eqb}
 use lib.ListN.{length, take, drop}
-use borrow.Author.Tests.{le-leb, lt-leb, eq-eqb, ne-eqb}
-use Rattle.rules.specs.NamePart.{Part, ofStream, ofLabel, noPart, namePart, partBytes}
+use borrow.Author.Tests.{le-leb, lt-leb, ne-eqb}
+use Rattle.rules.specs.NamePart.{ofStream, ofLabel, noPart, namePart, partBytes}
 use Rattle.blob.specs.Exit.{partOr, Place, behind, placeOr, partPlace}
 
 pub outside : (s : List ℕ) (start size : ℕ) → length s < start + size → [] ≡ partOr s start size

@@ -7,13 +7,13 @@ use Prim.Native.Nat.{ℕ, _+_, _*_, _≤_, _<_}
 use native.Mathlib.Omega.{arith}
 use native.Mathlib.Nat.{mul-le-mul}
 use borrow.Author.Tests.{le-ltb, ltb-false, eq-eqb, ne-eqb}
-use lib.Dec.{ltb, eqb}
+use lib.Dec.{ltb}
 use lib.ListN.{length, getD, length-append}
 use Rattle.rules.specs.Answer.{longest}
 use Rattle.rules.specs.Rows.{controlWidth, propertyWidth, room, rowAt}
 use Rattle.rules.specs.CodeTable.{wellFormed}
 use Rattle.rules.specs.Reading.{Reading, properties}
-use Rattle.rules.specs.Blob.{Outcome, refused, read, fit, outcome, readingOf, answerOf, exitBy, exit}
+use Rattle.rules.specs.Blob.{Outcome, refused, read, fit, outcome, readingOf, answerOf, exit}
 use Rattle.rules.specs.Listing.{answerLine, word, controlLine, propertyLine}
 use Rattle.rules.specs.declared.Answer.{Answer}
 use Rattle.blob.specs.Exit.{exited}

@@ -1,5 +1,5 @@
 -- The listing of an input, by its parts.
-use mathlib.Core.Path.{_≡_, sym, ap, _∙_}
+use mathlib.Core.Path.{_≡_, _∙_}
 use mathlib.Core.List.{List}
 use Prim.Native.Nat.{ℕ, _+_, _-_, _≤_, _<_}
 use native.Mathlib.Omega.{arith}
@@ -7,8 +7,7 @@ use borrow.Author.Tests.{lt-ltb, le-ltb}
 use lib.ListN.{length, take, drop, length-drop}
 use lib.Seq.{take-all}
 use Rattle.rules.specs.Answer.{refusal}
-use Rattle.rules.specs.Blob.{outcome}
-use Rattle.rules.specs.Listing.{answerLine, printed, tableLength, tableIn, blobIn}
+use Rattle.rules.specs.Listing.{answerLine, tableLength, tableIn, blobIn}
 use Rattle.text.specs.Writer.{Wrote}
 use Rattle.listing.specs.Bound.{longestAnswer}
 use Rattle.listing.proofs.Longest.{answer-short}

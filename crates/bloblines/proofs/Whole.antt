@@ -5,7 +5,6 @@ use mathlib.Core.List.{List}
 use Prim.Native.Nat.{ℕ, _≤_, _<_}
 use native.Mathlib.Omega.{arith}
 use borrow.Author.Tests.{le-ltb}
-use lib.Dec.{ltb}
 use lib.ListN.{length, length-drop}
 use Rattle.rules.specs.Answer.{refusal}
 use Rattle.rules.specs.Listing.{answerLine, blobIn, listing}

@@ -1,6 +1,6 @@
 -- What is printed is the listing of all that standard input had, and a short input has it in little room.
 use mathlib.Core.Path.{_≡_, refl, sym, ap, _∙_}
-use mathlib.Core.Bool.{true, false, cond}
+use mathlib.Core.Bool.{false, cond}
 use mathlib.Core.List.{List}
 use Prim.Native.Nat.{ℕ, _+_, _*_, _≤_, _<_}
 use native.Mathlib.Omega.{arith}
@@ -15,7 +15,6 @@ use Rattle.rules.specs.Blob.{Outcome, exit}
 use Rattle.rules.specs.Listing.{answerLine, printed, tableLength, tableIn, blobIn}
 use Rattle.claims.specs.Rooms.{Never, Lent}
 use Rattle.claims.proofs.Rooms.{rooms}
-use Rattle.text.specs.Writer.{Wrote}
 use Rattle.listing.specs.Bound.{longestIn, longestType, longestName, longestAnswer, longestControl, longestProperty}
 use Rattle.listing.proofs.Placed.{held}
 use Rattle.inputs.specs.Begun.{Begun}

@@ -1,12 +1,12 @@
 -- Lists whose numbers ascend: parts of them, and looking up by halves.
-use Prim.Native.Nat.{ℕ, _+_, _≤_, _<_}
+use Prim.Native.Nat.{ℕ, _+_, _<_}
 use mathlib.Core.Path.{_≡_, refl, ap}
-use mathlib.Core.List.{List, [], _∷_, _++_, map, List·Memᴰ, List·Memᴰ·head, Memᴰ·append-right}
+use mathlib.Core.List.{List, [], _∷_, _++_, map, List·Memᴰ·head, Memᴰ·append-right}
 use mathlib.Core.Bool.{true, cond}
-use mathlib.Core.Option.{none, some}
+use mathlib.Core.Option.{some}
 use native.Mathlib.Omega.{arith}
 use lib.Dec.{eqb}
-use borrow.Author.Tests.{le-leb, eq-eqb, ne-eqb, eqb-true}
+use borrow.Author.Tests.{ne-eqb}
 use Rattle.rules.specs.Lists.{find, ascends}
 use Rattle.rules.proofs.ListLaws.{ascends-head, ascends-least}
 use Rattle.joinlaws.proofs.MergeLaws.{ascends-cons, ascends-from, at-none}

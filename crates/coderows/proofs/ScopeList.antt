@@ -12,8 +12,8 @@ use borrow.Author.Tests.{ltb-true, ltb-false}
 use lib.ListN.{length, set, getD, length-set}
 use lib.Seq.{getD-set-same, getD-set-other}
 use Rattle.rules.specs.Bytes.{byte, u16}
-use Rattle.rules.specs.CodeTable.{scopeCount, contentsAt, bodiesAt, keyOf}
-use Rattle.coderows.specs.Look.{keyAt, countAt, countsTo, Words, Listed}
+use Rattle.rules.specs.CodeTable.{scopeCount, contentsAt, keyOf}
+use Rattle.coderows.specs.Look.{countsTo, Words, Listed}
 use Rattle.codetable.proofs.Steps.{Counts}
 
 -- three words written from k on

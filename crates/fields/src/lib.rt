@@ -10,7 +10,6 @@ use text::put_text;
 use values::put_characters;
 use values::put_value;
 use values::put_word;
-ghost use mathlib.Core.Path.{_≡_};
 ghost use mathlib.Core.List.{[], _∷_, _++_};
 ghost use Rattle.rules.specs.Lists.{text};
 ghost use Rattle.rules.specs.Bytes.{part};

@@ -1,12 +1,12 @@
 -- How long a listing can be.
-use mathlib.Core.Path.{_≡_, refl, ap}
+use mathlib.Core.Path.{_≡_, refl}
 use mathlib.Core.Bool.{Bool, true, false, cond, not}
 use mathlib.Core.List.{List, [], _∷_, _++_, map}
-use Prim.Native.Nat.{ℕ, zero, suc, _+_, _*_, _-_, _/_, _%_, _≤_, _<_, min}
+use Prim.Native.Nat.{ℕ, zero, suc, _+_, _*_, _-_, _/_, _%_, _≤_, min}
 use native.Mathlib.Omega.{arith}
 use borrow.Author.Tests.{leb-true, eqb-true}
 use lib.Dec.{ltb, leb, eqb}
-use lib.ListN.{length, take, drop, length-append, length-take}
+use lib.ListN.{length, drop, length-append, length-take}
 use Rattle.rules.specs.Lists.{keep}
 use Rattle.rules.specs.Bytes.{Bytes, u16, u32, part}
 use Rattle.rules.specs.Answer.{answer, refusal, tooShort, otherMagic, tooManyEntries, tooLong, moreControls, longest}
@@ -15,7 +15,6 @@ use Rattle.rules.specs.Digits.{decimal, hex}
 use Rattle.rules.specs.NameTables.{controlTypeNames}
 use Rattle.rules.specs.TypeInfo.{Named, Info, nulTerminated, firstName, secondName, infoAt, nextInfo, infosAt, isReportedInfo, typeInfoOf, typeInfoRow, typeInfoRows, typeInfoAnswer}
 use Rattle.rules.specs.Listing.{orDash, answerLine, linesFrom}
-use Rattle.rules.specs.declared.Answer.{Answer}
 use Rattle.typeinfo.specs.Entries.{asEntry}
 use Rattle.rules.proofs.TypeInfoLaws.{name-within, next-within}
 use Rattle.typeinfo.proofs.EntryLaws.{inside}

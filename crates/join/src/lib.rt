@@ -34,7 +34,7 @@ ghost use mathlib.Core.List.{_∷_, _++_};
 ghost use Prim.Native.Nat.{_+_, _-_, _*_, _<_, _^_};
 ghost use Rattle.rules.specs.Lists.{same};
 ghost use Rattle.rules.specs.CodeTable as t;
-ghost use Rattle.rules.specs.Join.{joinRows, joinScopes, sameRow, scopesAgree, twoBytes, tiesBytes, sameHead, joinExit};
+ghost use Rattle.rules.specs.Join.{joinRows, joinScopes, sameRow, twoBytes, tiesBytes, sameHead, joinExit};
 ghost use Rattle.text.specs.Writer.{Wrote};
 ghost use Rattle.tablebytes.specs.Rows.{tieOf};
 ghost use Rattle.joinlaws.proofs.TableBytesLaws.{codesBytes, contentsBytes, bodiesBytes};

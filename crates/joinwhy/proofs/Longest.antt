@@ -1,5 +1,5 @@
 -- What is said has at most 131 bytes: a scope's line 41, a row's 45. The two heads of well-formed tables have 37 each.
-use Prim.Native.Nat.{ℕ, _+_, _*_, _≤_}
+use Prim.Native.Nat.{ℕ, _*_, _≤_}
 use native.Mathlib.Omega.{arith}
 use mathlib.Core.Path.{_≡_, refl}
 use mathlib.Core.Bool.{Bool, true, false, cond}

@@ -4,12 +4,12 @@ use native.Mathlib.Omega.{arith}
 use mathlib.Core.Path.{_≡_, refl, sym, ap, ap₂, _∙_}
 use mathlib.Core.Bool.{Bool, true, false, cond, _&&_, true≢false}
 use mathlib.Core.List.{List, [], _∷_, map}
-use mathlib.Core.Option.{Option, none, some}
+use mathlib.Core.Option.{none, some}
 use borrow.Author.Tests.{le-ltb, lt-ltb, ltb-false, le-leb, lt-leb}
 use lib.Dec.{ltb, eqb}
-use lib.ListN.{length, getD, take, drop}
+use lib.ListN.{length, take, drop}
 use lib.Seq.{drop-cons}
-use Rattle.rules.specs.Lists.{_>>=_, all, same}
+use Rattle.rules.specs.Lists.{all, same}
 use Rattle.rules.specs.Bytes.{byte, u16, part}
 use Rattle.rules.specs.Pairing.{unitsIn, isAscii, folded, namesMatch}
 use Rattle.rules.proofs.ListLaws.{and-r}

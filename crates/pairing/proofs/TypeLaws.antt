@@ -1,21 +1,21 @@
 -- The type that a control gets, by the name that is looked for.
-use Prim.Native.Nat.{ℕ, zero, suc, _+_, _*_, _-_, _/_, _%_, _≤_, _<_}
+use Prim.Native.Nat.{ℕ, zero, suc, _+_, _*_, _/_, _%_, _≤_, _<_}
 use native.Mathlib.Omega.{arith}
 use native.Mathlib.Numerals.{add-one}
 use mathlib.Core.Path.{_≡_, refl, sym, ap, _∙_}
-use mathlib.Core.Bool.{Bool, true, false, cond, _&&_, _||_}
+use mathlib.Core.Bool.{Bool, true, false, _||_}
 use mathlib.Core.List.{List, [], _∷_, _++_}
 use mathlib.Core.Option.{Option, none, some}
 use borrow.Author.Tests.{leb-true, eq-eqb, ne-eqb, le-ltb}
-use lib.Dec.{leb, eqb, ltb}
-use lib.ListN.{length, take, drop, set, length-append, length-drop}
+use lib.Dec.{leb, eqb}
+use lib.ListN.{length, drop, set, length-append, length-drop}
 use lib.Seq.{length-take-le, take-at}
 use Rattle.rules.specs.Lists.{all, find}
 use Rattle.rules.specs.Bytes.{part}
 use Rattle.rules.specs.declared.Answer.{Answer}
 use Rattle.rules.specs.Texts.{label, textExit, labelExit}
-use Rattle.rules.specs.Rows.{controlWidth, typeInfoWidth, room, rowAt}
-use Rattle.rules.specs.Pairing.{controlsIn, infosIn, cutOf, unitsIn, controlName, namesMatch, nameMatches, hasName, typeBy, pairedType, typesSet, isNamed, controlOk, mayPair}
+use Rattle.rules.specs.Rows.{controlWidth, typeInfoWidth, rowAt}
+use Rattle.rules.specs.Pairing.{controlsIn, infosIn, cutOf, unitsIn, controlName, namesMatch, hasName, typeBy, pairedType, typesSet, isNamed, controlOk}
 use Rattle.rules.proofs.ListLaws.{and-l, and-r}
 use Rattle.rules.proofs.PairingLaws.{all-rows, row-stays}
 use Rattle.text.proofs.Digits.{longest-label}

@@ -15,7 +15,7 @@ use Rattle.rules.specs.Access2000.{Prop, propertyAt, goesOn, runOf, runAt, head
 use Rattle.rules.specs.Join.{twoBytes}
 use Rattle.rules.specs.Rewrite.{propertyBytes, runBytes, many, countBytes, entryBytes, entriesBytes, treeBytes}
 use Rattle.rules.proofs.ListLaws.{Every, every-if, every-then, every-when}
-use Rattle.rules.proofs.Access2000Laws.{Within, property-within, past-end}
+use Rattle.rules.proofs.Access2000Laws.{property-within, past-end}
 use Rattle.rewrite.specs.Pieces.{headBytes, Left, prop, head, After, stop, entry}
 
 module _ (s : List ℕ) where

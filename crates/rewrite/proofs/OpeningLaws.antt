@@ -2,20 +2,19 @@
 use Prim.Native.Nat.{ℕ, _+_, _≤_, _<_}
 use native.Mathlib.Omega.{arith}
 use mathlib.Core.Path.{_≡_, refl, sym, ap, subst, _∙_}
-use mathlib.Core.Bool.{true, false}
-use mathlib.Core.List.{List, [], _∷_, _++_, append-assoc}
+use mathlib.Core.Bool.{false}
+use mathlib.Core.List.{List, [], _++_, append-assoc}
 use mathlib.Core.Option.{Option, none, some}
 use lib.Dec.{eqb}
 use lib.ListN.{length}
 use borrow.Author.Tests.{ne-eqb, le-ltb}
 use Rattle.rules.specs.Bytes.{Bytes, byteAt, halfAt}
 use Rattle.rules.specs.Access2000.{propertyAt, goesOn, headAt}
-use Rattle.rules.specs.Join.{twoBytes}
 use Rattle.rules.specs.Rewrite.{countBytes}
 use Rattle.rules.proofs.ListLaws.{Every, every-if, every-when, every-at}
 use Rattle.rules.proofs.Access2000Laws.{Within, property-within}
 use Rattle.rewrite.specs.declared.Piece.{Piece}
-use Rattle.rewrite.specs.Pieces.{headBytes, Left, prop, head, After, stop, entry, Rest, ended, going, AfterType, between, pieceBytes, InOrder, Goes, Spells}
+use Rattle.rewrite.specs.Pieces.{headBytes, Left, prop, head, After, stop, entry, Rest, ended, going, AfterType, between, pieceBytes, Goes, Spells}
 use Rattle.rewrite.proofs.Slices.{none-between, between-join, byte-is, two-is}
 
 -- what a list begins with: any number of entries but one has two bytes after 0xFF

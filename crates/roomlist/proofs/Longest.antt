@@ -1,13 +1,11 @@
 -- Room by a length is small, and what is printed of it short.
-use mathlib.Core.Path.{_≡_}
 use mathlib.Core.List.{List}
-use Prim.Native.Nat.{ℕ, _+_, _≤_, _-_, _/_, min, max}
+use Prim.Native.Nat.{ℕ, _+_, _≤_}
 use native.Mathlib.Nat.{min-le-right}
 use native.Mathlib.Omega.{arith}
 use lib.ListN.{length, length-append}
 use Rattle.rules.specs.Answer.{longest}
 use Rattle.rules.specs.Lists.{text}
-use Rattle.rules.specs.Digits.{decimal}
 use Rattle.rules.specs.Room.{readable, room2000, roomLater, roomFor, typeInfoRoom}
 use Rattle.rules.specs.declared.Room.{Room}
 use Rattle.listing.proofs.Longest.{Word32, decimal-short}

@@ -1,6 +1,5 @@
 -- What remains to be written, whatever the layout: `o` is left to write from here, and then `whole` is written.
 use Prim.Native.Nat.{ℕ}
-use native.Mathlib.Omega.{arith}
 use mathlib.Core.Path.{_≡_, refl, sym, _∙_}
 use mathlib.Core.List.{[]}
 use mathlib.Core.Option.{some}

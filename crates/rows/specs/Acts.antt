@@ -1,6 +1,6 @@
 -- What writing the nodes of a tree does, whatever the layout: `f` makes a control of a node.
 use Prim.Native.Nat.{ℕ, _+_, _≤_}
-use mathlib.Core.List.{List, [], _++_, map}
+use mathlib.Core.List.{List, _++_, map}
 use mathlib.Core.Option.{Option, none, some}
 use lib.ListN.{length}
 use Rattle.rules.specs.Lists.{_>>=_}

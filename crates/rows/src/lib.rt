@@ -12,7 +12,7 @@ ghost use mathlib.Core.Path.{_≡_};
 ghost use mathlib.Core.List.{[], _∷_, _++_};
 ghost use Prim.Native.Nat.{_+_, _*_, _/_, _≤_};
 ghost use lib.ListN.{length};
-ghost use Rattle.rules.specs.Answer.{answer, longest};
+ghost use Rattle.rules.specs.Answer.{answer};
 ghost use Rattle.rules.specs.Rows.{controlWidth, propertyWidth, typeInfoWidth, rowAt};
 ghost use Rattle.rules.specs.Reading.{nameWords, propertyRow};
 ghost use Rattle.rules.specs.Listing.{word};

@@ -1,15 +1,15 @@
 -- A table in which nothing is found is well formed.
 use mathlib.Core.Path.{_≡_, refl, sym, ap, _∙_}
 use mathlib.Core.Bool.{Bool, true, false, _&&_, _||_, cond, or-true}
-use mathlib.Core.List.{List, _∷_, map}
+use mathlib.Core.List.{List, map}
 use Prim.Native.Nat.{ℕ, zero, suc, _+_, _*_, _-_, _/_, _%_, _≤_}
 use native.Mathlib.Omega.{arith}
 use borrow.Author.Tests.{lt-ltb, le-leb, ltb-true, ltb-false, eq-eqb, eqb-true, eqb-false}
-use lib.Dec.{leb, ltb, eqb}
+use lib.Dec.{ltb, eqb}
 use lib.ListN.{length}
 use Rattle.rules.specs.Lists.{all, ascends}
 use Rattle.rules.specs.Bytes.{byte, u16}
-use Rattle.rules.specs.CodeTable.{idOf, key, keyOf, headerCount, scopeCount, contentsAt, bodiesAt, header, scopes, codesAt, tiesAt, scopesAt, tieOk, tiesOk, scopeOk, rowCount, scopesFit, wellFormed}
+use Rattle.rules.specs.CodeTable.{idOf, key, keyOf, headerCount, scopeCount, contentsAt, bodiesAt, codesAt, tiesAt, scopesAt, tieOk, tiesOk, scopeOk, scopesFit, wellFormed}
 use Rattle.joinlaws.proofs.MergeLaws.{failed}
 use Rattle.tablebreak.specs.declared.Break.{Break}
 use Rattle.tablebreak.specs.Rules.{manyHeaders, manyScopes, scopeKind, scopeCode, scopeOrder, idOrder, idHigh, targetHigh, rowKind, tooLong, longest, broken, unbroken, placed, orElse, headerBreak, orderRule, scopeRule, scopeBreak, rowRule, rowBreak, rowsBreak, endOf, short, bodyBreak, searched, breakOf}

@@ -10,7 +10,7 @@ use borrow.Author.Tests.{lt-ltb, le-ltb, eq-eqb, ne-eqb}
 use lib.Dec.{ltb}
 use lib.ListN.{length}
 use Rattle.rules.specs.Bytes.{byte, u16}
-use Rattle.rules.specs.CodeTable.{keyOf, headerCount, scopeCount, contentsAt, bodiesAt, tiesAt, scopesAt, rowCount, wellFormed}
+use Rattle.rules.specs.CodeTable.{keyOf, headerCount, scopeCount, contentsAt, bodiesAt, scopesAt, rowCount, wellFormed}
 use Rattle.codetable.specs.Reads.{ReadsRow}
 use Rattle.codetable.specs.declared.RowRead.{RowRead}
 use Rattle.codetable.proofs.Steps.{CodeRead, ScopeRead}

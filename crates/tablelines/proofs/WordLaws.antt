@@ -3,16 +3,15 @@ use Prim.Native.Nat.{ℕ, zero, suc, _+_, _*_, _-_, _≤_, _<_}
 use native.Mathlib.Omega.{arith}
 use native.Mathlib.Numerals.{add-one}
 use mathlib.Core.Path.{_≡_, refl, sym, ap, _∙_}
-use mathlib.Core.Bool.{Bool, true, false, not, cond, _&&_, and-false}
+use mathlib.Core.Bool.{Bool, true, false, not, and-false}
 use mathlib.Core.List.{List, [], _∷_}
 use borrow.Author.Tests.{lt-ltb, le-ltb, le-leb, lt-leb, eq-eqb, ne-eqb, eqb-true, eqb-false, ltb-true, ltb-false}
 use lib.Dec.{ltb, eqb}
-use lib.ListN.{length, getD, take, drop, drop-of-length-le}
+use lib.ListN.{length, getD, drop, drop-of-length-le}
 use lib.Seq.{drop-cons}
 use Rattle.rules.specs.Lists.{same}
 use Rattle.tablelines.specs.Words.{lineEnd, sign, letter, blank, isBlank, stops, before, onward, word, afterWord, digitOf, byteOf, codeOf, twoOf, fourOf}
 use Rattle.tablelines.specs.Items.{between, Digit, Until, WordAt}
-use Rattle.tablelines.specs.declared.Word.{Word}
 
 -- ---- what a byte stops
 pub space-blank : (b : ℕ) → b ≡ 32 → isBlank b ≡ eqb b 32

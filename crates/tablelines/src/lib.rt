@@ -11,7 +11,7 @@ use rules::SCOPE_FORM;
 use rules::SCOPE_REPORT;
 ghost use mathlib.Core.Path.{_≡_};
 ghost use Prim.Native.Nat.{_≤_, _<_};
-ghost use lib.ListN.{length, getD, drop};
+ghost use lib.ListN.{length};
 ghost use Rattle.rules.specs.Lists.{same};
 ghost use Rattle.tablelines.specs.Words as w;
 ghost use Rattle.tablelines.specs.Items as i;

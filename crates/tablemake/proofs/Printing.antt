@@ -12,7 +12,7 @@ use Rattle.tabletext.specs.Input.{Began}
 use Rattle.tabletext.proofs.Told.{told}
 use Rattle.tablemaking.specs.Judged.{judged}
 use Rattle.tablelines.specs.Faults.{longText}
-use Rattle.tablemaking.specs.Made.{tableSaid, longestText, MadeExit, MadeAs, makeExit, written}
+use Rattle.tablemaking.specs.Made.{tableSaid, longestText, MadeExit, MadeAs, makeExit}
 use Rattle.tablemaking.specs.declared.Made.{Made}
 use Rattle.tablemaking.proofs.Formed.{said-short}
 use Rattle.tablemaking.proofs.Making.{too-long, bad-line, with-room}

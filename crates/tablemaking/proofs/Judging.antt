@@ -1,8 +1,8 @@
 -- Judging, one test and one line at a time.
 use Prim.Native.Nat.{ℕ, _+_, _≤_, _<_}
 use native.Mathlib.Omega.{arith}
-use mathlib.Core.Path.{_≡_, refl, sym, ap, _∙_}
-use mathlib.Core.List.{List, [], _∷_}
+use mathlib.Core.Path.{_≡_, ap}
+use mathlib.Core.List.{List, []}
 use borrow.Author.Tests.{lt-ltb, le-ltb, eq-eqb, ne-eqb}
 use lib.ListN.{length, drop, drop-of-length-le}
 use Rattle.tablelines.specs.Faults.{noLayout, layoutFirst, layoutTwice, headerLate, headerOrder, manyHeaders, scopeOrder, manyScopes, rowEarly, idOrder, idHigh, targetHigh}
@@ -11,7 +11,7 @@ use Rattle.tablelines.specs.Items.{itemsOf, LineAt}
 use Rattle.tablelines.specs.declared.Item.{Item}
 use Rattle.tablelines.specs.declared.Item.the-variants.{Nothing, Layout, Header, Scope, Row, Bad}
 use Rattle.tablelines.specs.declared.Line.{Line}
-use Rattle.tablemaking.specs.Judged.{nothingSeen, Few, after, headerFault, scopeFault, rowFault, belowLayout, layoutFault, faultOf, unnamed, broken, kept, judgeEnd, judgeFrom, judged}
+use Rattle.tablemaking.specs.Judged.{nothingSeen, Few, after, headerFault, scopeFault, rowFault, belowLayout, layoutFault, faultOf, unnamed, broken, kept, judgeEnd, judgeFrom}
 use Rattle.tablemaking.specs.declared.Seen.{Seen}
 
 -- ---- a header code

@@ -6,7 +6,7 @@ use Rattle.rules.specs.Bytes.{Bytes}
 use Rattle.joinlaws.proofs.BytesLaws.{table-bytes}
 use Rattle.tablemaking.specs.Judged.{judged}
 use Rattle.tablemaking.specs.Made.{tableSaid}
-use Rattle.tablemaking.proofs.Formed.{headersIn, scopesIn, counts, few-headers, few-scopes, said-good, said-fits}
+use Rattle.tablemaking.proofs.Formed.{headersIn, scopesIn, counts, few-headers, said-good, said-fits}
 
 pub said-bytes : (s : List ℕ) → judged s .error ≡ 0 → Bytes (tableSaid s)
 unfolding tableSaid

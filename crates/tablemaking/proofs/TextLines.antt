@@ -2,7 +2,7 @@
 use Prim.Native.Nat.{ℕ, zero, suc, _+_, _*_, _-_, _/_, _%_, _≤_, _<_}
 use native.Mathlib.Omega.{arith}
 use mathlib.Core.Path.{_≡_, refl, sym, ap, _∙_}
-use mathlib.Core.Bool.{Bool, true, false, cond, not, _&&_, _||_}
+use mathlib.Core.Bool.{Bool, true, false, cond, not, _||_}
 use mathlib.Core.List.{List, [], _∷_, _++_, append-assoc}
 use mathlib.Core.Logic.{_⊎_, inl, inr}
 use mathlib.Core.Option.{Option, none, some}
@@ -17,7 +17,7 @@ use Rattle.rules.specs.Names.{hasId, nameText, nameIn, namesFor}
 use Rattle.rules.specs.CodeTable.{Tie}
 use Rattle.rules.proofs.ListLaws.{and-l, and-r, all-there, found-there}
 use Rattle.tabletext.specs.Text.{remark, kindWord, markOf, rowLine, scopeName, typeRemark, scopeLine, headerLine}
-use Rattle.tablelines.specs.Words.{onto, linesOf, lineEnd, sign, letter, blank, isBlank, stops, before, onward, word, afterWord, digitOf, byteOf, twoOf, codeOf, fourOf, rowKindOf}
+use Rattle.tablelines.specs.Words.{onto, linesOf, lineEnd, sign, letter, blank, isBlank, stops, before, onward, word, afterWord, digitOf, byteOf, twoOf, fourOf, rowKindOf}
 use Rattle.tablelines.proofs.WordLaws.{other-length, a-byte, a-code}
 use Rattle.tablelines.specs.Items.{Digit, itemOf, itemIn, itemBy, itemsOf, numberFault, unless, layoutItem, headerItem, plainScopeItem, entryItem, rowItem}
 use Rattle.tablelines.specs.declared.Item.{Item}

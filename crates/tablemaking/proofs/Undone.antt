@@ -1,5 +1,5 @@
 -- A table's text is taken and says the table: what its lines say, that no rule is broken, and the promises.
-use Prim.Native.Nat.{ℕ, zero, suc, _+_, _*_, _≤_, _<_}
+use Prim.Native.Nat.{ℕ, zero, suc, _+_, _≤_, _<_}
 use native.Mathlib.Omega.{arith}
 use mathlib.Core.Path.{_≡_, refl, sym, ap, _∙_}
 use mathlib.Core.Bool.{Bool, true, false, cond}
@@ -9,7 +9,7 @@ use lib.ListN.{length}
 use borrow.Author.Tests.{leb-true, ltb-true, lt-ltb, le-ltb, ne-eqb, eq-eqb, eqb-true, eqb-false}
 use Rattle.rules.specs.Lists.{all, ascends}
 use Rattle.rules.specs.Bytes.{Bytes, u16}
-use Rattle.rules.specs.CodeTable.{Tie, Scope, idOf, keyOf, key, layout, headerCount, scopeCount, contentsAt, bodiesAt, header, scopes, codesAt, scopesAt, tieOk, scopeOk, wellFormed}
+use Rattle.rules.specs.CodeTable.{Tie, Scope, idOf, keyOf, key, layout, headerCount, scopeCount, contentsAt, bodiesAt, header, scopes, codesAt, tieOk, scopeOk, wellFormed}
 use Rattle.rules.proofs.ListLaws.{and-l, and-r}
 use Rattle.rules.proofs.CodeTableLaws.{formed}
 use Rattle.joinlaws.proofs.TableBytesLaws.{length-codesAt, length-scopesAt, written-again}

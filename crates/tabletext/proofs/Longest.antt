@@ -13,7 +13,7 @@ use Rattle.rules.specs.Digits.{hex}
 use Rattle.rules.specs.NameTables.{textNames, numberNames, bytesNames, controlTypeNames}
 use Rattle.rules.specs.Names.{nameIn, namesFor}
 use Rattle.rules.specs.Listing.{orDash}
-use Rattle.rules.specs.CodeTable.{Tie, Scope, layout, headerCount, scopeCount, contentsAt, bodiesAt, header, scopes, codesAt, scopeOk, wellFormed}
+use Rattle.rules.specs.CodeTable.{Tie, Scope, layout, headerCount, scopeCount, contentsAt, bodiesAt, header, scopes, scopeOk, wellFormed}
 use Rattle.rules.proofs.ListLaws.{and-l, and-r}
 use Rattle.rules.proofs.CodeTableLaws.{formed}
 use Rattle.joinlaws.proofs.TableBytesLaws.{length-codesAt, length-scopesAt}

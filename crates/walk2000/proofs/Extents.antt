@@ -9,7 +9,7 @@ use lib.Dec.{leb, ltb, eqb}
 use lib.ListN.{length}
 use Rattle.rules.specs.Bytes.{Bytes, byte, byteAt, halfAt}
 use Rattle.rules.specs.Access2000.{lengthAt, extentAt, propertyAt}
-use Rattle.rules.proofs.ListLaws.{Every, every-if, every-then, every-when}
+use Rattle.rules.proofs.ListLaws.{Every, every-if, every-then}
 use Rattle.walk2000.specs.Told as told
 use Rattle.propvalue.specs.Sized.{sizeOf, Sized}
 use Rattle.propvalue.specs.declared.Size.{Size}

@@ -1,6 +1,6 @@
 use native.Mathlib.Omega.{arith}
 use borrow.Author.Needs.{needs}
-use Rattle.bloblines.proofs.BlobLaws.{Words, blob-refused, blob-read}
+use Rattle.bloblines.proofs.BlobLaws.{blob-refused, blob-read}
 use Rattle.bloblines.proofs.blob_lines.Statement.{statement}
 use Rattle.bloblines.proofs.blob_lines.Tie as tie
 

@@ -1,6 +1,6 @@
 use mathlib.Core.Path.{_∙_}
 use native.Mathlib.Omega.{arith}
-use Rattle.names.proofs.Directory.{ids-there, ids-ascend, there, name-is, no-name}
+use Rattle.names.proofs.Directory.{ids-there, ids-ascend, name-is, no-name}
 use borrow.Author.Needs.{needs}
 use Rattle.names.proofs.name_in.Statement.{statement}
 use Rattle.names.proofs.name_in.Tie as tie

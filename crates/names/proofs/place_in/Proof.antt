@@ -1,5 +1,4 @@
-use Prim.Native.Nat.{ℕ, _+_, _-_, _/_, _≤_}
-use lib.ListN.{length}
+use Prim.Native.Nat.{ℕ, _+_, _-_, _/_}
 use native.Mathlib.Omega.{arith}
 use Rattle.names.proofs.Bracket.{Bracket, start, up, down, placed, nowhere}
 use Rattle.names.proofs.place_in.Statement.{statement}

@@ -1,9 +1,8 @@
 use mathlib.Core.Path.{ap, _∙_}
 use native.Mathlib.Omega.{arith}
 use borrow.Author.Needs.{needs}
-use Rattle.rules.specs.NameTables.{Table, textNames, numberNames, bytesNames, controlTypeNames}
+use Rattle.rules.specs.NameTables.{Table, textNames, numberNames, bytesNames}
 use Rattle.rules.specs.Names.{nameIn}
-use Rattle.nametables.specs.Directory.{allNames}
 use Rattle.names.proofs.InOrder as in-order
 use Rattle.names.proofs.Marks.{numbers, texts, bytes, none}
 use Rattle.names.proofs.value_name_in.Statement.{statement}

@@ -1,7 +1,7 @@
 use native.Mathlib.Omega.{arith}
 use borrow.Author.Needs.{needs}
 use borrow.Author.Tests.{not-true, not-false}
-use mathlib.Core.Path.{_≡_, sym, _∙_}
+use mathlib.Core.Path.{sym, _∙_}
 use Rattle.pairing.proofs.ExitLaws.{few-controls, few-infos, bad-controls, by-infos}
 use Rattle.pairing.proofs.may_pair.Statement.{statement}
 use Rattle.pairing.proofs.may_pair.Tie as tie

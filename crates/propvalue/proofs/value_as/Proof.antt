@@ -3,7 +3,7 @@ use Prim.Native.Nat.{ℕ}
 use native.Mathlib.Omega.{arith}
 use borrow.Author.Tests.{ne-eqb}
 use borrow.Author.Needs.{needs}
-use Rattle.rules.specs.Value.{value, valueAs}
+use Rattle.rules.specs.Value.{valueAs}
 use Rattle.propvalue.specs.Parts.{doubleOrBinary, guidOrBinary}
 use Rattle.propvalue.proofs.Values.{by-id, by-kind}
 use Rattle.propvalue.proofs.value_as.Statement.{statement}

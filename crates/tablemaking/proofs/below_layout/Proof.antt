@@ -1,4 +1,4 @@
-use mathlib.Core.Path.{sym, ap, _∙_}
+use mathlib.Core.Path.{sym}
 use Rattle.tablemaking.proofs.Judging.{not-named, is-named}
 use Rattle.tablemaking.proofs.below_layout.Statement.{statement}
 use Rattle.tablemaking.proofs.below_layout.Tie as tie

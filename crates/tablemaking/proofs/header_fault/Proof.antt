@@ -1,4 +1,4 @@
-use mathlib.Core.Path.{sym, ap, _∙_}
+use mathlib.Core.Path.{sym}
 use Rattle.tablemaking.proofs.Judging.{late, header-low, header-many, header-kept}
 use native.Mathlib.Omega.{arith}
 use Rattle.tablemaking.proofs.header_fault.Statement.{statement}

@@ -1,4 +1,4 @@
-use mathlib.Core.Path.{sym, ap, _∙_}
+use mathlib.Core.Path.{sym, _∙_}
 use Rattle.tablemaking.proofs.Judging.{no-layout, all-kept}
 use borrow.Author.Needs.{needs}
 use native.Mathlib.Omega.{arith}

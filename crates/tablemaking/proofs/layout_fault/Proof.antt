@@ -1,4 +1,4 @@
-use mathlib.Core.Path.{sym, ap, _∙_}
+use mathlib.Core.Path.{sym}
 use Rattle.tablemaking.proofs.Judging.{first-layout, second-layout}
 use Rattle.tablemaking.proofs.layout_fault.Statement.{statement}
 use Rattle.tablemaking.proofs.layout_fault.Tie as tie

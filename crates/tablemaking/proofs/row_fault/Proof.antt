@@ -1,4 +1,4 @@
-use mathlib.Core.Path.{sym, ap, _∙_}
+use mathlib.Core.Path.{sym}
 use Rattle.tablemaking.proofs.Judging.{early, high, row-low, target-high, row-kept}
 use native.Mathlib.Omega.{arith}
 use Rattle.tablemaking.proofs.row_fault.Statement.{statement}

@@ -1,4 +1,4 @@
-use mathlib.Core.Path.{sym, ap, _∙_}
+use mathlib.Core.Path.{sym}
 use Rattle.tablemaking.proofs.Judging.{scope-low, scope-many, scope-kept}
 use native.Mathlib.Omega.{arith}
 use Rattle.tablemaking.proofs.scope_fault.Statement.{statement}

@@ -1,5 +1,5 @@
 -- `write_entries` writes a row for each reported entry. Invariant: the rows from `p` on, put from row `at` on, are all that is left to write.
-use Prim.Native.Nat.{ℕ, _+_, _*_, _-_, _≤_, _<_}
+use Prim.Native.Nat.{ℕ, _+_, _-_, _≤_, _<_}
 use native.Mathlib.Omega.{arith}
 use mathlib.Core.Path.{_≡_, refl, sym, ap₂, _∙_}
 use mathlib.Core.List.{List, map}

@@ -1,5 +1,5 @@
 use mathlib.Core.Bool.{false}
-use mathlib.Core.Path.{_≡_, _∙_}
+use mathlib.Core.Path.{_∙_}
 use native.Mathlib.Omega.{arith}
 use borrow.Author.Needs.{needs}
 use Rattle.rules.specs.Utf16.{isUtf16}
