@@ -1,9 +1,9 @@
 -- Pairing: the rows that it counts, the words that it sets, and that it looks at none of these.
 use Prim.Native.Nat.{ℕ, zero, suc, _+_, _*_, _≤_, _<_}
 use native.Mathlib.Omega.{arith}
-use mathlib.Core.Path.{_≡_, refl, sym, ap, ap₂, _∙_}
-use mathlib.Core.Bool.{Bool, true, false, cond, _&&_}
-use mathlib.Core.List.{List, [], _∷_}
+use mathlib.Core.Path.{_≡_, refl, sym, ap, _∙_}
+use mathlib.Core.Bool.{Bool, true, false, cond}
+use mathlib.Core.List.{List}
 use mathlib.Core.Option.{Option, none, some}
 use lib.Dec.{ltb, eqb}
 use lib.ListN.{length, getD, take, drop, set, length-set}
@@ -13,7 +13,7 @@ use Rattle.rules.specs.Lists.{all, find}
 use Rattle.rules.specs.Answer.{answer, refusal, badRows}
 use Rattle.rules.specs.Rows.{controlWidth, typeInfoWidth, room, rowAt}
 use Rattle.rules.specs.Listing.{word}
-use Rattle.rules.specs.Pairing.{rowsFrom, controlsIn, infosIn, typeOf, markOf, startOf, sizeOf, controlName, typeBy, hasName, pairedType, typesSet, isNamed, controlOk, mayPair, PairExit, pairExit}
+use Rattle.rules.specs.Pairing.{rowsFrom, controlsIn, infosIn, typeOf, markOf, startOf, sizeOf, controlName, typeBy, hasName, pairedType, typesSet, isNamed, controlOk, mayPair, pairExit}
 use Rattle.rules.proofs.ListLaws.{and-l, and-r}
 
 -- ---- rows by their place

@@ -9,7 +9,7 @@ use Rattle.rules.specs.Answer.{answer}
 use Rattle.rules.specs.CodeTable.{header}
 use Rattle.rules.specs.Tree.{Entries, Node, nodesOf}
 use Rattle.rules.specs.Access2000.{Prop}
-use Rattle.rules.specs.Reading.{Control, Reading, properties, propertiesOf, controlRow, controlRowsFrom, controlRows}
+use Rattle.rules.specs.Reading.{properties, propertiesOf, controlRow, controlRowsFrom, controlRows}
 use Rattle.rules.specs.Read2000.{objectKey, entryKey, propertyIn, controlOf, read2000, Spot, spotIn, nodeSpots, spotsOf}
 use Rattle.rules.specs.Blob.{counted}
 use Rattle.rules.specs.declared.Property.{Property}

@@ -1,6 +1,6 @@
 -- What a Blob comes to: a refusal, or a reading. The answer and both lent slices at exit are functions of it.
 use Prim.Native.Nat.{ℕ}
-use mathlib.Core.Bool.{Bool, true, false, cond, not, _&&_}
+use mathlib.Core.Bool.{Bool, cond, not, _&&_}
 use mathlib.Core.List.{List, []}
 use mathlib.Core.Option.{Option, none, some}
 use lib.Dec.{ltb, eqb}

@@ -1,12 +1,12 @@
 -- The later layout, as a tree and as a scan.
 use Prim.Native.Nat.{ℕ, zero, suc, _+_}
 use mathlib.Core.List.{List, [], _∷_, map}
-use mathlib.Core.Bool.{Bool, true, false, not, cond, _&&_, _||_}
+use mathlib.Core.Bool.{Bool, true, false, not, cond, _&&_}
 use mathlib.Core.Option.{Option, none, some}
 use lib.Dec.{ltb, leb, eqb}
 use lib.ListN.{length}
 use Rattle.rules.specs.Lists.{_>>=_, keep}
-use Rattle.rules.specs.Bytes.{byte, u16, u32}
+use Rattle.rules.specs.Bytes.{u16, u32}
 use Rattle.rules.specs.Tree.{Entry, plain, parent, Entries, end, more, levelsAt, levels, Node, noParent, nodeIn, nodesOf}
 
 -- a property as stored: its id, its type, and where its value's bytes stand

@@ -1,13 +1,10 @@
 -- The reading: the object's properties, and controls in output order. It is one for both layouts; what is counted and written
 -- are functions of it alone.
 use Prim.Native.Nat.{ℕ, _+_}
-use mathlib.Core.Bool.{Bool, true, false, cond}
 use mathlib.Core.List.{List, [], _∷_, _++_, map}
-use mathlib.Core.Option.{Option, none, some}
 use lib.ListN.{length}
 use Rattle.rules.specs.Lists.{concat}
 use Rattle.rules.specs.Texts.{label}
-use Rattle.rules.specs.declared.Value.{Value}
 use Rattle.rules.specs.declared.Property.{Property}
 use Rattle.rules.specs.declared.Name.{Name}
 use Rattle.rules.specs.declared.Name.the-variants.{Text, Numbered, Loose}

@@ -1,7 +1,7 @@
 -- What a Blob of either layout is read into: entries that may hold entries. The code table has no part in it.
 -- P is what a layout knows of a property as stored.
 use Prim.Native.Nat.{ℕ, zero, suc, _+_}
-use mathlib.Core.Bool.{Bool, true, false, cond, _&&_}
+use mathlib.Core.Bool.{Bool, true, cond, _&&_}
 use mathlib.Core.List.{List, [], _∷_, _++_}
 use mathlib.Core.Option.{Option, none, some}
 use lib.Dec.{leb}

@@ -1,7 +1,7 @@
 -- Values: a mark with low and high.
 -- "Marks: 0 Bool, 1 NotDefault, 2 Short, 3 Long, 4 Double, 5 Guid, 6 Text, 7 Binary, 8 Text that isn't UTF-16. .. Unused low and high are 0."
 use Prim.Native.Nat.{ℕ, suc, _+_, _*_, _-_, _/_, _%_, _^_}
-use mathlib.Core.Bool.{Bool, true, false, cond, _&&_, _||_}
+use mathlib.Core.Bool.{Bool, cond, _&&_, _||_}
 use mathlib.Core.List.{List}
 use mathlib.Core.Option.{Option, none, some}
 use lib.Bits.{bitOr}
