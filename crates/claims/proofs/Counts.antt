@@ -3,7 +3,7 @@ use Prim.Native.Nat.{ℕ, _*_, _≤_}
 use native.Mathlib.Omega.{arith}
 use mathlib.Core.Path.{_≡_, refl, sym, ap, _∙_}
 use mathlib.Core.Bool.{Bool, true, false, not, cond}
-use mathlib.Core.List.{List, [], _∷_, _++_, map}
+use mathlib.Core.List.{List, _++_}
 use mathlib.Core.Option.{Option, none, some}
 use borrow.Author.Tests.{ltb-false, eq-eqb}
 use lib.Dec.{ltb}
@@ -11,12 +11,13 @@ use lib.ListN.{length, drop, length-map}
 use Rattle.rules.specs.Answer.{refusal, tooLong, badTable, moreControls, moreProperties, longest}
 use Rattle.rules.specs.CodeTable.{wellFormed}
 use Rattle.rules.specs.Lists.{concat}
-use Rattle.rules.specs.TypeInfo.{Info, typeInfoOf, typeInfoRow, typeInfoRows, typeInfoAnswer, typeInfoExit}
+use Rattle.rules.specs.TypeInfo.{typeInfoOf, typeInfoRows, typeInfoAnswer, typeInfoExit}
 use Rattle.rules.specs.Rows.{controlWidth, propertyWidth, typeInfoWidth, room, written}
 use Rattle.rules.specs.declared.Answer.{Answer}
 use Rattle.rules.specs.Reading.{Reading, properties, controlRows, propertyRows}
 use Rattle.rules.specs.Blob.{refused, read, counted, readingOf, fit, outcome, exitBy, exit}
-use Rattle.rules.proofs.RowsLaws.{Wide, written-is}
+use Rattle.rules.proofs.RowsLaws.{written-is}
+use Rattle.rules.proofs.TypeInfoLaws.{info-wide}
 use Rattle.rules.proofs.ReadingLaws.{controls-wide, properties-wide, controls-counted, properties-counted}
 use Rattle.claims.specs.Answers.{TypeInfoAnswer}
 use Rattle.claims.specs.Counts.{Counted, InfoCounted, AllCounts}
@@ -73,10 +74,6 @@ module _ (t s cs ps : List ℕ) (r : Reading) (e : outcome t s (room controlWidt
       }
 
 -- ---- TypeInfo, the same
-pub info-wide : (is : List Info) → Wide typeInfoWidth (map typeInfoRow is)
-info-wide [] = tt
-info-wide (i ∷ is) = (refl, info-wide is)
-
 pub info-many : (s : List ℕ) → length (typeInfoRows s) ≡ length (typeInfoOf s)
 unfolding typeInfoRows
 info-many s = simp length-map

@@ -14,9 +14,9 @@ use Rattle.rules.specs.Rows.{typeInfoWidth, rowAt}
 use Rattle.rules.specs.TypeInfo.{Named, Info, beforeNul, nulTerminated, firstName, secondName, infoAt, nextInfo, infosAt, isReportedInfo, typeInfoOf, typeInfoRow, typeInfoRows, typeInfoExit}
 use Rattle.rules.proofs.ListLaws.{getD-map}
 use Rattle.rules.proofs.RowsLaws.{row-of-words}
-use Rattle.rules.proofs.TypeInfoLaws.{name-within, next-within, no-nul-in, at-nul, at-end}
+use Rattle.rules.proofs.TypeInfoLaws.{name-within, next-within, no-nul-in, at-nul, at-end, info-wide}
 use Rattle.claims.specs.CutNames.{CutNames, Wish6}
-use Rattle.claims.proofs.Counts.{info-wide, info-many, info-counts}
+use Rattle.claims.proofs.Counts.{info-many, info-counts}
 
 -- ---- a name
 -- no NUL stands in it

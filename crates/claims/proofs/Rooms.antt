@@ -1,16 +1,15 @@
 -- Wish 14 holds.
-use Prim.Native.Nat.{ℕ, zero, suc, _+_, _*_, _-_, _/_, _≤_}
+use Prim.Native.Nat.{ℕ, zero, _+_, _*_, _-_, _/_, _≤_}
 use native.Mathlib.Omega.{arith}
 use mathlib.Core.Path.{_≡_, refl, subst}
 use mathlib.Core.Bool.{Bool, true, false, cond}
-use mathlib.Core.List.{List, [], _∷_}
+use mathlib.Core.List.{List}
 use mathlib.Core.Option.{Option, none, some}
-use lib.Dec.{ltb, leb}
+use lib.Dec.{ltb}
 use lib.ListN.{length}
 use borrow.Author.Tests.{ltb-true, ltb-false}
-use Rattle.rules.specs.Lists.{keep}
 use Rattle.rules.specs.Bytes.{u32}
-use Rattle.rules.specs.TypeInfo.{Info, infoAt, nextInfo, infosAt, isReportedInfo, typeInfoOf, typeInfoAnswer, typeInfoExit}
+use Rattle.rules.specs.TypeInfo.{typeInfoOf, typeInfoAnswer, typeInfoExit}
 use Rattle.rules.specs.Rows.{controlWidth, propertyWidth, typeInfoWidth, room}
 use Rattle.rules.specs.Tree.{Entries}
 use Rattle.rules.specs.Access2000.{Prop, streamOf}
@@ -23,6 +22,7 @@ use Rattle.rules.specs.Blob.{is2000, readBy, readingOf, answerOf, outcome, exit
 use Rattle.rules.specs.Room.{room2000, roomLater, roomFor, typeInfoRoom}
 use Rattle.rules.specs.declared.Answer.{Answer}
 use Rattle.rules.proofs.ListLaws.{Every, none-some}
+use Rattle.rules.proofs.TypeInfoLaws.{reported-few}
 use Rattle.claims.specs.Answers.{BlobAnswer, TypeInfoAnswer}
 use Rattle.claims.specs.Rooms.{Never, Bounds, Lent, Enough, EnoughInfos, Rooms}
 use Rattle.claims.proofs.Answers.{blob-told, info-told}
@@ -122,27 +122,9 @@ module _ (t s : List ℕ) where
     enough = record { any = any-enough; old = old-enough; later = later-enough }
 
 -- ---- TypeInfo
-infos-less : (s : List ℕ) (p count : ℕ) → length (infosAt s p count) ≤ count
-unfolding infosAt
-infos-less s p zero = omega arith
-infos-less s p (suc count) = go (leb (p + 8) (length s)) (infos-less s (nextInfo s p) count)
-  where
-    go : (b : Bool) → length (infosAt s (nextInfo s p) count) ≤ count → length (cond b (infoAt s p ∷ infosAt s (nextInfo s p) count) []) ≤ suc count
-    go true h = omega arith
-    go false h = omega arith
-
-kept-less : (is : List Info) → length (keep isReportedInfo is) ≤ length is
-unfolding keep
-kept-less [] = omega arith
-kept-less (i ∷ is) = go (isReportedInfo i) (kept-less is)
-  where
-    go : (b : Bool) → length (keep isReportedInfo is) ≤ length is → length (cond b (i ∷ keep isReportedInfo is) (keep isReportedInfo is)) ≤ suc (length is)
-    go true h = omega arith
-    go false h = omega arith
-
 of-type-info : (s : List ℕ) → length (typeInfoOf s) ≤ u32 s 12
 unfolding typeInfoOf
-of-type-info s = omega (arith, kept-less (infosAt s 32 (u32 s 12)), infos-less s 32 (u32 s 12))
+of-type-info s = reported-few s 32 (u32 s 12)
 
 enough-infos : (s rows : List ℕ) → EnoughInfos s rows (typeInfoExit s rows)
 unfolding typeInfoExit typeInfoRoom

@@ -14,10 +14,11 @@ use Rattle.rules.specs.TypeInfo.{typeInfoOf, typeInfoRow, typeInfoRows, typeInf
 use Rattle.rules.specs.Room.{typeInfoRoom}
 use Rattle.rules.specs.Listing.{answerLine, linesFrom}
 use Rattle.rules.specs.declared.Answer.{Answer}
+use Rattle.rules.proofs.TypeInfoLaws.{info-wide}
 use Rattle.text.specs.Writer.{Wrote}
 use Rattle.text.proofs.Chain.{nothing, _⨟_}
 use Rattle.typeinfo.specs.Entries.{reportedAt}
-use Rattle.typeinfo.proofs.EntryLaws.{at-most, wide}
+use Rattle.typeinfo.proofs.EntryLaws.{at-most}
 use Rattle.listing.specs.Shown.{linesTo}
 use Rattle.listing.proofs.Printed.{lines-written}
 use Rattle.infolines.specs.Infos.{infoPrinted, longestInfo, infoListing}
@@ -122,7 +123,7 @@ module _ (s rows : List ℕ) (a : Answer) (is : a ≡ typeInfoExit s rows .answe
     shown =
         let f : length (typeInfoOf s) ≤ room typeInfoWidth rows = read s (room typeInfoWidth rows) zero-said .fits in
         let l : length (map typeInfoRow (typeInfoOf s)) ≡ length (typeInfoOf s) = length-map (typeInfoOf s) typeInfoRow in
-        lines-written (infoLine s) typeInfoWidth (typeInfoRows s) (wide (typeInfoOf s)) rows (omega arith)
+        lines-written (infoLine s) typeInfoWidth (typeInfoRows s) (info-wide (typeInfoOf s)) rows (omega arith)
         ∙ ap₂ (λ (n : ℕ) (x : List ℕ). linesTo (infoLine s) typeInfoWidth n x) count-is (sym new-is)
 
     pub wrote-all : {n : List ℕ} {e : ℕ} → Wrote b q (linesTo (infoLine s) typeInfoWidth (a .first) new) n e → Wrote o 0 (infoPrinted s (room typeInfoWidth rows)) n e

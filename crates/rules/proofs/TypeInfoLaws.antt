@@ -1,16 +1,19 @@
--- Names that a NUL or the end of the stream ends: where they end, and which of the two it was.
-use Prim.Native.Nat.{ℕ, zero, suc, _+_, _≤_, _<_, min}
+-- Names that a NUL or the end of the stream ends: where they end, and which of the two it was. The entries that are reported: how many, and how wide.
+use Prim.Native.Nat.{ℕ, zero, suc, _+_, _≤_, _<_}
 use native.Mathlib.Omega.{arith}
 use native.Mathlib.Numerals.{add-one}
-use mathlib.Core.Path.{_≡_, refl, sym, ap, _∙_}
+use mathlib.Core.Path.{_≡_, refl, sym, _∙_}
 use mathlib.Core.Bool.{Bool, true, false, cond}
-use mathlib.Core.List.{List, [], _∷_}
+use mathlib.Core.List.{List, [], _∷_, map}
 use borrow.Author.Tests.{eqb-true, eqb-false, lt-ltb, le-ltb}
-use lib.Dec.{eqb, ltb}
+use lib.Dec.{leb, eqb}
 use lib.ListN.{length, getD, drop, length-drop}
 use lib.Seq.{getD-drop}
+use Rattle.rules.specs.Lists.{keep}
 use Rattle.rules.specs.Bytes.{byte}
-use Rattle.rules.specs.TypeInfo.{beforeNul, nulTerminated}
+use Rattle.rules.specs.Rows.{typeInfoWidth}
+use Rattle.rules.specs.TypeInfo.{Info, beforeNul, nulTerminated, infoAt, nextInfo, infosAt, isReportedInfo, typeInfoRow}
+use Rattle.rules.proofs.RowsLaws.{Wide}
 
 -- ---- the bytes before a NUL
 within-by : (n m : ℕ) (b : Bool) → n ≤ m → cond b 0 (n + 1) ≤ suc m
@@ -65,3 +68,30 @@ module _ (s : List ℕ) (p : ℕ) where
   pub at-end : length s ≤ p + beforeNul (drop p s) → (nulTerminated s p .cut ≡ 1) × (nulTerminated s p .next ≡ length s)
   unfolding nulTerminated
   at-end h = (rw (le-ltb (p + beforeNul (drop p s)) (length s) h), omega arith)
+
+-- ---- the entries: no more than asked for, nor are more of them reported
+infos-few : (s : List ℕ) (p n : ℕ) → length (infosAt s p n) ≤ n
+unfolding infosAt
+infos-few s p zero = omega arith
+infos-few s p (suc n) = go (leb (p + 8) (length s)) (infos-few s (nextInfo s p) n)
+  where
+    go : (b : Bool) → length (infosAt s (nextInfo s p) n) ≤ n → length (cond b (infoAt s p ∷ infosAt s (nextInfo s p) n) []) ≤ suc n
+    go true h = omega arith
+    go false h = omega arith
+
+kept-few : (is : List Info) → length (keep isReportedInfo is) ≤ length is
+unfolding keep
+kept-few [] = omega arith
+kept-few (i ∷ is) = go (isReportedInfo i) (kept-few is)
+  where
+    go : (b : Bool) → length (keep isReportedInfo is) ≤ length is → length (cond b (i ∷ keep isReportedInfo is) (keep isReportedInfo is)) ≤ suc (length is)
+    go true h = omega arith
+    go false h = omega arith
+
+pub reported-few : (s : List ℕ) (p n : ℕ) → length (keep isReportedInfo (infosAt s p n)) ≤ n
+reported-few s p n = omega (arith, kept-few (infosAt s p n), infos-few s p n)
+
+-- a row for each
+pub info-wide : (is : List Info) → Wide typeInfoWidth (map typeInfoRow is)
+info-wide [] = tt
+info-wide (i ∷ is) = (refl, info-wide is)

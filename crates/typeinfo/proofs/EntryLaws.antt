@@ -5,22 +5,21 @@ use mathlib.Core.Path.{_≡_, refl, sym, ap, ap₂, _∙_}
 use mathlib.Core.Bool.{Bool, true, false, cond, not}
 use mathlib.Core.List.{List, [], _∷_, _++_, map}
 use lib.Bits.{bitAnd, and-mask}
-use lib.Dec.{leb, eqb}
+use lib.Dec.{eqb}
 use lib.ListN.{length}
-use borrow.Author.Tests.{le-leb, lt-leb, leb-true, leb-false, eq-eqb, ne-eqb}
+use borrow.Author.Tests.{le-leb, lt-leb, eq-eqb, ne-eqb}
 use Rattle.rules.specs.Lists.{keep}
 use Rattle.rules.specs.Bytes.{u16, u32}
 use Rattle.rules.specs.Answer.{longest}
 use Rattle.rules.specs.Rows.{typeInfoWidth}
 use Rattle.rules.specs.TypeInfo.{Info, firstName, secondName, nulTerminated, infoAt, nextInfo, infosAt, isReportedInfo, typeInfoRow}
 use Rattle.rules.proofs.ListLaws.{map-append}
-use Rattle.rules.proofs.RowsLaws.{Wide}
 use Rattle.rows.specs.Put.{put}
 use Rattle.rows.proofs.PutLaws.{put-none, put-append}
 use Rattle.typeinfo.specs.Entries.{asNamed, asEntry, pastTail, reportedAt, oneIf, putIf, RowRoom}
 use Rattle.typeinfo.specs.declared.Named.{Named}
 use Rattle.typeinfo.specs.declared.Entry.{Entry}
-use Rattle.rules.proofs.TypeInfoLaws.{name-within, next-within}
+use Rattle.rules.proofs.TypeInfoLaws.{name-within, next-within, reported-few, info-wide}
 
 -- ---- the bytes after the names
 low : (type : ℕ) → type % 256 ≡ bitAnd type 0xFF
@@ -167,15 +166,8 @@ length-one i is = go (eqb (i .type) 0x1EFF)
 
 -- no more are reported than asked for
 pub at-most : (s : List ℕ) (p n : ℕ) → length (reportedAt s p n) ≤ n
-at-most s p zero = omega (arith, ap length (none-asked s p zero refl))
-at-most s p (suc n) = go (leb (p + 8) (length s)) refl (at-most s (nextInfo s p) n)
-  where
-    go : (b : Bool) → leb (p + 8) (length s) ≡ b → length (reportedAt s (nextInfo s p) n) ≤ n → length (reportedAt s p (suc n)) ≤ suc n
-    go true e h =
-        let k : suc n - 1 ≡ n = omega arith in
-        let more = ap length (one-more s p (suc n) (leb-true (p + 8) (length s) e) (omega arith)) ∙ length-one (infoAt s p) (reportedAt s (nextInfo s p) (suc n - 1)) in
-        omega (arith, rw k at more, at-most-one (infoAt s p .type), h)
-    go false e h = omega (arith, ap length (none-left s p (suc n) (leb-false (p + 8) (length s) e)))
+unfolding reportedAt
+at-most = reported-few
 
 row-of : (i : Info) (next : ℕ) → map typeInfoRow (oneOf i) ≡ putIf (asEntry i next)
 unfolding putIf
@@ -184,10 +176,6 @@ row-of i next = go (eqb (i .type) 0x1EFF)
     go : (b : Bool) → map typeInfoRow (cond b [] (i ∷ [])) ≡ cond b [] (typeInfoRow i ∷ [])
     go true = refl
     go false = refl
-
-pub wide : (is : List Info) → Wide typeInfoWidth (map typeInfoRow is)
-wide [] = tt
-wide (i ∷ is) = (refl, wide is)
 
 long : (i : Info) → length (map typeInfoRow (oneOf i)) ≡ oneIf (i .type)
 unfolding oneIf
@@ -202,7 +190,7 @@ put-both : (i : Info) (is : List Info) (next : ℕ) (rows : List ℕ) (at : ℕ)
     ≡ put typeInfoWidth (put typeInfoWidth rows at (putIf (asEntry i next))) (at + oneIf (i .type)) (map typeInfoRow is)
 put-both i is next rows at =
     ap (put typeInfoWidth rows at) (map-append typeInfoRow (oneOf i) is)
-    ∙ put-append typeInfoWidth rows at (map typeInfoRow (oneOf i)) (map typeInfoRow is) (wide (oneOf i))
+    ∙ put-append typeInfoWidth rows at (map typeInfoRow (oneOf i)) (map typeInfoRow is) (info-wide (oneOf i))
     ∙ ap₂ (λ l m. put typeInfoWidth (put typeInfoWidth rows at l) (at + m) (map typeInfoRow is)) (row-of i next) (long i)
 
 -- what the code's entry at p says of all from p on
