@@ -27,7 +27,7 @@ verb_option() {
         table=${2-}
         ;;
     --expect)
-        [ "$left" -ge 2 ] || wrong_use "--expect wants a layout behind it: 2000 or later"
+        [ "$left" -ge 2 ] || wrong_use "--expect wants a layout after it: 2000 or later"
         case $2 in
         2000 | later) expected=$2 ;;
         *) wrong_use "--expect is 2000 or later, and not $2" ;;
