@@ -105,7 +105,7 @@ fn property_line(
 }
 
 // ---- the names of a TypeInfo stream
-fn is_shown(b: u8) -> bool
+pub fn is_shown(b: u8) -> bool
     ensures { λ r. ⌜ r ≡ isShown b ⌝ }
 {
     if b < 0x20 {
@@ -139,7 +139,7 @@ fn put_name_bytes(out: &mut [u8], at: usize, s: &[u8]) -> usize
     o
 }
 
-fn put_name(out: &mut [u8], at: usize, s: &[u8]) -> usize
+pub fn put_name(out: &mut [u8], at: usize, s: &[u8]) -> usize
     ensures { λ r. ⌜ Wrote (now (out .entry)) at (orDash (nameBytes (now (s .entry)))) (now (out .exit)) r ⌝ }
 {
     if s.len() == 0 {

@@ -166,7 +166,7 @@ fn type_of_label(number: u32, t: &[u8], infos: &[u32], info_count: u32, own: u32
 }
 
 // The type that a control gets.
-fn paired_type(s: &[u8], row: ControlRow, t: &[u8], infos: &[u32], info_count: u32) -> u32
+pub fn paired_type(s: &[u8], row: ControlRow, t: &[u8], infos: &[u32], info_count: u32) -> u32
     requires { ⌜ controlOk (now s) (controlWords row) ≡ true ⌝ }
     requires { ⌜ all (isNamed (now t)) (infosIn «info_count» (now infos)) ≡ true ⌝ }
     ensures { λ r. ⌜ r ≡ pairedType (now (s .entry)) (now (t .entry)) (infosIn «info_count» (now (infos .entry))) (controlWords row) ⌝ }

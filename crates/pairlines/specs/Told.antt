@@ -1,0 +1,30 @@
+-- The lines of the controls that found no row, by the rows in the lent slices.
+use Prim.Native.Nat.{ℕ, _+_, _≤_}
+use mathlib.Core.Path.{_≡_}
+use mathlib.Core.Bool.{cond}
+use mathlib.Core.List.{List, [], _∷_, _++_}
+use lib.ListN.{length}
+use Rattle.rules.specs.Rows.{controlWidth}
+use Rattle.text.specs.Writer.{Wrote}
+use Rattle.listing.specs.Shown.{linesTo}
+use Rattle.pairlines.specs.Pairs.{isUnpaired, unpairedLine, countLine}
+use Rattle.pairlines.specs.declared.Told.{Told}
+
+-- one for each of them
+unfoldable pub tally : List ℕ → List ℕ → List (List ℕ) → ℕ → List ℕ → List ℕ
+tally s t infos n row = cond (isUnpaired s t infos row) (0 ∷ []) []
+
+-- of the first n control rows of a slice
+unfoldable pub unpairedTo : List ℕ → List ℕ → List (List ℕ) → ℕ → List ℕ → List ℕ
+unpairedTo s t infos n words =
+    linesTo (unpairedLine s t infos) controlWidth n words ++ countLine (length (linesTo (tally s t infos) controlWidth n words))
+
+-- row n is told where it found no row
+pub record Tells (s t : List ℕ) (infos : List (List ℕ)) (n : ℕ) (row old : List ℕ) (before : Told) (new : List ℕ) (after : Told) : Type 0 where
+  pub wrote : Wrote old (before .at) (unpairedLine s t infos n row) new (after .at)
+  pub counted : after .count ≡ before .count + length (tally s t infos n row)
+
+-- a text written from the start of a buffer on, and no longer than `most`
+pub record Written (old text : List ℕ) (most : ℕ) (new : List ℕ) (end : ℕ) : Type 0 where
+  pub wrote : Wrote old 0 text new end
+  pub short : length text ≤ most
