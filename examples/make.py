@@ -196,19 +196,36 @@ def later(behind=b""):
 
 # ---- TypeInfo: a header, then entries with two names each
 
-def type_info():
-    def item(type_code, index, prefix, real=b"", tail=b""):
-        return u16(type_code) + u16(0) + u32(index) + prefix + b"\0" + real + b"\0" + tail
+def item(type_code, index, prefix, real=b"", tail=b""):
+    return u16(type_code) + u16(0) + u32(index) + prefix + b"\0" + real + b"\0" + tail
 
-    items = [
+
+def type_info_of(items):
+    return bytes.fromhex("f7eacdac") + u32(1) + u32(0) + u32(len(items)) + bytes(16) + b"".join(items)
+
+
+def type_info():
+    return type_info_of([
         item(0x1898, 0, b"Detail"),
         item(0x126D, 1, b"txtVolt"),
         item(0x0C64, 2, b"Sign__text_", b"Sign (text)"),
         item(0x1B77, 3, b"spnStep", tail=bytes(36)),  # an ActiveX control: 36 bytes more
         item(0x1EFF, 4, b"internal"),                 # not reported
         item(0x136F, 5, b"K\xfcche"),
-    ]
-    return bytes.fromhex("f7eacdac") + u32(1) + u32(0) + u32(len(items)) + bytes(16) + b"".join(items)
+    ])
+
+
+def later_type_info():
+    """The controls of later-scan, in another order. Two names have other capitals, pagState is missing, and the last name lost its NUL."""
+    return type_info_of([
+        item(0x136F, 4, b"CBOFEEDER"),
+        item(0x0C64, 2, b"lblVolt"),
+        item(0x126D, 3, b"txtVolt"),
+        item(0x1898, 0, b"Detail"),
+        item(0x007B, 5, b"tabMore"),
+        item(0x126D, 6, b"Odd"),
+        item(0x126D, 7, b"txtState"),
+    ])[:-2]
 
 
 # ---- code tables of three offices: north and south have rows in common, and what east has for a label's 61 south has otherwise
@@ -245,6 +262,7 @@ def main():
         (folder / f"{title}.input").write_bytes(u32(len(table)) + table + blob)
     (folder / "panel-2000.long").write_bytes(spelled_long(panel_2000))  # ./oskuramos rewrite makes panel-2000.blob of it
     (folder / "form.typeinfo").write_bytes(type_info())
+    (folder / "later-scan.typeinfo").write_bytes(later_type_info())
     (folder / "cut.typeinfo").write_bytes(type_info()[:-4])  # a copy that lost its tail, within the last name
     for office, table in OFFICES.items():
         (folder / f"{office}.codes").write_bytes(table)

@@ -74,7 +74,7 @@ module _ (s : List ℕ) (small : length s ≤ longestInfo) where
   unfolding typeInfoRoom
   enough rowRoom h e = let k = ltb-false ((length s - 32) / 8) (u32 s 12) e in le-ltb rowRoom (length (typeInfoOf s)) (omega (arith, many s))
 
-  same-answer : (q r : ℕ) → typeInfoRoom (length s) ≤ q → typeInfoRoom (length s) ≤ r → typeInfoAnswer s q ≡ typeInfoAnswer s r
+  pub same-answer : (q r : ℕ) → typeInfoRoom (length s) ≤ q → typeInfoRoom (length s) ≤ r → typeInfoAnswer s q ≡ typeInfoAnswer s r
   unfolding typeInfoAnswer
   same-answer q r h k =
       same-by (length (typeInfoOf s)) (ltb longest (length s)) (ltb (length s) 32) (not (eqb (u32 s 0) 0xACCDEAF7)) (ltb ((length s - 32) / 8) (u32 s 12))

@@ -143,9 +143,6 @@ module _ (layout : ℕ) (t s is cs ps : List ℕ) (ta : Answer) (is′ : List �
       given : Given o (room controlWidth cs)
       given = given-by (room controlWidth cs) (room propertyWidth ps) o (later-stated (room controlWidth cs) (room propertyWidth ps) layout s) (ap (λ (b : Answer). b .number) (sym answer-is) ∙ y)
 
-      rows : List (List ℕ)
-      rows = controlsShown o
-
       count-is : a .first ≡ length (controlsShown o)
       count-is = ap (λ (b : Answer). b .first) answer-is ∙ given .count
 

@@ -1,0 +1,2 @@
+-- What the listing of an input needs.
+pub mod Space
