@@ -46,7 +46,7 @@ tally (Close p k) rest = more 0 1 (rest p k)
 tally Refuse rest = none
 
 -- ---- inside a field there is a field
-abbrev Inside : Mode → Type 0
+abbrev pub Inside : Mode → Type 0
 Inside Start = ⊥
 Inside Plain = Unit
 Inside Quoted = Unit
@@ -54,7 +54,7 @@ Inside Closing = Unit
 Inside Returned = ⊥
 
 -- a field is left, if anything is
-abbrev Full : Option Fields → Type 0
+abbrev pub Full : Option Fields → Type 0
 Full none = Unit
 Full (some []) = ⊥
 Full (some (f ∷ fs)) = Unit
@@ -82,7 +82,7 @@ end-full : (t : Bool) → Full (cond t (some ([] ∷ [])) none)
 end-full true = tt
 end-full false = tt
 
-full : (s : List ℕ) (p : Mode) (k : ℕ) → Inside p → Full (readFrom p k s)
+pub full : (s : List ℕ) (p : Mode) (k : ℕ) → Inside p → Full (readFrom p k s)
 unfolding readFrom step atEnd
 full [] Start k h = absurd h
 full [] Plain k h = end-full (eqb k 4)
@@ -96,7 +96,7 @@ full (b ∷ s) Closing k h = full-if (eqb b quote) _ _ b (λ q j. readFrom q j s
 full (b ∷ s) Returned k h = absurd h
 
 -- ---- a byte that is put is put inside a field
-abbrev Puts : Step → Type 0
+abbrev pub Puts : Step → Type 0
 Puts (Pass p k) = Unit
 Puts (Put p k) = Inside p
 Puts (Close p k) = Unit
@@ -110,7 +110,7 @@ puts-end-of : (k b : ℕ) → Puts (fieldEnd k b)
 unfolding fieldEnd
 puts-end-of k b = puts-if (eqb b comma && ltb k 4) _ _ tt (puts-if (eqb b cr && eqb k 4) _ _ tt tt)
 
-puts : (p : Mode) (k b : ℕ) → Puts (step p k b)
+pub puts : (p : Mode) (k b : ℕ) → Puts (step p k b)
 unfolding step
 puts Start k b = puts-if (eqb b quote) _ _ tt (puts-if (isData b) _ _ tt (puts-end-of k b))
 puts Plain k b = puts-if (isData b) _ _ tt (puts-end-of k b)

@@ -1,0 +1,2 @@
+-- Where a text is read, and what is written there.
+pub mod Places
