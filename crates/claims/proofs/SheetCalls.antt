@@ -1,27 +1,29 @@
 -- The answers of the writer and the reader of comma-separated text, and what they leave in the room lent.
 use Prim.Native.Nat.{ℕ, _*_, _≤_, _<_}
 use native.Mathlib.Omega.{arith}
+use native.Mathlib.Nat.{zero-add}
 use mathlib.Core.Path.{_≡_, refl, sym, ap, _∙_}
 use mathlib.Core.Bool.{Bool, true, false, not, cond, _||_}
 use mathlib.Core.List.{List, [], _++_}
 use mathlib.Core.Logic.{_⊎_, inl, inr}
 use mathlib.Core.Option.{Option, none, some}
 use lib.Dec.{ltb}
-use lib.ListN.{length, getD, take, drop}
-use lib.Seq.{take-append-seam}
+use lib.ListN.{length, getD, take, drop, length-append, length-drop}
+use lib.Seq.{take-append-seam, length-sets}
 use borrow.Author.Tests.{lt-ltb, le-ltb, ltb-true, ltb-false}
 use Rattle.rules.specs.Lists.{concat}
 use Rattle.rules.specs.Answer.{answer, refusal, longest}
 use Rattle.rules.specs.CodeTable.{wellFormed}
 use Rattle.rules.specs.Rows.{controlWidth, propertyWidth, fieldWidth, room, rowAt}
+use Rattle.rules.specs.Listing.{word}
 use Rattle.rules.specs.Reading.{Reading, properties}
 use Rattle.rules.specs.Blob.{Outcome, refused, read, readingOf, counted, fit, answerOf, outcome, exitBy, exit}
 use Rattle.rules.specs.Csv.{Record, allFields, sheetOf, csvOf, countable, CsvExit, csvBy, csvExit, Fields, fieldsOf, fieldsBy, fieldsExit, spansFrom}
 use Rattle.rules.specs.declared.Answer.{Answer}
 use Rattle.rules.proofs.ListLaws.{none-some}
-use Rattle.rules.proofs.RowsLaws.{row-written}
+use Rattle.rules.proofs.RowsLaws.{row-written, behind-written}
 use Rattle.csvlaws.proofs.CsvLaws.{countable-room}
-use Rattle.csvlaws.proofs.CsvReaderLaws.{spans-wide, spans-many, span-told, told}
+use Rattle.csvlaws.proofs.CsvReaderLaws.{spans-wide, spans-many, span-start, span-told, told}
 use Rattle.claims.specs.Answers.{Judged, BlobAnswer}
 use Rattle.claims.specs.Demand1.{Refused}
 use Rattle.claims.specs.CsvGrammar.{_spells_}
@@ -152,12 +154,21 @@ module _ (t s cs ps out : List ℕ) where
       let h = fits r z in
       (r, read-taken t s cs ps r e .reading, rw (le-ltb (countable (length out)) (length (csvOf s r)) h, take-append-seam (csvOf s r) (drop (length (csvOf s r)) out)) (blobs-back s r))
 
+  stands : (x : Outcome) → o t s cs ps ≡ x → csvBy s x cs ps out .answer .number ≡ 0
+      → (r : Reading) × (readingOf t s ≡ some r) × (csvBy s x cs ps out .answer .first ≡ length (csvOf s r))
+      × (csvBy s x cs ps out .out ≡ csvOf s r ++ drop (csvBy s x cs ps out .answer .first) out)
+  stands (refused a) e z = absurd (refusal-is t s cs ps a e z)
+  stands (read r) e z =
+      let h = fits r z in
+      (r, read-taken t s cs ps r e .reading, rw (le-ltb (countable (length out)) (length (csvOf s r)) h), rw (le-ltb (countable (length out)) (length (csvOf s r)) h))
+
 pub writes : (t s cs ps out : List ℕ) → Writes t s cs ps out (csvExit t s cs ps out)
 unfolding csvExit exit
 writes t s cs ps out = record {
   exactly = exactly (right t s cs ps out) (in-table t s cs ps out (o t s cs ps) refl);
   refused = stays t s cs ps out (o t s cs ps);
   rows = same-rows t s cs ps out (o t s cs ps) refl;
+  written = stands t s cs ps out (o t s cs ps) refl;
   read-back = back t s cs ps out (o t s cs ps) refl;
 }
 
@@ -233,6 +244,39 @@ module _ (s rows out : List ℕ) where
       let l : length (spansFrom 0 fs) * fieldWidth ≤ length rows = omega (arith, not-full fs f .1, countable-room (room fieldWidth rows)) in
       rw (f, row-written fieldWidth (spansFrom 0 fs) (spans-wide 0 fs) rows l i (omega arith)) (span-told [] (drop (length (concat fs)) out) 0 fs refl i h)
 
+  rows-start : (fs : Fields) → fieldsBy (some fs) rows out .answer .number ≡ 0 → (i : ℕ) → i < length fs
+      → word (rowAt fieldWidth i (fieldsBy (some fs) rows out .rows)) 0 ≡ length (concat (take i fs))
+  rows-start fs e i h =
+      let f = room-is fs e in
+      let m = spans-many 0 fs in
+      let l : length (spansFrom 0 fs) * fieldWidth ≤ length rows = omega (arith, not-full fs f .1, countable-room (room fieldWidth rows)) in
+      rw (f, row-written fieldWidth (spansFrom 0 fs) (spans-wide 0 fs) rows l i (omega arith)) (span-start 0 fs i h ∙ zero-add (length (concat (take i fs))))
+
+  fields-start : (x : Option Fields) → fieldsBy x rows out .answer .number ≡ 0 → (fs : Fields) → x ≡ some fs → (i : ℕ) → i < length fs
+      → word (rowAt fieldWidth i (fieldsBy x rows out .rows)) 0 ≡ length (concat (take i fs))
+  fields-start none z fs e i h = absurd (none-some e)
+  fields-start (some gs) z fs e i h = let same : gs ≡ fs = cc in rw (← same) (rows-start gs z i (rw same h))
+
+  -- what stands after the rows stays
+  beyond : (x : Option Fields) → fieldsBy x rows out .answer .number ≡ 0
+      → drop (fieldsBy x rows out .answer .second * fieldWidth) (fieldsBy x rows out .rows) ≡ drop (fieldsBy x rows out .answer .second * fieldWidth) rows
+  beyond none z = refl
+  beyond (some fs) z =
+      let f = room-is fs z in
+      let m = spans-many 0 fs in
+      let l : length (spansFrom 0 fs) * fieldWidth ≤ length rows = omega (arith, not-full fs f .1, countable-room (room fieldWidth rows)) in
+      rw (f, ← m) (behind-written fieldWidth (spansFrom 0 fs) (spans-wide 0 fs) rows l)
+
+  long : (x : Option Fields) → (length (fieldsBy x rows out .rows) ≡ length rows) × (length (fieldsBy x rows out .out) ≡ length out)
+  long none = (refl, refl)
+  long (some fs) = go (full fs) refl
+    where
+      go : (b : Bool) → full fs ≡ b → (length (fieldsBy (some fs) rows out .rows) ≡ length rows) × (length (fieldsBy (some fs) rows out .out) ≡ length out)
+      go true x = (rw x, rw x)
+      go false x =
+          let l : length (concat fs) ≤ length out = omega (arith, not-full fs x .0, countable-room (length out)) in
+          (rw x (length-sets rows 0 (concat (spansFrom 0 fs))), rw x (simp (length-append, length-drop) (omega arith)))
+
   fields-end : (x : Option Fields) → fieldsBy x rows out .answer .number ≡ 0 → (fs : Fields) → x ≡ some fs
       → fieldsBy x rows out .out ≡ concat fs ++ drop (length (concat fs)) out
   fields-end none z fs e = absurd (none-some e)
@@ -249,5 +293,8 @@ reads s rows out = record {
   exactly = exactly (fields-right s rows out) (fields-table s rows out (fieldsOf s) refl);
   refused = fields-stay s rows out (fieldsOf s);
   end-to-end = λ z t k. fields-end s rows out (fieldsOf s) z (allFields t) (spelled-read s t k);
+  starts = λ z t k. fields-start s rows out (fieldsOf s) z (allFields t) (spelled-read s t k);
+  rows-beyond = beyond s rows out (fieldsOf s);
+  as-long = long s rows out (fieldsOf s);
   told = λ z t k. fields-told s rows out (fieldsOf s) z (allFields t) (spelled-read s t k);
 }

@@ -90,6 +90,9 @@ pub record Writes (table stream controls properties′ out : List ℕ) (e : CsvE
   pub refused : Refused (e .answer) → e ≡ record { answer = e .answer; controls = controls; properties = properties′; out = out }
   -- else the rows are the Blob's, and what was written is read back
   pub rows : e .answer .number ≡ 0 → (e .controls ≡ exit table stream controls properties′ .controls) × (e .properties ≡ exit table stream controls properties′ .properties)
+  -- the text stands in the buffer's front, and what stands after it stays
+  pub written : e .answer .number ≡ 0
+      → (r : Reading) × (readingOf table stream ≡ some r) × (e .answer .first ≡ length (csvOf stream r)) × (e .out ≡ csvOf stream r ++ drop (e .answer .first) out)
   pub read-back : e .answer .number ≡ 0
       → (r : Reading) × (readingOf table stream ≡ some r) × (fieldsOf (take (e .answer .first) (e .out)) ≡ some (allFields (sheetOf stream r)))
 
@@ -98,6 +101,12 @@ pub record Reads (s rows out : List ℕ) (e : FieldsExit) : Type 0 where
   pub refused : Refused (e .answer) → e ≡ record { answer = e .answer; rows = rows; out = out }
   -- "the fields' bytes, quotes undone, end to end", and what stands after them stays
   pub end-to-end : e .answer .number ≡ 0 → (t : List Record) → s spells t → e .out ≡ concat (allFields t) ++ drop (length (concat (allFields t))) out
+  -- each field starts where those before it end
+  pub starts : e .answer .number ≡ 0 → (t : List Record) → s spells t → (i : ℕ) → i < length (allFields t)
+      → word (rowAt fieldWidth i (e .rows)) 0 ≡ length (concat (take i (allFields t)))
+  -- "rows beyond the count keep their old words"
+  pub rows-beyond : e .answer .number ≡ 0 → drop (e .answer .second * fieldWidth) (e .rows) ≡ drop (e .answer .second * fieldWidth) rows
+  pub as-long : (length (e .rows) ≡ length rows) × (length (e .out) ≡ length out)
   -- "with a start and length for each"
   pub told : e .answer .number ≡ 0 → (t : List Record) → s spells t → (i : ℕ) → i < length (allFields t)
       → part (e .out) (word (rowAt fieldWidth i (e .rows)) 0) (word (rowAt fieldWidth i (e .rows)) 1) ≡ getD (allFields t) i []

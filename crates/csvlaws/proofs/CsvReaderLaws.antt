@@ -6,7 +6,7 @@ use mathlib.Core.Bool.{Bool, true, false, cond, _&&_}
 use mathlib.Core.List.{List, [], _∷_, _++_, append-assoc}
 use mathlib.Core.Option.{Option, none, some}
 use lib.Dec.{ltb, eqb}
-use lib.ListN.{length, getD, length-append}
+use lib.ListN.{length, getD, take, length-append}
 use lib.Seq.{take-at, drop-at}
 use Rattle.rules.specs.Bytes.{part}
 use Rattle.rules.specs.Listing.{word}
@@ -180,6 +180,15 @@ pub spans-wide : (at : ℕ) (fs : Fields) → Wide fieldWidth (spansFrom at fs)
 unfolding spansFrom
 spans-wide at [] = tt
 spans-wide at (f ∷ fs) = (refl, spans-wide (at + length f) fs)
+
+-- a span starts where those before it end
+pub span-start : (at : ℕ) (fs : Fields) (i : ℕ) → i < length fs → word (getD (spansFrom at fs) i []) 0 ≡ at + length (concat (take i fs))
+unfolding spansFrom concat
+span-start at [] i h = absurd (omega arith)
+span-start at (f ∷ fs) zero h = omega arith
+span-start at (f ∷ fs) (suc i) h =
+    let e = span-start (at + length f) fs i (omega arith) in
+    e ∙ simp length-append (omega arith)
 
 -- the bytes that a row tells
 abbrev pub told : List ℕ → List ℕ → List ℕ
