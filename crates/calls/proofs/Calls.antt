@@ -1,7 +1,7 @@
 -- What is promised of the public functions holds: each function's theorem (`met`) says its contract of its code.
 use Prim.Native.Nat.{ℕ}
 use mathlib.Core.Path.{_≡_, refl, sym, ap, ap₂, subst, _∙_}
-use mathlib.Core.List.{List, []}
+use mathlib.Core.List.{List, [], _++_}
 use mathlib.Core.Logic.{_↔_}
 use mathlib.Core.Option.{Option, none, some}
 use contract.Lifetimes.{Lfts}
@@ -18,6 +18,7 @@ use Rattle.rules.specs.Blob.{Exit, exit, exit2000, exitLater}
 use Rattle.rules.specs.Join.{joinExit, result}
 use Rattle.rules.specs.Rewrite.{rewriteExit}
 use Rattle.rules.specs.Pairing.{PairExit, pairExit}
+use Rattle.rules.specs.Csv.{crlf, Fields, FieldsExit, fieldsOf, fieldsBy, fieldsExit}
 use Rattle.rules.specs.NamePart.{partBytes}
 use Rattle.blob.specs.Exit.{partPlace}
 use Rattle.oskuramos.specs.Handed.{handedAnswer}
@@ -49,6 +50,7 @@ use Rattle.text.proofs.guid_text.Met as guid-text-code
 use Rattle.text.proofs.label_text.Met as label-text-code
 use Rattle.typeinfo.proofs.read_type_info.Met as read-type-info-code
 use Rattle.pairing.proofs.pair.Met as pair-code
+use Rattle.csvread.proofs.read_csv.Met as read-csv-code
 use Rattle.blob.proofs.read_blob.Met as read-blob-code
 use Rattle.blob.proofs.read_2000.Met as read-2000-code
 use Rattle.blob.proofs.read_later.Met as read-later-code
@@ -58,6 +60,7 @@ use Rattle.oskuramos.proofs.oskuramos_read_2000.Met as exported-read-2000-code
 use Rattle.oskuramos.proofs.oskuramos_read_later.Met as exported-read-later-code
 use Rattle.oskuramos.proofs.oskuramos_read_type_info.Met as exported-read-type-info-code
 use Rattle.oskuramos.proofs.oskuramos_pair.Met as exported-pair-code
+use Rattle.oskuramos.proofs.oskuramos_read_csv.Met as exported-read-csv-code
 use Rattle.oskuramos.proofs.oskuramos_well_formed.Met as exported-well-formed-code
 use Rattle.oskuramos.proofs.oskuramos_join.Met as exported-join-code
 use Rattle.oskuramos.proofs.oskuramos_rewrite.Met as exported-rewrite-code
@@ -79,6 +82,7 @@ use Rattle.oskuramos.proofs.oskuramos_stored_value.Met as exported-stored-value
 use Rattle.oskuramos.proofs.«oskuramos_value_as».Met as exported-value-as-code
 use Rattle.typeinfo.proofs.read_type_info.Reads as read-type-info-clauses
 use Rattle.pairing.proofs.pair.Reads as pair-clauses
+use Rattle.csvread.proofs.read_csv.Reads as read-csv-clauses
 use Rattle.text.proofs.guid_text.Reads as guid-text-clauses
 use Rattle.text.proofs.label_text.Reads as label-text-clauses
 use Rattle.names.proofs.text_name.Reads as text-name-clauses
@@ -100,6 +104,7 @@ use Rattle.oskuramos.proofs.oskuramos_read_2000.Reads as exported-read-2000-cla
 use Rattle.oskuramos.proofs.oskuramos_read_later.Reads as exported-read-later-clauses
 use Rattle.oskuramos.proofs.oskuramos_read_type_info.Reads as exported-read-type-info-clauses
 use Rattle.oskuramos.proofs.oskuramos_pair.Reads as exported-pair-clauses
+use Rattle.oskuramos.proofs.oskuramos_read_csv.Reads as exported-read-csv-clauses
 use Rattle.oskuramos.proofs.oskuramos_guid_text.Reads as exported-guid-text-clauses
 use Rattle.oskuramos.proofs.oskuramos_label_text.Reads as exported-label-text-clauses
 use Rattle.oskuramos.proofs.oskuramos_join.Reads as exported-join-clauses
@@ -119,6 +124,7 @@ use Rattle.claims.proofs.LaterTree.{later-tree}
 use Rattle.claims.proofs.Counts.{counts-hold}
 use Rattle.claims.proofs.CutNames.{wish6}
 use Rattle.claims.proofs.Pairing.{wish2}
+use Rattle.claims.proofs.Spreadsheet.{wish7}
 use Rattle.claims.proofs.RowChecks.{row-checks}
 use Rattle.claims.proofs.Nesting.{nesting}
 use Rattle.claims.proofs.Characters.{wish5}
@@ -543,6 +549,53 @@ crates-pair-allows a = (record { κs = ([], ([], ([], ([], tt)))); args = pair-a
 exported-pair-allows : (a : f.Pair) → (c : Call (f.exported .pair)) × (handed c ≡ a)
 exported-pair-allows a = (record { κs = ([], ([], ([], ([], tt)))); args = pair-args a; result = handedAnswer (pair-of a .answer); left = (tt, (pair-of a .controls, (tt, (tt, (tt, (tt, tt)))))); allowed = (refl, refl) }, refl)
 
+-- ---- read_csv
+abbrev fields-of : f.Sheet → FieldsExit
+fields-of a = fieldsExit (a .text) (a .fields) (a .out)
+
+-- a text that is read with CR LF after it is read the same without
+without-line : (s rows out : List ℕ) → ¬ (fieldsExit (s ++ crlf) rows out .answer .number ≡ 14) → fieldsExit s rows out ≡ fieldsExit (s ++ crlf) rows out
+unfolding fieldsExit
+without-line s rows out n = go (fieldsOf (s ++ crlf)) refl n
+  where
+    go : (o : Option Fields) → fieldsOf (s ++ crlf) ≡ o → ¬ (fieldsBy (fieldsOf (s ++ crlf)) rows out .answer .number ≡ 14)
+        → fieldsBy (fieldsOf s) rows out ≡ fieldsBy (fieldsOf (s ++ crlf)) rows out
+    go none e n = absurd (n (ap (λ o. fieldsBy o rows out .answer .number) e))
+    go (some fs) e n = ap (λ o. fieldsBy o rows out) (wish7 .last-optional .without s fs e ∙ sym e)
+
+read-csvs : (g : Fn f.Sheet FieldsExit) → Proved g fields-of → OneResult (g .function) → ((a : f.Sheet) → (c : Call g) × (handed c ≡ a)) → calls.ReadCsv g
+read-csvs g p one allows = record {
+  is-exit = every g fields-of p _ (λ a. refl);
+  reads = every g fields-of p _ (λ a. wish7 .reads (a .text) (a .fields) (a .out));
+  last-optional = λ c d h n.
+      let a = handed c in
+      let longer = call-told g fields-of p d ∙ (λ i. fieldsExit (h .with-line i) (h .same-fields i) (h .same-out i)) in
+      call-told g fields-of p c ∙ without-line (a .text) (a .fields) (a .out) (λ e. n (ap (λ (x : FieldsExit). x .answer .number) longer ∙ e)) ∙ sym longer;
+  one-result = one;
+  allows = allows;
+}
+
+abbrev sheet-args : f.Sheet → RefT (List ℕ) × (RefT (List ℕ) × (RefT (List ℕ) × Unit {0}))
+sheet-args a = (somewhere (a .text), (somewhere (a .fields), (somewhere (a .out), tt)))
+
+crates-read-csv : Proved (f.crates .read-csv) fields-of
+crates-read-csv = record {
+  met = told (f.crates .read-csv .function) (λ w κs a r e. read-csv-clauses.ensures κs a tt r e w) _ (λ w κs a r e. three-facts (w .𝓤) _ _ _) (λ w. read-csv-code.met (w .𝓤) (w .H) (w .𝓜) (w .𝓖) (w .𝓡));
+  told = λ κs a r e q i. record { answer = q .0 i; rows = q .1 .0 i; out = q .1 .1 i };
+}
+
+exported-read-csv : Proved (f.exported .read-csv) fields-of
+exported-read-csv = record {
+  met = told (f.exported .read-csv .function) (λ w κs a r e. exported-read-csv-clauses.ensures κs a tt r e w) _ (λ w κs a r e. three-facts (w .𝓤) _ _ _) (λ w. exported-read-csv-code.met (w .𝓤) (w .H) (w .𝓜) (w .𝓖) (w .𝓡));
+  told = λ κs a r e q i. record { answer = f.takenAnswer (q .0 i); rows = q .1 .0 i; out = q .1 .1 i };
+}
+
+crates-csv-allows : (a : f.Sheet) → (c : Call (f.crates .read-csv)) × (handed c ≡ a)
+crates-csv-allows a = (record { κs = ([], ([], ([], tt))); args = sheet-args a; result = fields-of a .answer; left = (tt, (fields-of a .rows, (fields-of a .out, tt))); allowed = (refl, (refl, refl)) }, refl)
+
+exported-csv-allows : (a : f.Sheet) → (c : Call (f.exported .read-csv)) × (handed c ≡ a)
+exported-csv-allows a = (record { κs = ([], ([], ([], tt))); args = sheet-args a; result = handedAnswer (fields-of a .answer); left = (tt, (fields-of a .rows, (fields-of a .out, tt))); allowed = (refl, (refl, refl)) }, refl)
+
 -- ---- as the crates have them
 of-crates : calls.Promised f.crates
 of-crates = record {
@@ -558,6 +611,7 @@ of-crates = record {
       (λ a. wish2 .as-read-later (a .layout) (a .stream) (a .controls) (a .properties));
   never-refused-2000 = never-refused (f.crates .read-2000) exit-2000 (λ a. a .stream) (f.crates .read-type-info) (f.crates .pair) crates-read-2000 crates-read-type-info crates-pair
       (λ a. wish2 .as-read-2000 (a .table) (a .stream) (a .controls) (a .properties));
+  read-csv = read-csvs (f.crates .read-csv) crates-read-csv (λ κs a r r′ x y p q. (p .0 ∙ sym (q .0), λ i. (tt, ((p .1 .0 ∙ sym (q .1 .0)) i, ((p .1 .1 ∙ sym (q .1 .1)) i, tt))))) crates-csv-allows;
   guid-text = guid-texts (f.crates .guid-text) (record {
     met = told (f.crates .guid-text .function) (λ w κs a r e. guid-text-clauses.ensures κs a tt r e w) _ (λ w κs a r e. both-facts (w .𝓤) _ _) (λ w. guid-text-code.met (w .𝓤) (w .H) (w .𝓜) (w .𝓖) (w .𝓡));
     told = λ κs a r e q i. record { answer = q .0 i; out = q .1 i };
@@ -622,6 +676,7 @@ of-exported = record {
       (λ a. wish2 .as-read-later (a .layout) (a .stream) (a .controls) (a .properties));
   never-refused-2000 = never-refused (f.exported .read-2000) exit-2000 (λ a. a .stream) (f.exported .read-type-info) (f.exported .pair) exported-read-2000 exported-read-type-info exported-pair
       (λ a. wish2 .as-read-2000 (a .table) (a .stream) (a .controls) (a .properties));
+  read-csv = read-csvs (f.exported .read-csv) exported-read-csv (λ κs a r r′ x y p q. (p .0 ∙ sym (q .0), λ i. (tt, ((p .1 .0 ∙ sym (q .1 .0)) i, ((p .1 .1 ∙ sym (q .1 .1)) i, tt))))) exported-csv-allows;
   guid-text = guid-texts (f.exported .guid-text) (record {
     met = told (f.exported .guid-text .function) (λ w κs a r e. exported-guid-text-clauses.ensures κs a tt r e w) _ (λ w κs a r e. both-facts (w .𝓤) _ _) (λ w. exported-guid-text-code.met (w .𝓤) (w .H) (w .𝓜) (w .𝓖) (w .𝓡));
     told = λ κs a r e q i. record { answer = f.takenAnswer (q .0 i); out = q .1 i };

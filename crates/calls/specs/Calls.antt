@@ -26,6 +26,7 @@ use Rattle.rules.specs.Join.{joinExit, result}
 use Rattle.rules.specs.Rewrite.{rewriteExit}
 use Rattle.rules.specs.NamePart.{Part, namePart, partBytes}
 use Rattle.rules.specs.Pairing.{PairExit, pairExit}
+use Rattle.rules.specs.Csv.{crlf, FieldsExit, fieldsExit}
 use Rattle.rules.specs.Room.{room2000, roomLater, roomFor, typeInfoRoom}
 use Rattle.rules.specs.Blob.{Exit, is2000, exit, exit2000, exitLater, spots}
 use Rattle.numbers.specs.Int.{intOf}
@@ -44,6 +45,7 @@ use Rattle.claims.specs.LaterTree as later
 use Rattle.claims.specs.Counts.{Counts, InfoCounts}
 use Rattle.claims.specs.CutNames.{CutNames}
 use Rattle.claims.specs.Pairing.{Pairs}
+use Rattle.claims.specs.Spreadsheet as csv
 use Rattle.claims.specs.Rooms as rooms
 use Rattle.claims.specs.Rewriting.{RewriteAnswer, SameRows, Rewrites}
 use Rattle.claims.specs.ScanNames.{ScanNamed}
@@ -57,6 +59,7 @@ use Rattle.calls.specs.Functions.{
   Later,
   TypeInfo,
   Pair,
+  Sheet,
   Guid,
   Label,
   NameOf,
@@ -238,6 +241,24 @@ NeverRefused reader stream-of read-info pair =
     (c : Call reader) (d : Call read-info) (e : Call pair) → seen c .answer .number ≡ 0 → seen d .answer .number ≡ 0
     → RowsOf (stream-of (handed c)) (seen c) (handed d .stream) (seen d) (handed e) → seen e .answer .number ≡ 0
 
+-- ---- read_csv(text, fields, out): wish 7 (Spreadsheet)
+-- of two calls: the second is lent the same text with CR LF after it, and the same room
+pub record OneLineMore (shorter longer : Sheet) : Type 0 where
+  pub with-line : longer .text ≡ shorter .text ++ crlf
+  pub same-fields : longer .fields ≡ shorter .fields
+  pub same-out : longer .out ≡ shorter .out
+
+pub record ReadCsv (f : Fn Sheet FieldsExit) : Type 2 where
+  -- what is seen is what the definition says: the answer, and every word and byte of both slices
+  pub is-exit : Every f (λ a seen. seen ≡ fieldsExit (a .text) (a .fields) (a .out))
+  -- 14 and 13 exactly when the wish says, and then nothing is written; else the fields that are spelled, end to end, with a start and length for each
+  pub reads : Every f (λ a seen. csv.Reads (a .text) (a .fields) (a .out) seen)
+  -- "the last CR LF optional": unless the longer text isn't of the grammar, both calls give the same
+  pub last-optional : (c d : Call f) → OneLineMore (handed c) (handed d) → ¬ (seen d .answer .number ≡ 14) → seen c ≡ seen d
+  pub one-result : OneResult (f .function)
+  -- the contract allows a call of any words, so that what is said of two calls isn't idle
+  pub allows : (a : Sheet) → (c : Call f) × (handed c ≡ a)
+
 -- ---- guid_text(guid, out): `guidExit` says which bytes are written, and that those behind them stay
 pub record GuidText (f : Fn Guid TextExit) : Type 2 where
   pub is-exit : Every f (λ a seen. seen ≡ guidExit (a .guid) (a .out))
@@ -346,6 +367,7 @@ pub record Promised (i : Interface) : Type 2 where
   pub never-refused : NeverRefused (i .read-blob) (λ a. a .stream) (i .read-type-info) (i .pair)
   pub never-refused-later : NeverRefused (i .read-later) (λ a. a .stream) (i .read-type-info) (i .pair)
   pub never-refused-2000 : NeverRefused (i .read-2000) (λ a. a .stream) (i .read-type-info) (i .pair)
+  pub read-csv : ReadCsv (i .read-csv)
   pub guid-text : GuidText (i .guid-text)
   pub label-text : LabelText (i .label-text)
   pub join : JoinTables (i .join)

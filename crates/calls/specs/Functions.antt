@@ -13,6 +13,7 @@ use Rattle.rules.specs.Texts.{TextExit}
 use Rattle.rules.specs.TypeInfo.{TypeInfoExit}
 use Rattle.rules.specs.Blob.{Exit}
 use Rattle.rules.specs.Pairing.{PairExit}
+use Rattle.rules.specs.Csv.{FieldsExit}
 use Rattle.numbers.specs.declared.Int.{Int}
 use Rattle.numbers.specs.declared.Wide.{Wide}
 use Rattle.blob.specs.Exit.{Place}
@@ -37,6 +38,7 @@ use Rattle.codetable.proofs.well_formed as well_formed
 use Rattle.join.proofs.join as join
 use Rattle.typeinfo.proofs.read_type_info as read_type_info
 use Rattle.pairing.proofs.pair as pair
+use Rattle.csvread.proofs.read_csv as read_csv
 use Rattle.blob.proofs.read_blob as read_blob
 use Rattle.blob.proofs.read_2000 as «read_2000»
 use Rattle.blob.proofs.read_later as read_later
@@ -51,6 +53,7 @@ use Rattle.oskuramos.proofs.oskuramos_read_2000 as «oskuramos_read_2000»
 use Rattle.oskuramos.proofs.oskuramos_read_later as oskuramos_read_later
 use Rattle.oskuramos.proofs.oskuramos_read_type_info as oskuramos_read_type_info
 use Rattle.oskuramos.proofs.oskuramos_pair as oskuramos_pair
+use Rattle.oskuramos.proofs.oskuramos_read_csv as oskuramos_read_csv
 use Rattle.oskuramos.proofs.oskuramos_well_formed as oskuramos_well_formed
 use Rattle.oskuramos.proofs.oskuramos_join as oskuramos_join
 use Rattle.oskuramos.proofs.oskuramos_rewrite as oskuramos_rewrite
@@ -125,6 +128,15 @@ rows-to-pair a = record {
   infos = now (a .1 .1 .1 .1 .0);
   info-count = a .1 .1 .1 .1 .1 .0;
 }
+
+-- (text, fields, out)
+pub record Sheet : Type 0 where
+  pub text : List ℕ
+  pub fields : List ℕ
+  pub out : List ℕ
+
+abbrev sheet : Slice × (Slice × (Slice × End)) → Sheet
+sheet a = record { text = now (a .0); fields = now (a .1 .0); out = now (a .1 .1 .0) }
 
 -- (guid, out)
 pub record Guid : Type 0 where
@@ -244,6 +256,9 @@ type-info-exit r e = record { answer = r; rows = type-info e .rows }
 abbrev pair-exit : Answer → Slice × (Slice × (ℕ × (Slice × (Slice × (ℕ × End))))) → PairExit
 pair-exit r e = record { answer = r; controls = rows-to-pair e .controls }
 
+abbrev fields-exit : Answer → Slice × (Slice × (Slice × End)) → FieldsExit
+fields-exit r e = record { answer = r; rows = sheet e .fields; out = sheet e .out }
+
 abbrev guid-exit : Answer → Slice × (Slice × End) → TextExit
 guid-exit r e = record { answer = r; out = guid e .out }
 
@@ -279,6 +294,7 @@ pub record Interface : Type 2 where
   pub read-later : Fn Later Exit
   pub read-type-info : Fn TypeInfo TypeInfoExit
   pub pair : Fn Pair PairExit
+  pub read-csv : Fn Sheet FieldsExit
   pub well-formed : Fn (List ℕ) Bool
   pub room : Fn ℕ Room
   pub room-2000 : Fn ℕ Room
@@ -325,6 +341,11 @@ crates = record {
     function = record { ended = pair.ended; routine = pair.Symbol.routine; says = pair.Reads.Learnt };
     handed = λ κs a. rows-to-pair a;
     seen = λ κs r e. pair-exit r e;
+  };
+  read-csv = record {
+    function = record { ended = read_csv.ended; routine = read_csv.Symbol.routine; says = read_csv.Reads.Learnt };
+    handed = λ κs a. sheet a;
+    seen = λ κs r e. fields-exit r e;
   };
   well-formed = record {
     function = record { ended = well_formed.ended; routine = well_formed.Symbol.routine; says = well_formed.Reads.Learnt };
@@ -445,6 +466,11 @@ exported = record {
     function = record { ended = oskuramos_pair.ended; routine = oskuramos_pair.Symbol.routine; says = oskuramos_pair.Reads.Learnt };
     handed = λ κs a. rows-to-pair a;
     seen = λ κs r e. pair-exit (takenAnswer r) e;
+  };
+  read-csv = record {
+    function = record { ended = oskuramos_read_csv.ended; routine = oskuramos_read_csv.Symbol.routine; says = oskuramos_read_csv.Reads.Learnt };
+    handed = λ κs a. sheet a;
+    seen = λ κs r e. fields-exit (takenAnswer r) e;
   };
   well-formed = record {
     function = record { ended = oskuramos_well_formed.ended; routine = oskuramos_well_formed.Symbol.routine; says = oskuramos_well_formed.Reads.Learnt };

@@ -8,6 +8,7 @@ ghost use Rattle.rules.specs.NameTables.{textNames, numberNames, bytesNames, co
 ghost use Rattle.rules.specs.Names.{namesFor, nameExit};
 ghost use Rattle.rules.specs.Rewrite.{rewriteExit};
 ghost use Rattle.rules.specs.Pairing.{pairExit};
+ghost use Rattle.rules.specs.Csv.{fieldsExit};
 ghost use Rattle.rules.specs.Room.{room2000, roomLater, roomFor, typeInfoRoom};
 ghost use Rattle.rules.specs.Texts.{guidExit, labelExit};
 ghost use Rattle.rules.specs.TypeInfo.{typeInfoExit};
@@ -151,6 +152,16 @@ pub extern "C" fn oskuramos_pair(
         infos,
         info_count,
     ))
+}
+
+// ---- comma-separated text
+#[no_mangle]
+pub extern "C" fn oskuramos_read_csv(text: &[u8], fields: &mut [u32], out: &mut [u8]) -> Answer
+    ensures { λ r. ⌜ r ≡ handedAnswer (fieldsExit (now (text .entry)) (now (fields .entry)) (now (out .entry)) .answer) ⌝ }
+    ensures { λ _. ⌜ now (fields .exit) ≡ fieldsExit (now (text .entry)) (now (fields .entry)) (now (out .entry)) .rows ⌝ }
+    ensures { λ _. ⌜ now (out .exit) ≡ fieldsExit (now (text .entry)) (now (fields .entry)) (now (out .entry)) .out ⌝ }
+{
+    handed_answer(csvread::read_csv(text, fields, out))
 }
 
 // ---- code tables
