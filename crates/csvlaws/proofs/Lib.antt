@@ -4,3 +4,4 @@ pub mod CsvReaderLaws
 pub mod CsvRowsLaws
 pub mod CsvPlain
 pub mod Utf8Laws
+pub mod WorkedSheets
