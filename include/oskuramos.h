@@ -50,6 +50,8 @@ enum {
     OSKURAMOS_NO_ROOM_FOR_TEXT = 9, /* the buffer for text, a joined code table or a rewritten stream is too short */
     OSKURAMOS_NOT_A_GUID = 10,      /* the GUID value isn't 16 bytes */
     OSKURAMOS_BAD_ROWS = 11,        /* rows to pair: more counted than lent, a name mark above 2, or a name outside its stream */
+    OSKURAMOS_NO_ROOM_FOR_SHEET = 13, /* what is written or read as comma-separated text doesn't fit the room lent */
+    OSKURAMOS_NOT_A_SHEET = 14,     /* text read isn't comma-separated text with five fields in every record */
     OSKURAMOS_OTHER_LAYOUT = 15,    /* a reader for one layout is given a stream that speaks for the other */
     OSKURAMOS_OTHER_HEAD = 16,      /* two code tables differ in layout byte or header codes */
     OSKURAMOS_TWO_ROWS = 17,        /* two code tables have different rows for one scope and id */
@@ -146,6 +148,22 @@ oskuramos_answer oskuramos_read_type_info(const uint8_t *stream, size_t stream_l
 oskuramos_answer oskuramos_pair(const uint8_t *stream, size_t stream_length, uint32_t *controls, size_t controls_length,
                                 uint32_t control_count, const uint8_t *info_stream, size_t info_stream_length, const uint32_t *infos,
                                 size_t infos_length, uint32_t info_count);
+
+/* ---- comma-separated text */
+/* The words of a field's row: where its bytes start in the buffer, and how many they are. A record has five fields: control, type, property, word, value. */
+enum {
+    OSKURAMOS_FIELD_START = 0,
+    OSKURAMOS_FIELD_LENGTH = 1,
+    OSKURAMOS_FIELD_WORDS = 2,
+    OSKURAMOS_RECORD_FIELDS = 5
+};
+
+/* Reads comma-separated text by RFC 4180, whose text data may be any byte but comma, quote, CR and LF. Every record has five fields; the last CR LF is
+   optional. A header record is a record as any other. A blank beside a quote, a byte order mark and bytes above 0x7F are data; no code page is looked for.
+   Writes the fields' bytes into `out`, quotes undone, end to end, and a row for each field. Words and bytes after what is written keep their values.
+   Answers 0 with the bytes and the fields, or 14, 13, tried in this order; 13 also for more than 4,294,967,295 bytes or fields. There are never more bytes
+   than the text has, and never more fields than its bytes and one: such room is always enough. A field that is empty has a row with length 0. */
+oskuramos_answer oskuramos_read_csv(const uint8_t *text, size_t text_length, uint32_t *fields, size_t fields_length, uint8_t *out, size_t out_length);
 
 /* ---- room by the length */
 /* How many rows to lend: rows, not words. A buffer has OSKURAMOS_CONTROL_WORDS or OSKURAMOS_PROPERTY_WORDS words for each of them. */

@@ -54,6 +54,9 @@ extern "C" {
         stream: *const u8, stream_length: usize, controls: *mut u32, controls_length: usize, control_count: u32,
         info_stream: *const u8, info_stream_length: usize, infos: *const u32, infos_length: usize, info_count: u32,
     ) -> Answer;
+    fn oskuramos_read_csv(
+        text: *const u8, text_length: usize, fields: *mut u32, fields_length: usize, out: *mut u8, out_length: usize,
+    ) -> Answer;
     fn oskuramos_well_formed(table: *const u8, table_length: usize) -> bool;
     fn oskuramos_join(
         one: *const u8, one_length: usize, other: *const u8, other_length: usize, out: *mut u8, out_length: usize,
@@ -104,6 +107,10 @@ pub fn pair(stream: &[u8], controls: &mut [u32], control_count: u32, info_stream
     let (s, t) = ((stream.as_ptr(), stream.len()), (info_stream.as_ptr(), info_stream.len()));
     let (c, i) = ((controls.as_mut_ptr(), controls.len()), (infos.as_ptr(), infos.len()));
     unsafe { oskuramos_pair(s.0, s.1, c.0, c.1, control_count, t.0, t.1, i.0, i.1, info_count) }
+}
+
+pub fn read_csv(text: &[u8], fields: &mut [u32], out: &mut [u8]) -> Answer {
+    unsafe { oskuramos_read_csv(text.as_ptr(), text.len(), fields.as_mut_ptr(), fields.len(), out.as_mut_ptr(), out.len()) }
 }
 
 pub fn well_formed(table: &[u8]) -> bool {

@@ -29,6 +29,12 @@ pub const TABLE_LONGEST: usize = 65_100;
 /// What a raw code that the code table lacks is joined with.
 pub const UNMAPPED: u16 = 0x8000;
 
+/// Words of the row of a field of comma-separated text.
+pub const FIELD_WORDS: usize = 2;
+
+/// Fields of a record of comma-separated text.
+pub const RECORD_FIELDS: usize = 5;
+
 /// Answer numbers.
 pub mod answer {
     pub const READ: u32 = 0;
@@ -43,6 +49,8 @@ pub mod answer {
     pub const NO_ROOM_FOR_TEXT: u32 = 9;
     pub const NOT_A_GUID: u32 = 10;
     pub const BAD_ROWS: u32 = 11;
+    pub const NO_ROOM_FOR_SHEET: u32 = 13;
+    pub const NOT_A_SHEET: u32 = 14;
     pub const OTHER_LAYOUT: u32 = 15;
     pub const OTHER_HEAD: u32 = 16;
     pub const TWO_ROWS: u32 = 17;

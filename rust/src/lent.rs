@@ -6,9 +6,10 @@
 use crate::archive;
 use crate::format::OF_STREAM;
 pub use crate::format::{
-    CONTROL_WORDS, GUID_TEXT, LABEL_LONGEST, LONGEST, NAME_ROOM, NO_PARENT, NO_TYPE, PROPERTY_WORDS, STACK, TABLE_LONGEST, TYPE_INFO_WORDS,
+    CONTROL_WORDS, FIELD_WORDS, GUID_TEXT, LABEL_LONGEST, LONGEST, NAME_ROOM, NO_PARENT, NO_TYPE, PROPERTY_WORDS, RECORD_FIELDS, STACK,
+    TABLE_LONGEST, TYPE_INFO_WORDS,
 };
-use crate::refused::{of_blob, of_paired, of_type_info, of_written, Counts, Refused};
+use crate::refused::{of_blob, of_paired, of_sheet, of_type_info, of_written, Counts, Refused};
 
 /// Type code, name mark, name start, name length, first property row, property count, level, and the parent's row, [`NO_PARENT`] at level 0.
 pub type ControlRow = [u32; CONTROL_WORDS];
@@ -16,6 +17,9 @@ pub type ControlRow = [u32; CONTROL_WORDS];
 pub type PropertyRow = [u32; PROPERTY_WORDS];
 /// Type code, index, name start, name length, and 1 where the stream's end cut the name.
 pub type TypeInfoRow = [u32; TYPE_INFO_WORDS];
+
+/// Where a field's bytes start, and how many they are.
+pub type FieldRow = [u32; FIELD_WORDS];
 
 /// Reads a Blob by a code table. Rows after those that are written keep their words.
 ///
@@ -57,6 +61,12 @@ pub fn read_type_info(stream: &[u8], rows: &mut [TypeInfoRow]) -> Result<usize, 
 pub fn pair(stream: &[u8], controls: &mut [ControlRow], info_stream: &[u8], infos: &[TypeInfoRow]) -> Result<(), Refused> {
     let (n, m) = (count(controls.len())?, count(infos.len())?);
     of_paired(archive::pair(stream, controls.as_flattened_mut(), n, info_stream, infos.as_flattened(), m))
+}
+
+/// Reads comma-separated text, [`RECORD_FIELDS`] fields in every record: the fields' bytes, quotes undone, end to end, with a row for each. Returns how many
+/// bytes and fields there are. Bytes and rows after them stay. As many bytes as the text has are enough, and a row more than that.
+pub fn read_csv(text: &[u8], fields: &mut [FieldRow], out: &mut [u8]) -> Result<(usize, usize), Refused> {
+    of_sheet(archive::read_csv(text, fields.as_flattened_mut(), out))
 }
 
 /// A number of rows or a place, which has 32 bits.

@@ -6,6 +6,7 @@
 mod archive;
 mod blob;
 mod code_table;
+mod csv;
 mod format;
 pub mod lent;
 mod refused;
@@ -17,6 +18,7 @@ mod value;
 
 pub use blob::{Blob, Control, ControlName, Layout, Property};
 pub use code_table::{CodeRow, CodeScope, CodeTable, Scope};
+pub use csv::{Record, Records};
 pub use refused::{Counts, Refused};
 pub use rewrite::rewrite;
 pub use room::Room;

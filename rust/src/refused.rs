@@ -53,6 +53,10 @@ pub enum Refused {
     NotAGuid,
     /// 11: rows to pair are more than were lent, have a name mark above 2, or name bytes outside their stream.
     BadRows,
+    /// 13: what is written or read as comma-separated text doesn't fit the room lent.
+    NoRoomForSheet,
+    /// 14: text isn't comma-separated text with five fields in every record.
+    NotASheet,
     /// 15: the stream's first byte speaks for the other layout than the one that was asked for.
     OtherLayout,
     /// 16: two code tables differ in layout byte or header codes.
@@ -80,6 +84,8 @@ impl Refused {
             Refused::NoRoomForText => answer::NO_ROOM_FOR_TEXT,
             Refused::NotAGuid => answer::NOT_A_GUID,
             Refused::BadRows => answer::BAD_ROWS,
+            Refused::NoRoomForSheet => answer::NO_ROOM_FOR_SHEET,
+            Refused::NotASheet => answer::NOT_A_SHEET,
             Refused::OtherLayout => answer::OTHER_LAYOUT,
             Refused::OtherHead => answer::OTHER_HEAD,
             Refused::TwoRows => answer::TWO_ROWS,
@@ -123,6 +129,19 @@ impl Display for Refused {
             Refused::NotAGuid => write!(f, "the value hasn't {GUID_BYTES} bytes: it isn't a GUID"),
             Refused::BadRows => {
                 write!(f, "rows to pair don't fit their streams: give each stream with the rows that were read from it, and so many")
+            }
+            Refused::NoRoomForSheet => {
+                write!(
+                    f,
+                    "comma-separated text doesn't fit the room lent: to read, lend as many bytes as the text has, and a row for each field"
+                )
+            }
+            Refused::NotASheet => {
+                write!(
+                    f,
+                    "the text isn't comma-separated text with five fields in every record: look for a record of more or fewer fields, a quote \
+                     inside a field, or lines that end without CR LF"
+                )
             }
             Refused::OtherLayout => {
                 write!(
@@ -175,6 +194,11 @@ pub(crate) fn of_written(a: archive::Answer) -> Result<usize, Refused> {
     of_others(a.number, a.first as usize)
 }
 
+/// The bytes and the fields that were read, or the refusal.
+pub(crate) fn of_sheet(a: archive::Answer) -> Result<(usize, usize), Refused> {
+    of_others(a.number, (a.first as usize, a.second as usize))
+}
+
 fn of_others<T>(number: u32, read: T) -> Result<T, Refused> {
     Err(match number {
         answer::READ => return Ok(read),
@@ -187,6 +211,8 @@ fn of_others<T>(number: u32, read: T) -> Result<T, Refused> {
         answer::NO_ROOM_FOR_TEXT => Refused::NoRoomForText,
         answer::NOT_A_GUID => Refused::NotAGuid,
         answer::BAD_ROWS => Refused::BadRows,
+        answer::NO_ROOM_FOR_SHEET => Refused::NoRoomForSheet,
+        answer::NOT_A_SHEET => Refused::NotASheet,
         answer::OTHER_LAYOUT => Refused::OtherLayout,
         answer::OTHER_HEAD => Refused::OtherHead,
         answer::TWO_ROWS => Refused::TwoRows,

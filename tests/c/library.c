@@ -204,6 +204,34 @@ static void type_info(const uint8_t *large) {
     check(info_answers(s, 31, ROOM, 1, 0), "1 before 2");
 }
 
+/* ---- comma-separated text: five fields, the third empty, the fourth with a comma, a quote and CR LF */
+static const char sheet[] = "1,0064,,\"a,\"\"\r\n\",e\r\n";
+static const uint32_t sheet_rows[10] = {0, 1, 1, 4, 5, 0, 5, 5, 10, 1};
+
+static bool sheet_read(size_t length, size_t fields_length, size_t out_length) {
+    words f;
+    bytes o;
+    oskuramos_answer a = oskuramos_read_csv((const uint8_t *)sheet, length, lend_words(&f), fields_length, lend_bytes(&o), out_length);
+    return is(a, 0, 11, 5, 0) && memcmp(f.word + GUARD, sheet_rows, sizeof sheet_rows) == 0 && memcmp(o.byte + GUARD, "10064a,\"\r\ne", 11) == 0 &&
+           words_kept(&f, 10) && bytes_kept(&o, 11);
+}
+
+static bool sheet_refused(const char *text, size_t fields_length, size_t out_length, uint32_t number) {
+    words f;
+    bytes o;
+    oskuramos_answer a = oskuramos_read_csv((const uint8_t *)text, strlen(text), lend_words(&f), fields_length, lend_bytes(&o), out_length);
+    return is(a, number, 0, 0, 0) && words_kept(&f, 0) && bytes_kept(&o, 0);
+}
+
+static void sheets(void) {
+    check(sheet_read(sizeof sheet - 1, 10, 11), "comma-separated text in the room that it needs: rows, bytes and the guards");
+    check(sheet_read(sizeof sheet - 3, ROOM, ROOM), "without its last CR LF, in much room: the same, and all else stays");
+    check(sheet_read(sizeof sheet - 1, 11, 12), "a word and a byte more: both stay");
+    check(sheet_refused(sheet, 9, 11, 13) && sheet_refused(sheet, 10, 10, 13), "13 for a row or a byte too little, and nothing is written");
+    check(sheet_refused("a,b,c,d", 0, 0, 14) && sheet_refused("a,b,c,d,e\n", ROOM, ROOM, 14), "14 for four fields, before 13, and for LF alone");
+    check(sheet_refused("a,b,c,d,e,f", ROOM, ROOM, 14) && sheet_refused("a,b,c,d,\"e", ROOM, ROOM, 14), "14 for six fields, and for an open quote");
+}
+
 /* ---- controls paired with TypeInfo: "Odd" as UTF-16 at 0, "odd" as bytes at 6; in TypeInfo's stream "ODD", "CONTROL_1" and "o" */
 static const uint8_t control_names[9] = {'O', 0, 'd', 0, 'd', 0, 'o', 'd', 'd'};
 static const uint8_t info_names[] = "ODDCONTROL_1o";
@@ -529,6 +557,7 @@ static void nulls(void) {
     check(is(oskuramos_read_later(0, NULL, 0, NULL, 0, NULL, 0), 0, 0, 0, 0), "null for all that read_later is lent");
     check(oskuramos_read_type_info(NULL, 0, NULL, 0).number == 1, "null for all that read_type_info is lent");
     check(is(oskuramos_pair(NULL, 0, NULL, 0, 0, NULL, 0, NULL, 0, 0), 0, 0, 0, 0), "null for all that pair is lent");
+    check(is(oskuramos_read_csv(NULL, 0, NULL, 0, NULL, 0), 14, 0, 0, 0), "null for text, rows and bytes: no record");
     check(!oskuramos_well_formed(NULL, 0) && oskuramos_well_formed(table, sizeof table), "null for a code table");
     check(is(oskuramos_join(NULL, 0, NULL, 0, NULL, 0), 8, 0, 0, 0), "null for two tables, and no room");
     check(is(oskuramos_join(table, sizeof table, table, sizeof table, NULL, 0), 9, 0, 0, 0), "null for the joined table");
@@ -550,6 +579,7 @@ int main(void) {
     readers(large);
     type_info(large);
     pairings();
+    sheets();
     rooms();
     joinings();
     rewriting(large);

@@ -47,6 +47,12 @@ static void read_later(void) { answer = oskuramos_read_later(table[0], stream, l
 static void read_type_info(void) { answer = oskuramos_read_type_info(stream, length, controls, ROWS); }
 
 /* A numbered control and one by its bytes, against every row of TypeInfo; they stand in `properties`. */
+static void read_csv(void) {
+    static const uint8_t sheet[] = "1,0064,Name,text,\"a,\"\"b\"\"\"\r\n2,0064,Left,short,-1";
+    static uint8_t bytes[64];
+    answer = oskuramos_read_csv(sheet, sizeof sheet - 1, properties, 20, bytes, sizeof bytes);
+}
+
 static void pair(void) {
     static const uint32_t rows[16] = {0, 1, UINT32_MAX, 0, 0, 0, 0, 0, 0, 2, 0, 4};
     memcpy(properties, rows, sizeof rows);
@@ -219,6 +225,8 @@ int main(int argc, char **argv) {
     expect(0, "TypeInfo");
     told(pair, "pair");
     expect(0, "rows paired");
+    told(read_csv, "read_csv");
+    expect(0, "comma-separated text");
     told(well_formed, "well_formed");
     expect(0, "the code table");
     half_table(half[0], 0), half_table(half[1], 32);
