@@ -151,6 +151,9 @@ pub record Zero (t s cs ps : List ℕ) : Type 0 where
   pub formed : wellFormed t ≡ true
   pub reading : Reading
   pub is-read : readingOf t s ≡ some reading
+  pub met : outcome t s (room controlWidth cs) (room propertyWidth ps) ≡ read reading
+  pub controls-fit : length (reading .controls) ≤ room controlWidth cs
+  pub properties-fit : length (properties reading) ≤ room propertyWidth ps
   pub is-seen : exit t s cs ps ≡ exitBy (read reading) cs ps
   pub rows : Rows reading (exitBy (read reading) cs ps)
 
@@ -168,6 +171,9 @@ zero-read t s cs ps e = go (answerOf (outcome t s (room controlWidth cs) (room p
       formed = j .formed;
       reading = r;
       is-read = w;
+      met = rw (le-ltb longest (length s) (j .not-long), j .formed, w, le-ltb (room controlWidth cs) (length (r .controls)) h, le-ltb (room propertyWidth ps) (length (properties r)) k);
+      controls-fit = h;
+      properties-fit = k;
       is-seen = rw (le-ltb longest (length s) (j .not-long), j .formed, w, le-ltb (room controlWidth cs) (length (r .controls)) h, le-ltb (room propertyWidth ps) (length (properties r)) k);
       rows = rows-seen cs ps r h k;
     }

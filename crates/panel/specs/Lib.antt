@@ -1,0 +1,1 @@
+pub mod ByRows  -- controls by their rows, and what is asked of rows that are judged
