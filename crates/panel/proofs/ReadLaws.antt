@@ -1,5 +1,5 @@
 -- What is read, as controls again: the rows of a reading show its controls, so they are judged as the reading is.
-use Prim.Native.Nat.{ℕ, suc, _+_, _*_, _/_, _≤_, _<_}
+use Prim.Native.Nat.{ℕ, zero, suc, _+_, _*_, _/_, _≤_, _<_}
 use native.Mathlib.Omega.{arith}
 use mathlib.Core.Path.{_≡_, refl, sym, ap, ap₂, subst, _∙_}
 use mathlib.Core.Bool.{Bool, true, false, cond}
@@ -19,53 +19,33 @@ use Rattle.rules.specs.declared.Property.{Property}
 use Rattle.rules.specs.declared.Name.{Name}
 use Rattle.rules.specs.declared.Name.the-variants.{Text, Numbered, Loose}
 use Rattle.rules.specs.Panel.{broken, verdict, panelAnswer, panelExit}
+use Rattle.claims.specs.Panels.{shownProperties, shownControl, shownControls}
 use Rattle.claims.proofs.RowsSeen as seen
+use Rattle.claims.proofs.PanelRows.{reading-shown}
 use Rattle.claims.proofs.RowChecks.{row-checks}
 use Rattle.blob.specs.Exit.{exited}
 use Rattle.rows.specs.Get.{shownBy, propertiesFrom}
 use Rattle.panel.specs.ByRows.{rowOf, nameBy, controlBy, controlsFrom, Rows}
 
--- ---- a row shows what it is made of
-control-shown : (n first : ℕ) (c : Control) (ps : List ℕ) → propertiesFrom ps first (length (c .properties)) ≡ c .properties → controlBy (controlRow n first c) ps ≡ c
-unfolding controlRow controlBy
-control-shown n first c ps e = go (c .name) refl
-  where
-    by : Name → Control
-    by m = record { type = c .type; name = m; properties = c .properties; level = c .level; parent = c .parent }
+-- ---- the controls that rows show, in the words of the claim
+properties-shown : (e : Exit) (j n : ℕ) → propertiesFrom (e .properties) j n ≡ shownProperties e j n
+unfolding propertiesFrom shownProperties
+properties-shown e j zero = refl
+properties-shown e j (suc n) = ap (λ l. shownBy (rowAt propertyWidth j (e .properties)) ∷ l) (properties-shown e (j + 1) n)
 
-    go : (m : Name) → c .name ≡ m → controlBy (seen.wordsOf n first c m) ps ≡ by m
-    go (Text a b) q = ap (λ l. record { type = c .type; name = Text a b; properties = l; level = c .level; parent = c .parent }) e
-    go Numbered q = ap (λ l. record { type = c .type; name = Numbered; properties = l; level = c .level; parent = c .parent }) e
-    go (Loose a b) q = ap (λ l. record { type = c .type; name = Loose a b; properties = l; level = c .level; parent = c .parent }) e
-
--- rows that show the properties one by one show them all
-properties-shown : (ps : List ℕ) (first : ℕ) (l : List Property)
-    → ((k : ℕ) → k < length l → rowAt propertyWidth (first + k) ps ≡ propertyRow (getD l k seen.no-property)) → propertiesFrom ps first (length l) ≡ l
-unfolding propertiesFrom
-properties-shown ps first [] h = refl
-properties-shown ps first (p ∷ l) h =
-    let z : first + 0 ≡ first = omega arith in
-    let one : rowAt propertyWidth first ps ≡ propertyRow p = ap (λ (n : ℕ). rowAt propertyWidth n ps) (sym z) ∙ h 0 (omega arith) in
-    ap₂ _∷_ (ap shownBy one) (properties-shown ps (first + 1) l (λ k u.
-    let e : first + 1 + k ≡ first + suc k = omega arith in ap (λ (n : ℕ). rowAt propertyWidth n ps) e ∙ h (suc k) (omega arith)))
-
-controls-shown : (cs ps : List ℕ) (i : ℕ) (l : List Control) → ((k : ℕ) → k < length l → controlBy (rowOf cs (i + k)) ps ≡ getD l k seen.no-control)
-    → controlsFrom cs ps i (length l) ≡ l
-unfolding controlsFrom
-controls-shown cs ps i [] h = refl
-controls-shown cs ps i (c ∷ l) h =
-    let z : i + 0 ≡ i = omega arith in
-    ap₂ _∷_ (ap (λ (n : ℕ). controlBy (rowOf cs n) ps) (sym z) ∙ h 0 (omega arith)) (controls-shown cs ps (i + 1) l (λ k u.
-    let e : i + 1 + k ≡ i + suc k = omega arith in ap (λ (n : ℕ). controlBy (rowOf cs n) ps) e ∙ h (suc k) (omega arith)))
-
--- ---- the rows of a reading
-pub reading-shown : (r : Reading) (e : Exit) → seen.Rows r e → controlsFrom (e .controls) (e .properties) 0 (length (r .controls)) ≡ r .controls
-reading-shown r e rows =
-    controls-shown (e .controls) (e .properties) 0 (r .controls) λ k u.
-    let z : 0 + k ≡ k = omega arith in
-    ap (λ (n : ℕ). controlBy (rowOf (e .controls) n) (e .properties)) z
-    ∙ ap (λ row. controlBy row (e .properties)) (rows .control-row k u)
-    ∙ control-shown k (seen.firstOf r k) (seen.controlOf r k) (e .properties) (properties-shown (e .properties) (seen.firstOf r k) (seen.controlOf r k .properties) (λ q v. seen.own-row rows k q u v))
+controls-shown : (e : Exit) (i n : ℕ) → controlsFrom (e .controls) (e .properties) i n ≡ shownControls e i n
+unfolding controlsFrom shownControls controlBy shownControl
+controls-shown e i zero = refl
+controls-shown e i (suc n) =
+    ap₂ _∷_
+    (ap (λ l. record {
+      type = word (rowOf (e .controls) i) 0;
+      name = nameBy (word (rowOf (e .controls) i) 1) (word (rowOf (e .controls) i) 2) (word (rowOf (e .controls) i) 3);
+      properties = l;
+      level = word (rowOf (e .controls) i) 6;
+      parent = word (rowOf (e .controls) i) 7;
+    }) (properties-shown e (word (rowOf (e .controls) i) 4) (word (rowOf (e .controls) i) 5)))
+    (controls-shown e (i + 1) n)
 
 -- ---- the exit of a call
 module _ (t s cs ps : List ℕ) (a : Answer) (cs′ ps′ : List ℕ) (x : exited a cs′ ps′ ≡ exit t s cs ps) where
@@ -127,6 +107,6 @@ module _ (t s cs ps : List ℕ) (a : Answer) (cs′ ps′ : List ℕ) (x : exite
 
     pub judged-on : (b : Answer) → b ≡ verdict (broken s (controlsFrom cs′ ps′ 0 (a .first))) → exited b cs′ ps′ ≡ panelExit t s cs ps
     judged-on b e =
-        let shown : controlsFrom cs′ ps′ 0 (a .first) ≡ reading .controls = ap (controlsFrom cs′ ps′ 0) many ∙ reading-shown reading (exited a cs′ ps′) its-rows in
+        let shown : controlsFrom cs′ ps′ 0 (a .first) ≡ reading .controls = controls-shown (exited a cs′ ps′) 0 (a .first) ∙ ap (shownControls (exited a cs′ ps′) 0) many ∙ reading-shown reading (exited a cs′ ps′) its-rows in
         let v : b ≡ verdict (broken s (reading .controls)) = e ∙ ap (λ l. verdict (broken s l)) shown in
         (λ i. exited (v i) (same-exit i .controls) (same-exit i .properties)) ∙ sym panel-is
