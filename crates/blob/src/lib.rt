@@ -21,7 +21,7 @@ ghost use Rattle.rows.specs.Judge.{Exits};
 ghost use Rattle.blob.specs.Exit.{exited, partOr, placeOr, partPlace};
 
 // The stream's first byte is the code table's layout byte.
-fn is_2000(table: &[u8], stream: &[u8]) -> bool
+pub fn is_2000(table: &[u8], stream: &[u8]) -> bool
     ensures { λ r. ⌜ r ≡ is2000 (now (table .entry)) (now (stream .entry)) ⌝ }
 {
     if stream.len() == 0 {

@@ -25,7 +25,7 @@ abbrev pub howMany : {P : Type 0} → Nodes P → ℕ
 howMany none = 0
 howMany (some y) = length (y .0)
 
-fewer : {P : Type 0} (x : Node P) (o : Nodes P) → Held (λ _. Unit) (x ∷ [] before o) → howMany o < howMany (x ∷ [] before o)
+pub fewer : {P : Type 0} (x : Node P) (o : Nodes P) → Held (λ _. Unit) (x ∷ [] before o) → howMany o < howMany (x ∷ [] before o)
 fewer x none h = absurd h
 fewer x (some y) h = omega arith
 
@@ -33,7 +33,7 @@ some-left : {P : Type 0} (f : Node P → Control) (o : Nodes P) (st : State) →
 some-left f none st h = h
 some-left f (some y) st h = tt
 
-start-nodes : {P : Type 0} (step : Steps P) (a : List ℕ) (n at : ℕ)
+pub start-nodes : {P : Type 0} (step : Steps P) (a : List ℕ) (n at : ℕ)
     → restBy step isReported 0 a (cursor at 0 n noParent) ≡ topNodes (levelsAt (entryBy step) levels n at)
 unfolding restBy restAt tailAt outer nodesOf
 start-nodes {P = P} step a n at = go (levelsAt (entryBy step) levels n at)

@@ -33,7 +33,7 @@ use Rattle.later.specs.declared.WrittenGroup.{WrittenGroup}
 use Rattle.later.proofs.WriteNodeLaws.{own-many}
 
 -- ---- the tree, written by its top list
-whole-same : (s : List ℕ) (Q : List (Node Prop) × ℕ → Type 0) (o : Option (Entries Prop × ℕ)) → Held Q (topNodes (o >>= whole s)) → (o >>= whole s) ≡ o
+pub whole-same : (s : List ℕ) (Q : List (Node Prop) × ℕ → Type 0) (o : Option (Entries Prop × ℕ)) → Held Q (topNodes (o >>= whole s)) → (o >>= whole s) ≡ o
 whole-same s Q none h = absurd h
 whole-same s Q (some x) h = go (eqb (x .1) (length s)) h
   where
@@ -59,11 +59,11 @@ module _ (s : List ℕ) (t p : ℕ) (st : State) (h : NodesReady s (topNodes (wh
     tree-done d = d ∙ ap (λ o. actBy (treeControl s) o st) (sym tree-same)
 
 -- ---- the stream
-later-is : (s : List ℕ) → 14 ≤ length s → readLater s ≡ record { own = map (propertyOf s) (objectGroup s .props); controls = map (control s) (nodesBy s (treeOf s)) }
+pub later-is : (s : List ℕ) → 14 ≤ length s → readLater s ≡ record { own = map (propertyOf s) (objectGroup s .props); controls = map (control s) (nodesBy s (treeOf s)) }
 unfolding readLater laterOf
 later-is s h = rw (le-ltb (length s) 14 h)
 
-same-many : (s : List ℕ) (n : Node Prop) → length (control s n .properties) ≡ length (n .props)
+pub same-many : (s : List ℕ) (n : Node Prop) → length (control s n .properties) ≡ length (n .props)
 same-many s = own-many s (nameIn s (treeOf s))
 
 module _ {s : List ℕ} {tree : Bool} {cs ps : List ℕ} (h : BlobReady s tree cs ps) where

@@ -44,7 +44,7 @@ pub record Parts (s : List ℕ) (p : ℕ) (x : Step Prop) : Type 0 where
   pub props-are : x .props ≡ groupIn s p .props
   pub kids : childrenOf s p ≡ some (countOf (x .children), x .next)
 
-parts : (s : List ℕ) (p : ℕ) (x : Step Prop) → stepAt s p ≡ some x → Parts s p x
+pub parts : (s : List ℕ) (p : ℕ) (x : Step Prop) → stepAt s p ≡ some x → Parts s p x
 unfolding stepAt childrenOf
 parts s p x e = go (groupIn s p .trailer) refl e
   where

@@ -63,7 +63,7 @@ pub struct WrittenGroup {
 }
 
 // The property at `at`, whose value has `size` bytes.
-fn property_at(s: &[u8], at: usize, size: usize) -> Property
+pub fn property_at(s: &[u8], at: usize, size: usize) -> Property
     requires { ⌜ PropertyInside (now s) at size ⌝ }
     ensures { λ r. ⌜ r ≡ propertyOf (now (s .entry)) (propertyAt (now (s .entry)) at) ⌝ }
 {

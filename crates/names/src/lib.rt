@@ -17,7 +17,7 @@ const NO_ROOM: u32 = 9;
 
 // ---- names that are parts of a lent directory
 // The place of `id` in `ids`, by halving, or their number where it has none.
-fn place_in(ids: &[u32], id: u32) -> usize
+pub fn place_in(ids: &[u32], id: u32) -> usize
     requires { ⌜ T (ascends 0 (now ids)) ⌝ }
     ensures { λ r. ⌜ r ≡ placeIn (now (ids .entry)) id ⌝ }
 {

@@ -38,7 +38,7 @@ byte-is : (s : List ℕ) (p : ℕ) → Every (λ b. (b ≡ byte s p) × (p < len
 unfolding byteAt
 byte-is s p = every-if (λ b. (b ≡ byte s p) × (p < length s)) (ltb p (length s)) _ _ (λ t. (refl, ltb-true _ _ t)) λ _. tt
 
-half-is : (s : List ℕ) (p : ℕ) → Every (λ n. (n ≡ u16 s p) × (p + 1 < length s)) (halfAt s p)
+pub half-is : (s : List ℕ) (p : ℕ) → Every (λ n. (n ≡ u16 s p) × (p + 1 < length s)) (halfAt s p)
 unfolding halfAt u16
 half-is s p =
     every-then (λ b. (b ≡ byte s p) × (p < length s)) (λ n. (n ≡ u16 s p) × (p + 1 < length s)) (byteAt s p) _ (byte-is s p) λ lo h.

@@ -56,7 +56,7 @@ fn header_mark(report: bool) -> u32
     if report { REPORT_HEADER } else { FORM_HEADER }
 }
 
-fn type_code(table: &[u8], report: bool, entry_type: u16) -> u32
+pub fn type_code(table: &[u8], report: bool, entry_type: u16) -> u32
     ensures { λ r. ⌜ r ≡ typeCode (header (now (table .entry))) report «entry_type» ⌝ }
 {
     if is_header(table, entry_type) {

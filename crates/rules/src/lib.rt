@@ -37,7 +37,8 @@ pub struct Room {
 }
 
 // Running totals over many streams: by answer number, by type name, unmapped and mapped properties, by mark.
-// What each place counts stands in specs/Totals.antt.
+// What each place counts stands in specs/Totals.antt. It is laid out as C lays it out, since C programs lend it.
+#[repr(C)]
 pub struct Totals {
     pub answers: [u32; 6],
     pub types: [u32; 31],

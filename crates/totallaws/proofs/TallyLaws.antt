@@ -68,7 +68,7 @@ tally-map is f (k ∷ ks) xs = ap₂ (λ (n : ℕ) (l : List ℕ). n ∷ l) (man
 
 -- ---- for code that goes through a list, adding one at a place
 -- where no key passes, none is there to add to
-nothing-at : {K : Type 0} (p : K → Bool) (ks : List K) (d : K) (i : ℕ) → howMany p ks ≡ 0 → i < length ks → p (getD ks i d) ≡ false
+pub nothing-at : {K : Type 0} (p : K → Bool) (ks : List K) (d : K) (i : ℕ) → howMany p ks ≡ 0 → i < length ks → p (getD ks i d) ≡ false
 unfolding howMany
 nothing-at p [] d i e h = absurd (omega arith)
 nothing-at p (k ∷ ks) d zero e h = go (p k) e

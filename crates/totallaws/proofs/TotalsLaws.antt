@@ -40,7 +40,7 @@ sum-at Total.unmapped a b = refl
 sum-at Total.mapped a b = refl
 sum-at (Total.mark i) a b = sums-at (a .marks) (b .marks) i
 
-zero-at : (n i : ℕ) → getD {A = ℕ} (replicate n 0) i 0 ≡ 0
+pub zero-at : (n i : ℕ) → getD {A = ℕ} (replicate n 0) i 0 ≡ 0
 zero-at zero i = refl
 zero-at (suc n) zero = refl
 zero-at (suc n) (suc i) = zero-at n i
@@ -205,7 +205,7 @@ placed name (k ∷ ks) h = go (same name k) refl h (placed name ks)
 abbrev pub typePlace : ℕ → ℕ
 typePlace type = placeOf (nameIn controlTypeNames type) typesCounted
 
-types-many : length typesCounted ≡ 31
+pub types-many : length typesCounted ≡ 31
 unfolding totals-open
 types-many = refl
 
