@@ -1,0 +1,77 @@
+-- The place of a type, by its row in the table of control types.
+use Prim.Native.Nat.{ℕ, zero, suc, _≤_, _<_}
+use Prim.Native.String.{String}
+use native.Mathlib.Omega.{arith}
+use mathlib.Core.Path.{_≡_, refl, sym, ap, _∙_}
+use mathlib.Core.Bool.{Bool, true, false, cond}
+use mathlib.Core.List.{List, [], _∷_, _++_, map}
+use mathlib.Core.Option.{Option, none, some}
+use lib.Dec.{T, eqb}
+use lib.ListN.{length, getD}
+use borrow.Author.Tests.{eqb-true}
+use Rattle.rules.specs.Lists.{ascends, find}
+use Rattle.rules.specs.NameTables.{Table, controlTypeNames}
+use Rattle.rules.specs.Names.{hasId}
+use Rattle.rules.proofs.OpenTotals.{totals-open}
+use Rattle.names.specs.Lookup.{placeIn}
+use Rattle.totallaws.proofs.TotalsLaws.{typePlace, type-places, type-placed, no-type-place}
+
+abbrev idsOf : Table → List ℕ
+idsOf t = map (λ row. row .0) t
+
+-- what is kept for each row stands at the place of the row's id, and what is kept for no row after them
+by-place : (f : ℕ → ℕ) (last : ℕ) (t : Table) (id : ℕ) → (find (hasId id) t ≡ none → f id ≡ last)
+    → getD (map (λ row. f (row .0)) t ++ (last ∷ [])) (placeIn (idsOf t) id) 0 ≡ f id
+unfolding placeIn find
+by-place f last [] id h = sym (h refl)
+by-place f last (row ∷ t) id h = go (eqb (row .0) id) refl h (by-place f last t id)
+  where
+    go : (b : Bool) → eqb (row .0) id ≡ b → (cond b (some row) (find (hasId id) t) ≡ none → f id ≡ last)
+        → ((find (hasId id) t ≡ none → f id ≡ last) → getD (map (λ row. f (row .0)) t ++ (last ∷ [])) (placeIn (idsOf t) id) 0 ≡ f id)
+        → getD (map (λ row. f (row .0)) (row ∷ t) ++ (last ∷ [])) (cond b 0 (suc (placeIn (idsOf t) id))) 0 ≡ f id
+    go true e h rest = ap f (eqb-true (row .0) id e)
+    go false e h rest = rest h
+
+pub place-most : (ids : List ℕ) (id : ℕ) → placeIn ids id ≤ length ids
+unfolding placeIn
+place-most [] id = omega arith
+place-most (x ∷ ids) id = go (eqb x id) (place-most ids id)
+  where
+    go : (b : Bool) → placeIn ids id ≤ length ids → cond b 0 (suc (placeIn ids id)) ≤ suc (length ids)
+    go true h = omega arith
+    go false h = omega arith
+
+-- the codes as the code has them, and the places
+abbrev pub codes : List ℕ
+codes =
+    0x64 ∷ 0x65 ∷ 0x66 ∷ 0x67 ∷ 0x68 ∷ 0x69 ∷ 0x6A ∷ 0x6B ∷ 0x6C ∷ 0x6D ∷ 0x6E ∷ 0x6F ∷ 0x70 ∷ 0x72 ∷ 0x76 ∷ 0x77 ∷ 0x7A ∷ 0x7B ∷ 0x7C ∷ 0x98 ∷ 0x9B ∷ 0x9C ∷ 0x9D ∷ 0x9E
+    ∷ 0x66A ∷ 0xA7A ∷ 0xB68 ∷ 0xC64 ∷ 0xD64 ∷ 0xE65 ∷ 0xF67 ∷ 0x126D ∷ 0x136F ∷ 0x1470 ∷ 0x1666 ∷ 0x1898 ∷ 0x1899 ∷ 0x189A ∷ 0x1998 ∷ 0x1999 ∷ 0x199A ∷ 0x199D ∷ 0x199E
+    ∷ 0x1B64 ∷ 0x1B65 ∷ 0x1B66 ∷ 0x1B67 ∷ 0x1B68 ∷ 0x1B6A ∷ 0x1B6D ∷ 0x1B6F ∷ 0x1B70 ∷ 0x1F9B ∷ 0x1F9C ∷ 0x247F ∷ []
+
+codes-are : codes ≡ idsOf controlTypeNames
+unfolding totals-open
+codes-are = refl
+
+pub codes-ascend : T (ascends 0 codes)
+unfolding totals-open
+codes-ascend = tt
+
+abbrev pub places : List ℕ
+places =
+    0 ∷ 1 ∷ 2 ∷ 3 ∷ 4 ∷ 5 ∷ 6 ∷ 7 ∷ 8 ∷ 9 ∷ 10 ∷ 11 ∷ 12 ∷ 13 ∷ 14 ∷ 15 ∷ 16 ∷ 17 ∷ 18 ∷ 19 ∷ 20 ∷ 21 ∷ 22 ∷ 23 ∷ 6 ∷ 16 ∷ 4 ∷ 0 ∷ 0 ∷ 1 ∷ 3 ∷ 9 ∷ 11 ∷ 12 ∷ 2 ∷ 19 ∷ 24 ∷ 25 ∷ 19 ∷ 26
+    ∷ 27 ∷ 22 ∷ 23 ∷ 0 ∷ 1 ∷ 2 ∷ 3 ∷ 4 ∷ 6 ∷ 9 ∷ 11 ∷ 28 ∷ 20 ∷ 21 ∷ 29 ∷ 30 ∷ []
+
+pub place-is : (type : ℕ) → getD places (placeIn codes type) 0 ≡ typePlace type
+place-is type =
+    let e : places ≡ map (λ row. typePlace (row .0)) controlTypeNames ++ (30 ∷ []) = ap (λ (l : List ℕ). l ++ (30 ∷ [])) (sym type-places) in
+    (λ i. getD (e i) (placeIn (codes-are i) type) 0) ∙ by-place typePlace 30 controlTypeNames type (no-type-place type)
+
+module _ (type : ℕ) {i : ℕ} (e : i ≡ placeIn codes type) where
+  pub place-inside : i < 56
+  place-inside = omega (arith, e, place-most codes type)
+
+  pub place-found : getD places i 0 ≡ typePlace type
+  place-found = ap (λ (j : ℕ). getD places j 0) e ∙ place-is type
+
+  pub place-small : getD places i 0 < 31
+  place-small = omega (arith, place-found, type-placed type .0)

@@ -1,0 +1,94 @@
+use native.Mathlib.Omega.{arith}
+use borrow.Author.Needs.{needs}
+use Prim.Native.Nat.{_-_}
+use mathlib.Core.Path.{_≡_}
+use mathlib.Core.Bool.{true}
+use denote.Ref.{now}
+use lib.ListN.{length}
+use Rattle.rules.specs.Access2000.{goesOn}
+use Rattle.rules.proofs.Access2000Laws.{past-end}
+use Rattle.coderows.specs.Look.{bodyRows}
+use Rattle.walk2000.proofs.Runs.{starts, stops, ends}
+use Rattle.run2000.specs.Runs.{shownIn}
+use Rattle.run2000.proofs.Sizes.{value-sized}
+use Rattle.tally2000.proofs.RunLaws.{Left, left-start, left-stop, left-bad, left-more}
+use Rattle.tally2000.proofs.count_run.Statement.{statement}
+use Rattle.tally2000.proofs.count_run.Tie as tie
+
+abbrev Inv-loop : tie.InvT-loop
+Inv-loop table hints₀ body s at words₀ p₀ hints words p = Left (shownIn (bodyRows table body) s) s at words₀ words p
+
+abbrev μ-loop : tie.MeasureT-loop
+μ-loop table hints₀ body s at words₀ p₀ hints words p = length s - p
+
+-- a property starts here, in the stream that is lent at the start
+abbrev start-of : tie.Else1 Inv-loop μ-loop → tie.Start Inv-loop μ-loop
+start-of c = search
+
+goes : (c : tie.Else1 Inv-loop μ-loop) → goesOn (now (start-of c .args .s)) (c .before .before .before .loop .p) ≡ true
+goes c = starts _ _ (omega (arith, c .before .before .loop-test .taken)) (omega (arith, c .if1 .left))
+
+returns : tie.Need-returns Inv-loop μ-loop
+returns c =
+    let turn : tie.At-loop Inv-loop μ-loop = search in
+    left-stop (turn .loop .inv) (stops _ _ (omega (arith, c .before .before .loop-test .taken)) (omega (arith, c .if1 .taken)))
+
+returns-2 : tie.Need-returns-2 Inv-loop μ-loop
+returns-2 c =
+    let else1 : tie.Else1 Inv-loop μ-loop = search in
+    let turn : tie.At-loop Inv-loop μ-loop = search in
+    let valued : tie.After-value Inv-loop μ-loop = search in
+    absurd (left-bad (turn .loop .inv) (goes else1) (valued .value .ensures) (c .enum-told .given .1))
+
+property-requires : tie.Need-property-requires Inv-loop μ-loop
+property-requires c κs =
+    let started : tie.After-start Inv-loop μ-loop = search in
+    let valued : tie.After-value Inv-loop μ-loop = search in
+    let start : tie.Start Inv-loop μ-loop = search in
+    let v = valued .value .ensures in
+    let k = started .start .given .1 in
+    record { small = start .pre .small; sorted = start .pre .sorted; inside = ends _ _ _ _ _ v k .1; sized = value-sized _ _ _ _ _ v k }
+
+add-p : tie.Need-add-p Inv-loop μ-loop
+add-p c =
+    let started : tie.After-start Inv-loop μ-loop = search in
+    let valued : tie.After-value Inv-loop μ-loop = search in
+    let start : tie.Start Inv-loop μ-loop = search in
+    omega (arith, ends _ _ _ _ _ (valued .value .ensures) (started .start .given .1), start .pre .small)
+
+loop-less : tie.Need-loop-less Inv-loop μ-loop
+loop-less c =
+    let started : tie.After-start Inv-loop μ-loop = search in
+    let valued : tie.After-value Inv-loop μ-loop = search in
+    omega (arith, ends _ _ _ _ _ (valued .value .ensures) (started .start .given .1))
+
+loop-again : tie.Need-loop-again Inv-loop μ-loop
+loop-again c =
+    let counted : tie.After-count-property Inv-loop μ-loop = search in
+    let shown : tie.After-property Inv-loop μ-loop = search in
+    let started : tie.After-start Inv-loop μ-loop = search in
+    let valued : tie.After-value Inv-loop μ-loop = search in
+    let else1 : tie.Else1 Inv-loop μ-loop = search in
+    let turn : tie.At-loop Inv-loop μ-loop = search in
+    left-more (turn .loop .inv) (goes else1) (valued .value .ensures) (started .start .given .1) (shown .property .ensures) (counted .count-property .ensures) (counted .count-property .kept .0)
+
+pub count-run-spec : {M : Type 1} → statement M
+count-run-spec =
+    tie.close
+    (tie.spec
+    Inv-loop
+    μ-loop
+    (λ c. let start : tie.Start Inv-loop μ-loop = search in left-start (start .pre .there))
+    (λ c. search needs)
+    (λ c. let turn : tie.At-loop Inv-loop μ-loop = search in turn .loop .inv .same)
+    returns
+    (λ c κs. search needs) (λ c. search needs) (λ c. search needs)
+    (λ c. let turn : tie.At-loop Inv-loop μ-loop = search in turn .loop .inv .same)
+    returns-2
+    property-requires
+    (λ c κs. search needs)
+    add-p
+    loop-less
+    loop-again
+    (λ c. let turn : tie.At-loop Inv-loop μ-loop = search in turn .loop .inv .same)
+    (λ c. let turn : tie.At-loop Inv-loop μ-loop = search in left-stop (turn .loop .inv) (past-end _ _ (omega (arith, c .loop-test .left)))))
