@@ -16,7 +16,7 @@ use Rattle.rules.proofs.ScalarLaws.{ended, by-unit}
 use Rattle.rules.proofs.ListLaws.{and-l, and-r}
 use Rattle.utf16.specs.Plain.{isPlain, plainFour, Skipped}
 
-two : (s : List ℕ) (i : ℕ) → i + 1 < length s → drop i s ≡ byte s i ∷ byte s (i + 1) ∷ drop (i + 2) s
+pub two : (s : List ℕ) (i : ℕ) → i + 1 < length s → drop i s ≡ byte s i ∷ byte s (i + 1) ∷ drop (i + 2) s
 two s i h =
     drop-cons s i 0 (omega arith)
     ∙ ap (λ (n : ℕ). byte s i ∷ drop n s) (sym (add-one i))

@@ -19,7 +19,7 @@ const ABOVE: u16 = 0xE000;
 // The high byte of a surrogate or of a unit above is this or more.
 const HIGH_BYTE: u8 = 0xD8;
 
-fn is_high(u: u16) -> bool
+pub fn is_high(u: u16) -> bool
     ensures { λ r. ⌜ r ≡ isHigh u ⌝ }
 {
     if u < HIGH { false } else { u < LOW }
