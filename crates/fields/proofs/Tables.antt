@@ -65,6 +65,10 @@ absent-in (r ∷ t) x h g =
     (ltb-true (r .0) 65536 (and-l (rowFits r) (all rowFits t) h))
     g (absent-in t x (and-r (rowFits r) (all rowFits t) h) g) (eqb (r .0) x) refl
 
+pub absent : (t : Table) (h : Fits t) (x : ℕ) → 65536 ≤ x → nameIn t x ≡ []
+unfolding nameIn
+absent t h x g = absent-in t x h g
+
 pub dash : (t : Table) (h : Fits t) (x : ℕ) → 65536 ≤ x → orDash (nameIn t x) ≡ text "-"
 unfolding nameIn orDash
 dash t h x g = ap orDash (absent-in t x h g)

@@ -1,0 +1,25 @@
+use borrow.Author.Needs.{needs}
+use Rattle.text.proofs.Chain.{_⨟_}
+use Rattle.csvrecord.specs.Parts.{namedText}
+use Rattle.csvrecord.proofs.put_named.Statement.{statement}
+use Rattle.csvrecord.proofs.put_named.Tie as tie
+
+returns : tie.Need-returns
+unfolding namedText
+returns c =
+    let second : tie.After-put-byte2 = search in
+    let told : tie.After-put-word = search in
+    let first : tie.After-put-byte = search in
+    let named : tie.After-put-property = search in
+    named .put-property .ensures ⨟ first .put-byte .ensures ⨟ told .put-word .ensures ⨟ second .put-byte2 .ensures
+
+pub put-named-spec : {M : Type 1} → statement M
+put-named-spec =
+    tie.close
+    (tie.spec
+    (λ c κs. search needs)
+    (λ c κs. search needs)
+    (λ c κs. search needs)
+    (λ c κs. search needs)
+    (λ c. search needs)
+    returns)

@@ -1,0 +1,281 @@
+// A property's record of comma-separated text: written into a lent buffer, or only taken off a room.
+use csvtext::field_left;
+use csvtext::hexes_left;
+use csvtext::less;
+use csvtext::put_field;
+use csvtext::put_hexes;
+use rules::MARK_TEXT;
+use rules::Property;
+use text::label_length;
+use text::put_byte;
+use text::put_decimal;
+use text::put_hex;
+use text::put_text;
+use values::put_value;
+use values::put_word;
+use values::value_bytes;
+ghost use mathlib.Core.Path.{_≡_};
+ghost use Prim.Native.Nat.{_+_, _-_, _<_};
+ghost use lib.ListN.{length};
+ghost use Rattle.rules.specs.Digits.{decimal};
+ghost use Rattle.rules.specs.Listing.{markWord, number32, yesOrNo};
+ghost use Rattle.rules.specs.Names.{nameIn, namesFor};
+ghost use Rattle.rules.specs.Reading.{propertyRow};
+ghost use Rattle.rules.specs.Csv.{header, orId, recordText};
+ghost use Rattle.names.specs.Lookup.{Lent};
+ghost use Rattle.text.specs.Writer.{Wrote};
+ghost use Rattle.csvrecord.specs.Parts.{ownerText, namedText, valueField, tailText, ownedRecord, ColumnSize};
+
+// Whose property a record tells: the object's, or a control's.
+pub enum Owner {
+    Object,
+    Control { number: u32, type_code: u32 },
+}
+
+const COMMA: u8 = b',';
+
+const CR: u8 = 0x0D;
+
+const LF: u8 = 0x0A;
+
+// Digits of an id, of a type code.
+const CODE_DIGITS: u32 = 4;
+
+const CODE_SIZE: usize = 4;
+
+// No table has an id above this one.
+const LAST_NAMED: u32 = 0xffff;
+
+// ---- written
+pub fn put_header(out: &mut [u8], at: usize) -> usize
+    ensures { λ r. ⌜ Wrote (now (out .entry)) at (recordText header) (now (out .exit)) r ⌝ }
+{
+    put_text(out, at, b"control,type,property,word,value\r\n")
+}
+
+// The two fields that tell the owner, with a comma after each.
+fn put_owner(out: &mut [u8], at: usize, owner: Owner) -> usize
+    ensures { λ r. ⌜ Wrote (now (out .entry)) at (ownerText owner) (now (out .exit)) r ⌝ }
+{
+    match owner {
+        Owner::Object => put_text(out, at, b",,"),
+        Owner::Control { number, type_code } => {
+            let p = put_decimal(out, at, number);
+            let p = put_byte(out, p, COMMA);
+            let p = put_hex(out, p, CODE_DIGITS, type_code);
+            put_byte(out, p, COMMA)
+        }
+    }
+}
+
+fn put_name_or_id(out: &mut [u8], at: usize, name: &[u8], id: u32) -> usize
+    ensures { λ r. ⌜ Wrote (now (out .entry)) at (orId (now (name .entry)) id) (now (out .exit)) r ⌝ }
+{
+    if name.len() == 0 {
+        put_hex(out, at, CODE_DIGITS, id)
+    } else {
+        put_text(out, at, name)
+    }
+}
+
+// A property's name, or its id.
+fn put_property(
+    out: &mut [u8],
+    at: usize,
+    index: &[u32],
+    letters: &[u8],
+    mark: u32,
+    id: u32,
+) -> usize
+    requires { ⌜ Lent (now index) (now letters) ⌝ }
+    ensures { λ r. ⌜ Wrote (now (out .entry)) at (orId (nameIn (namesFor mark) id) id) (now (out .exit)) r ⌝ }
+{
+    if LAST_NAMED < id {
+        return put_hex(out, at, CODE_DIGITS, id);
+    }
+    put_name_or_id(
+        out,
+        at,
+        names::value_name_in(index, letters, mark, id as u16),
+        id,
+    )
+}
+
+// A property's value as a field.
+fn put_value_field(out: &mut [u8], at: usize, stream: &[u8], p: Property) -> usize
+    ensures { λ r. ⌜ Wrote (now (out .entry)) at (valueField (now (stream .entry)) (propertyRow p)) (now (out .exit)) r ⌝ }
+{
+    let v = p.value;
+    if v.mark == MARK_TEXT {
+        return put_field(out, at, value_bytes(stream, p.start, p.size));
+    }
+    if v.mark < MARK_TEXT {
+        return put_value(out, at, v.mark, v.low, v.high, stream, p.start, p.size);
+    }
+    put_hexes(out, at, value_bytes(stream, p.start, p.size))
+}
+
+// A property's name or id and the word of its value, with a comma after each.
+fn put_named(
+    out: &mut [u8],
+    at: usize,
+    index: &[u32],
+    letters: &[u8],
+    mark: u32,
+    id: u32,
+) -> usize
+    requires { ⌜ Lent (now index) (now letters) ⌝ }
+    ensures { λ r. ⌜ Wrote (now (out .entry)) at (namedText mark id) (now (out .exit)) r ⌝ }
+{
+    let q = put_property(out, at, index, letters, mark, id);
+    let q = put_byte(out, q, COMMA);
+    let q = put_word(out, q, mark);
+    put_byte(out, q, COMMA)
+}
+
+// A record after the fields that tell the owner.
+fn put_tail(
+    out: &mut [u8],
+    at: usize,
+    index: &[u32],
+    letters: &[u8],
+    stream: &[u8],
+    p: Property,
+) -> usize
+    requires { ⌜ Lent (now index) (now letters) ⌝ }
+    ensures { λ r. ⌜ Wrote (now (out .entry)) at (tailText (now (stream .entry)) (propertyRow p)) (now (out .exit)) r ⌝ }
+{
+    let v = p.value;
+    let q = put_named(out, at, index, letters, v.mark, p.id);
+    let q = put_value_field(out, q, stream, p);
+    let q = put_byte(out, q, CR);
+    put_byte(out, q, LF)
+}
+
+pub fn put_record(
+    out: &mut [u8],
+    at: usize,
+    index: &[u32],
+    letters: &[u8],
+    stream: &[u8],
+    owner: Owner,
+    p: Property,
+) -> usize
+    requires { ⌜ Lent (now index) (now letters) ⌝ }
+    ensures { λ r. ⌜ Wrote (now (out .entry)) at (recordText (ownedRecord (now (stream .entry)) owner (propertyRow p))) (now (out .exit)) r ⌝ }
+{
+    let q = put_owner(out, at, owner);
+    put_tail(out, q, index, letters, stream, p)
+}
+
+// ---- counted
+// A label is "Control_" and the number.
+fn decimal_size(n: u32) -> u32
+    ensures { λ r. ⌜ r ≡ length (decimal n) ⌝ }
+{
+    label_length(n) - 8
+}
+
+// How much the fields that tell the owner take of each record.
+pub fn owner_size(owner: Owner) -> usize
+    ensures { λ r. ⌜ r ≡ length (ownerText owner) ⌝ }
+{
+    match owner {
+        Owner::Object => 2,
+        Owner::Control {
+            number,
+            type_code: _,
+        } => (decimal_size(number) as usize) + 1 + CODE_SIZE + 1,
+    }
+}
+
+fn property_size(index: &[u32], letters: &[u8], mark: u32, id: u32) -> usize
+    requires { ⌜ Lent (now index) (now letters) ⌝ }
+    ensures { λ r. ⌜ r ≡ length (orId (nameIn (namesFor mark) id) id) ⌝ }
+{
+    if LAST_NAMED < id {
+        return CODE_SIZE;
+    }
+    let size = names::value_name_in(index, letters, mark, id as u16).len();
+    if size == 0 { CODE_SIZE } else { size }
+}
+
+fn word_size(mark: u32) -> usize
+    ensures { λ r. ⌜ r ≡ length (markWord mark) ⌝ }
+{
+    match mark {
+        0 => 4,
+        1 => 10,
+        2 => 5,
+        3 => 4,
+        4 => 6,
+        5 => 4,
+        6 => 4,
+        7 => 6,
+        _ => 5,
+    }
+}
+
+fn yes_size(low: u32) -> usize
+    ensures { λ r. ⌜ r ≡ length (yesOrNo low) ⌝ }
+{
+    if low == 0 { 2 } else { 3 }
+}
+
+fn signed_size(low: u32) -> usize
+    ensures { λ r. ⌜ r ≡ length (number32 low) ⌝ }
+{
+    if low < 0x8000_0000 {
+        decimal_size(low) as usize
+    } else {
+        1 + decimal_size(0xffff_ffff - low + 1) as usize
+    }
+}
+
+// A value as it is listed, of a mark below Text.
+fn column_size(mark: u32, low: u32) -> usize
+    requires { ⌜ mark < 6 ⌝ }
+    ensures { λ r. ⌜ ColumnSize mark low r ⌝ }
+{
+    match mark {
+        0 => yes_size(low),
+        1 => 1,
+        2 => signed_size(low),
+        3 => signed_size(low),
+        4 => 16,
+        _ => 38,
+    }
+}
+
+fn value_left(room: usize, stream: &[u8], p: Property) -> usize
+    ensures { λ r. ⌜ r ≡ room - length (valueField (now (stream .entry)) (propertyRow p)) ⌝ }
+{
+    let v = p.value;
+    if v.mark == MARK_TEXT {
+        return field_left(room, value_bytes(stream, p.start, p.size));
+    }
+    if v.mark < MARK_TEXT {
+        return less(room, column_size(v.mark, v.low));
+    }
+    hexes_left(room, value_bytes(stream, p.start, p.size))
+}
+
+// What is left of a room after a record, of which the owner's fields take `owner` bytes.
+pub fn record_left(
+    room: usize,
+    owner: usize,
+    index: &[u32],
+    letters: &[u8],
+    stream: &[u8],
+    p: Property,
+) -> usize
+    requires { ⌜ Lent (now index) (now letters) ⌝ }
+    ensures { λ r. ⌜ r ≡ room - (owner + length (tailText (now (stream .entry)) (propertyRow p))) ⌝ }
+{
+    let v = p.value;
+    let left = less(room, owner);
+    let left = less(left, property_size(index, letters, v.mark, p.id));
+    let left = less(left, word_size(v.mark));
+    let left = less(left, 4);
+    value_left(left, stream, p)
+}
