@@ -34,7 +34,7 @@ pub record Parts (at : Nesting) (s : List ℕ) (p : ℕ) (x : Step Prop) : Type 
   pub node-is : nodeAt at s p ≡ some (nodeOf (at .level) (at .parent) x ∷ [], end)
   pub list-is : listAt s end ≡ some (countOf (x .children), x .next)
 
-parts : (at : Nesting) (s : List ℕ) (p : ℕ) (x : Step Prop) → stepAt s p ≡ some x → Parts at s p x
+pub parts : (at : Nesting) (s : List ℕ) (p : ℕ) (x : Step Prop) → stepAt s p ≡ some x → Parts at s p x
 unfolding stepAt nodeAt
 parts at s p x e = go (halfAt s p) (runAt s (p + 2)) refl e
   where
