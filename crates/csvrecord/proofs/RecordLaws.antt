@@ -43,8 +43,12 @@ unfolding recordText propertyRecord ownerText namedText tailText valueField
 record-parts stream o row =
     let id = orId (nameIn (namesFor (word row 1)) (word row 0)) (word row 0) in
     let value = fieldText (valueText (word row 1) (word row 2) (word row 3) (word row 5) (part stream (word row 4) (word row 5))) in
-    rw (plain-field (controlField o) (control-plain o), plain-field (typeField o) (type-plain o), plain-field (markWord (word row 1)) (mark-plain (word row 1)),
-      plain-field id (or-id-plain (nameIn (namesFor (word row 1)) (word row 0)) (word row 0) (name-for-plain (word row 1) (word row 0))))
+    rw (
+      plain-field (controlField o) (control-plain o),
+      plain-field (typeField o) (type-plain o),
+      plain-field (markWord (word row 1)) (mark-plain (word row 1)),
+      plain-field id (or-id-plain (nameIn (namesFor (word row 1)) (word row 0)) (word row 0) (name-for-plain (word row 1) (word row 0))),
+    )
     (sym (two-fields (controlField o) (typeField o) _ ∙ ap (λ l. controlField o ++ (comma ∷ typeField o ++ (comma ∷ l))) (two-fields id (markWord (word row 1)) (value ++ crlf))))
 
 -- ---- names and ids

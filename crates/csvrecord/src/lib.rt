@@ -116,14 +116,7 @@ fn put_value_field(out: &mut [u8], at: usize, stream: &[u8], p: Property) -> usi
 }
 
 // A property's name or id and the word of its value, with a comma after each.
-fn put_named(
-    out: &mut [u8],
-    at: usize,
-    index: &[u32],
-    letters: &[u8],
-    mark: u32,
-    id: u32,
-) -> usize
+fn put_named(out: &mut [u8], at: usize, index: &[u32], letters: &[u8], mark: u32, id: u32) -> usize
     requires { ⌜ Lent (now index) (now letters) ⌝ }
     ensures { λ r. ⌜ Wrote (now (out .entry)) at (namedText mark id) (now (out .exit)) r ⌝ }
 {
