@@ -24,7 +24,7 @@ count-by n first k level parent (Text a b) = refl
 count-by n first k level parent Numbered = refl
 count-by n first k level parent (Loose a b) = refl
 
-row-count : (n first : ℕ) (c : Control) → word (controlRow n first c) 5 ≡ length (c .properties)
+pub row-count : (n first : ℕ) (c : Control) → word (controlRow n first c) 5 ≡ length (c .properties)
 unfolding controlRow
 row-count n first c = count-by n first (length (c .properties)) (c .level) (c .parent) (c .name)
 

@@ -1,0 +1,3 @@
+-- Laws that the functions' proofs cite, and whoever has the rows of a reading.
+pub mod Steps
+pub mod SheetLaws
