@@ -40,7 +40,7 @@ module _ {s : List ℕ} {limit at owner all p : ℕ} {any : Bool} {left : ℕ} (
     {r : Extent} (re : r ≡ extent s limit p) where
   pub taking-none : r ≡ Extent.Outside → GroupDone s limit at owner all (record { any = any; stop = p; trailer = 0; left = left })
   taking-none rk =
-      let e = group-none s limit p h (extent-outside s limit p r re rk) in
+      let e = group-none s limit p h (extent-outside s limit p re rk) in
       let q : propsAt s limit p ≡ [] = ap (λ g. g .props) e in
       record {
         left-is = omega (arith, w .is, ap (groupNeed s owner) q, needs-none s owner);
@@ -52,7 +52,7 @@ module _ {s : List ℕ} {limit at owner all p : ℕ} {any : Bool} {left : ℕ} (
 
   module _ {z e t : ℕ} (rk : r ≡ Extent.Inside z e t) where
     inside : Inside s limit p z e t
-    inside = extent-inside s limit p r z e t re rk
+    inside = extent-inside re rk
 
     now-some : 0 < length (propsAt s limit at)
     now-some = go any refl

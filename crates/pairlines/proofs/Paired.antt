@@ -28,7 +28,7 @@ use Rattle.claims.proofs.Pairing.{wish2}
 use Rattle.text.specs.Writer.{Wrote}
 use Rattle.text.proofs.Chain.{nothing, _⨟_}
 use Rattle.rows.proofs.GetLaws.{word-in}
-use Rattle.typeinfo.proofs.EntryLaws.{wide}
+use Rattle.rules.proofs.TypeInfoLaws.{info-wide}
 use Rattle.blob.specs.Exit.{exited}
 use Rattle.listing.specs.Shown.{linesTo}
 use Rattle.listing.specs.Bound.{longestAnswer, longestControl}
@@ -164,7 +164,7 @@ module _ (layout : ℕ) (t s is cs ps : List ℕ) (ta : Answer) (is′ : List �
           let f : length (typeInfoOf t) ≤ room typeInfoWidth is = info-read t (room typeInfoWidth is) zero-said .fits in
           let l : length (map typeInfoRow (typeInfoOf t)) ≡ length (typeInfoOf t) = length-map (typeInfoOf t) typeInfoRow in
           ap₂ (λ (n : ℕ) (words : List ℕ). infosIn n words) infos-many infos-written
-          ∙ rows-back typeInfoWidth (typeInfoRows t) (wide (typeInfoOf t)) is (omega arith)
+          ∙ rows-back typeInfoWidth (typeInfoRows t) (info-wide (typeInfoOf t)) is (omega arith)
 
       never : pairExit s cs′ (a .first) t is′ (ta .first) .answer .number ≡ 0
       never =

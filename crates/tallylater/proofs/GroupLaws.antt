@@ -42,7 +42,7 @@ counting-start = record { words = refl; stop = refl; trailer = refl; some = λ e
 module _ {s : List ℕ} {limit at : ℕ} {old new : List ℕ} {p : ℕ} {any : Bool} (w : Counting s limit at old new p any) (h : limit ≤ length s) {r : Extent} (re : r ≡ extent s limit p) where
   pub counting-none : r ≡ Extent.Outside → GroupDone s limit at old new (record { any = any; stop = p; trailer = 0 })
   counting-none rk =
-      let e = group-none s limit p h (extent-outside s limit p r re rk) in
+      let e = group-none s limit p h (extent-outside s limit p re rk) in
       let q : propsAt s limit p ≡ [] = ap (λ g. g .props) e in
       record {
         words-are = sym (properties-none false new) ∙ sym (ap (λ (l : List Prop). bumps new (propertiesPlaces false (map (propertyOf s) l))) q) ∙ w .words;
@@ -59,7 +59,7 @@ module _ {s : List ℕ} {limit at : ℕ} {old new : List ℕ} {p : ℕ} {any : B
 
   module _ {z e t : ℕ} (rk : r ≡ Extent.Inside z e t) where
     inside : Inside s limit p z e t
-    inside = extent-inside s limit p r z e t re rk
+    inside = extent-inside re rk
 
     module _ {q : Property} (eq : q ≡ propertyOf s (propertyAt s p)) {new′ : List ℕ} (en : new′ ≡ bumps new (propertyPlaces false q)) {b : Bool} (be : b ≡ endsGroup t) where
       -- the property of this turn, then qs

@@ -53,7 +53,7 @@ loop-less : tie.Need-loop-less Inv-loop μ-loop
 loop-less c =
     let parsed : tie.After-parse-entry Inv-loop μ-loop = search in
     let size : tie.After-size Inv-loop μ-loop = search in
-    omega (arith, extent-inside _ _ _ _ _ _ _ (parsed .parse-entry .ensures) (size .size .given .1))
+    omega (arith, extent-inside (parsed .parse-entry .ensures) (size .size .given .1))
 
 loop-again : tie.Need-loop-again Inv-loop μ-loop
 loop-again c =

@@ -11,7 +11,7 @@ cast-sections-left c =
     let known : tie.After-shared-slice-known = search in
     let kids : tie.After-children-at = search in
     let count : tie.After-count = search in
-    omega (arith, count-small _ _ _ _ (kids .children-at .ensures) (λ i. known .shared-slice-known .given i .fits) _ _ (count .count .given .1))
+    omega (arith, count-small _ _ _ (kids .children-at .ensures) (λ i. known .shared-slice-known .given i .fits) (count .count .given .1))
 
 sections-left-requires : tie.Need-sections-left-requires
 sections-left-requires c κs =

@@ -11,7 +11,7 @@ cast-count-sections c =
     let known : tie.After-shared-slice-known = search in
     let kids : tie.After-children-at = search in
     let count : tie.After-count = search in
-    omega (arith, count-small _ _ _ _ (kids .children-at .ensures) (λ i. known .shared-slice-known .given i .fits) _ _ (count .count .given .1))
+    omega (arith, count-small _ _ _ (kids .children-at .ensures) (λ i. known .shared-slice-known .given i .fits) (count .count .given .1))
 
 count-sections-requires : tie.Need-count-sections-requires
 count-sections-requires c κs =
