@@ -9,6 +9,7 @@ the ids 0 to 0x1FF: the batch asks for every id that a table has, so an id that 
 At the end `compare judge` holds the whole list against jetdb.
 """
 
+import itertools
 import os
 import struct
 import subprocess
@@ -16,8 +17,8 @@ import sys
 import tempfile
 
 ROOT = os.path.join(os.path.dirname(os.path.abspath(__file__)), "..")
-SEED, COUNT, LONGEST = "1", "5700", "8192"
-TYPE_INFO, NAMES = 2, 6
+SEED, COUNT, LONGEST = "1", "5991", "8192"
+TYPE_INFO, NAMES, PAIRING = 2, 6, 11
 MAGIC = 0xACCDEAF7
 
 
@@ -34,11 +35,13 @@ def frame(kind, first, second, data):
     return struct.pack("<4I", kind, first, second, len(data)) + data
 
 
-def line_count(kind, line):
-    """How many lines a case has, by its kind and its first line."""
+def line_count(kind, lines):
+    """How many lines a case has, by its kind and the lines from its first on."""
+    if kind == PAIRING:
+        return 1 + len(list(itertools.takewhile(lambda line: line.startswith("C "), itertools.islice(lines, 1, None))))
     if kind in (0, 4, 5, 6, 7, 8):
         return {0: 0, 4: 2, 5: 2, 6: 4, 7: 1, 8: 3}[kind]
-    number, first, second = [int(word) for word in line.split()[1:4]]
+    number, first, second = [int(word) for word in lines[0].split()[1:4]]
     return 1 if number else 1 + first + second
 
 
@@ -50,7 +53,7 @@ def cases(name):
         lines = file.readlines()
     at = 0
     for case in frames(data):
-        end = at + line_count(case[0], lines[at] if at < len(lines) else "")
+        end = at + line_count(case[0], lines[at : at + 2000])
         yield case, "".join(lines[at:end])
         at = end
     assert at == len(lines)

@@ -3,6 +3,7 @@
 use crate::cases::rng::Rng;
 use crate::cases::{fixed, join, leaves, random, readers, typeinfo, Case, Kind, KINDS};
 use crate::expect::{Expected, Judge};
+use crate::paired;
 use crate::plain::u32_at;
 use std::borrow::Cow;
 
@@ -30,7 +31,13 @@ fn always(rng: &mut Rng, out: &mut dyn FnMut(Case)) {
     leaves::name_parts(out);
     join::telling(out);
     readers::telling(out);
+    paired::telling(out);
+    let mut own = Rng::new(11);
+    (0..PAIRINGS).for_each(|_| out(paired::random(&mut own)));
 }
+
+/// So many random pairs of TypeInfo and a Blob, whatever the seed.
+const PAIRINGS: usize = 200;
 
 /// About `wanted` of the exhaustive cases, each with the same chance.
 fn sample(rng: &mut Rng, wanted: usize, cases: &mut Vec<Case>) {
@@ -57,6 +64,13 @@ pub fn joins(seed: u64, count: usize, longest: usize, out: &mut dyn FnMut(Case) 
 pub fn readers(seed: u64, count: usize, longest: usize, out: &mut dyn FnMut(Case) -> Result<(), String>) -> Result<(), String> {
     let mut rng = Rng::new(seed);
     let mut fitting = std::iter::repeat_with(|| readers::random(&mut rng)).filter(|case| case.bytes.len() <= longest);
+    fitting.by_ref().take(count).try_for_each(out)
+}
+
+/// `count` pairs of TypeInfo and a later Blob.
+pub fn pairings(seed: u64, count: usize, longest: usize, out: &mut dyn FnMut(Case) -> Result<(), String>) -> Result<(), String> {
+    let mut rng = Rng::new(seed);
+    let mut fitting = std::iter::repeat_with(|| paired::random(&mut rng)).filter(|case| case.bytes.len() <= longest);
     fitting.by_ref().take(count).try_for_each(out)
 }
 
@@ -99,6 +113,8 @@ pub fn drawn(seed: u64, count: usize, longest: usize, out: &mut dyn FnMut(Case) 
 fn fresh(rng: &mut Rng) -> Case {
     if rng.one_in(20) {
         leaves::random(rng)
+    } else if rng.one_in(20) {
+        paired::random(rng)
     } else {
         chance(rng)
     }

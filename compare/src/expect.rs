@@ -4,7 +4,7 @@ use crate::cases::{Case, Kind};
 use crate::listing::{self, bytes_line, dump, dump_bytes, dump_joined, dump_type_info};
 use crate::plain::codes::Codes;
 use crate::plain::{self, value, Answer, Rows, Shape};
-use crate::{data, form, judge, oracle};
+use crate::{data, form, judge, oracle, paired};
 
 pub struct Expected {
     pub text: String,
@@ -59,6 +59,7 @@ impl Judge {
                 self.read_2000(table, &case.bytes, [first as usize, second as usize])
             }
             Kind::ReadLater => self.read_later(case.layout_and_stream(), [first as usize, second as usize]),
+            Kind::Pairing => paired::expected(case.info_and_stream()).map(|(text, by_jetdb)| Expected::new(text, by_jetdb)),
         }
     }
 

@@ -44,6 +44,7 @@ compare run COUNT SEED PROGRAM ..          fresh cases through a program that re
 compare rewrites COUNT SEED                streams rewritten by document 02 read plainly, and read again by the plain reader and by jetdb
 compare joins COUNT SEED [PROGRAM ..]      pairs of code tables alone; without a program document 02 is read in two ways
 compare readers COUNT SEED [PROGRAM ..]    Blobs for the reader of one layout alone, in the same way
+compare pairings COUNT SEED [PROGRAM ..]   TypeInfo with a later Blob alone, paired, in the same way
 compare listings COUNT SEED [PROGRAM ..]   inputs of formlist alone, in the same way
 compare names COUNT SEED PROGRAM ..        the names of the first COUNT ids (65536: all), in the same way; SEED has no part in it
 ";
@@ -89,6 +90,10 @@ fn command(words: &[&str]) -> Result<bool, String> {
         ["readers", count, seed] => Ok(alone(&judge, number(seed)?, number(count)?, readers::random)),
         ["readers", count, seed, ref program @ ..] if !program.is_empty() => {
             through(&judge, number(count)? as usize, number(seed)?, program, batch::readers)
+        }
+        ["pairings", count, seed] => Ok(alone(&judge, number(seed)?, number(count)?, paired::random)),
+        ["pairings", count, seed, ref program @ ..] if !program.is_empty() => {
+            through(&judge, number(count)? as usize, number(seed)?, program, batch::pairings)
         }
         ["listings", count, seed] => Ok(alone(&judge, number(seed)?, number(count)?, cases::random::input)),
         ["listings", count, seed, ref program @ ..] if !program.is_empty() => {
@@ -148,6 +153,7 @@ fn all(judge: &Judge, longest: usize) -> bool {
     leaves::name_parts(&mut add);
     join::telling(&mut add);
     readers::telling(&mut add);
+    paired::telling(&mut add);
     figures.print();
     figures.is_clean()
 }

@@ -43,7 +43,7 @@ pub fn lines(stream: &[u8], rows: &Rows) -> String {
     text
 }
 
-fn answer_line(word: &str, a: Answer) -> String {
+pub fn answer_line(word: &str, a: Answer) -> String {
     format!("{word} {} {} {} {}\n", a.number, a.counts[0], a.counts[1], a.counts[2])
 }
 
@@ -90,7 +90,7 @@ fn value_columns(stream: &[u8], row: &PropertyRow) -> (&'static str, String) {
 
 // ---- rows as words
 
-fn row_line(letter: char, words: &[u32]) -> String {
+pub fn row_line(letter: char, words: &[u32]) -> String {
     let shown: Vec<String> = words.iter().map(u32::to_string).collect();
     format!("{letter} {}\n", shown.join(" "))
 }

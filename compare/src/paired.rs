@@ -2,13 +2,18 @@
 
 use crate::cases::build::{head_later, node_later, property_later, type_info_entry, type_info_head, utf16};
 use crate::cases::rng::Rng;
+use crate::cases::{Case, Kind, Sink};
 use crate::form::{blob_of, merged_types, type_info_of};
 use crate::large::CAnswer;
+use crate::listing::{answer_line, row_line, CONTROL_WORDS as CONTROL_ROOM, PROPERTY_WORDS, TYPE_INFO_WORDS};
 use crate::plain::pairing::{pair, Rows};
 use crate::plain::{self, later, typeinfo, Answer, CONTROL_WORDS};
 use std::time::Instant;
 
 pub type Pair = unsafe extern "C" fn(*const u8, usize, *mut u32, usize, u32, *const u8, usize, *const u32, usize, u32) -> CAnswer;
+
+/// No first byte is this layout byte.
+const NO_LAYOUT: u32 = 256;
 
 /// As many controls as Access allows on a form.
 const MOST: usize = 754;
@@ -49,10 +54,15 @@ fn read(stream: Vec<u8>, info_stream: Vec<u8>) -> Rows {
 
 /// The library and jetdb give each control the same type.
 fn as_jetdb(library: Pair, rows: &Rows) -> Result<(), String> {
-    let (_, groups) = blob_of(&rows.stream).map_err(|_| "jetdb reads no Blob")?;
-    let infos = type_info_of(&rows.info_stream).map_err(|_| "jetdb reads no TypeInfo")?;
     let mut controls = rows.controls.clone();
     called(library, rows, &mut controls);
+    same_types(rows, &controls)
+}
+
+/// jetdb gives these rows of controls the types that they have.
+fn same_types(rows: &Rows, controls: &[u32]) -> Result<(), String> {
+    let (_, groups) = blob_of(&rows.stream).map_err(|_| "jetdb reads no Blob")?;
+    let infos = type_info_of(&rows.info_stream).map_err(|_| "jetdb reads no TypeInfo")?;
     let types = controls.chunks(CONTROL_WORDS).map(|row| row[0]).collect::<Vec<_>>();
     let must = merged_types(groups, &infos).into_iter().map(u32::from).collect::<Vec<_>>();
     if types == must {
@@ -157,6 +167,89 @@ fn any(rng: &mut Rng) -> Rows {
     let counted =
         |rng: &mut Rng, n: usize| if rng.one_in(10) { rng.pick(&[n + 1, n + 2, u32::MAX as usize]) } else { rng.below(n + 1) } as u32;
     Rows { control_count: counted(rng, n), info_count: counted(rng, m), stream, controls, info_stream, infos }
+}
+
+// ---- cases of a batch
+
+impl Case {
+    /// TypeInfo and a later Blob whose controls are paired with it.
+    fn pairing(family: &'static str, info_stream: &[u8], stream: &[u8]) -> Case {
+        Case::other(family, Kind::Pairing, [info_stream.len() as u32, 0], [info_stream, stream].concat())
+    }
+
+    /// The two streams of such a case.
+    pub fn info_and_stream(&self) -> (&[u8], &[u8]) {
+        self.bytes.split_at(self.bytes.len().min(self.numbers[0] as usize))
+    }
+}
+
+/// One random pair of streams, at times with a byte turned.
+pub fn random(rng: &mut Rng) -> Case {
+    let rows = ascii(rng);
+    let mut case = Case::pairing("random pairing", &rows.info_stream, &rows.stream);
+    if rng.one_in(4) {
+        let at = rng.below(case.bytes.len());
+        case.bytes[at] ^= 1 << rng.below(8);
+    }
+    case
+}
+
+/// Letters around A, Z, a and z in each case; names twice, empty, of odd length, beyond ASCII, cut; labels; entries that aren't reported; refusals.
+pub fn telling(out: Sink) {
+    let mut rng = Rng::new(2);
+    let words = ["", "@", "A", "Z", "[", "`", "a", "z", "{", "aZ", "Az", "control_1", "CONTROL_2", "Control_10"];
+    let beyond = ["\u{80}", "\u{E9}", "\u{C9}", "\u{212A}", "\u{130}", "\u{4141}", "k"];
+    let names = |words: &[&str]| words.iter().map(|word| utf16(word)).collect::<Vec<_>>();
+    let infos = |words: &[&str]| type_info(&words.iter().zip(0x100..).map(|(word, code)| (code, word.as_bytes().to_vec())).collect::<Vec<_>>());
+    let bytes = |all: &[&[u8]]| type_info(&all.iter().zip(0x200..).map(|(name, code)| (code, name.to_vec())).collect::<Vec<_>>());
+    let mut told = |info: &[u8], blob: &[u8]| out(Case::pairing("pairing", info, blob));
+    for one in words {
+        told(&infos(&[one]), &scanned(&names(&words)));
+        told(&infos(&words), &scanned(&names(&[one, one])));
+    }
+    let numbered = [Some(utf16("A")), None, None, Some(b"odd".to_vec()), Some(utf16("control_1"))];
+    told(&infos(&words), &tree(&numbered, &mut rng));
+    told(&infos(&["ODD", "odd", "a", "A"]), &tree(&numbered, &mut rng));
+    told(&bytes(&[b"\x80", b"\xE9", b"\xC9", b"K", b"I", b"AA", b"\xC3\xA9"]), &scanned(&names(&beyond)));
+    told(&bytes(&[b"odd", b"od", b"o\0d"]), &scanned(&[b"odd".to_vec(), b"oDd".to_vec(), b"o\0d\0".to_vec()]));
+    let whole = infos(&["A", "B"]);
+    for lost in 0..=whole.len() {
+        told(&whole[..whole.len() - lost], &scanned(&names(&["B", "A", "b"])));
+    }
+    told(&type_info(&[(0x1EFF, b"A".to_vec()), (0x1B77, b"b".to_vec()), (0x126D, b"a".to_vec())]), &scanned(&names(&["A", "B"])));
+    let many = (0..257).map(|n| format!("n{n}")).collect::<Vec<_>>();
+    let many = many.iter().map(String::as_str).collect::<Vec<_>>();
+    told(&infos(&many), &scanned(&names(&["n256"])));
+    told(&infos(&many[1..]), &scanned(&names(&many[157..])));
+    told(&infos(&["n256"]), &scanned(&names(&many)));
+}
+
+/// All names are ASCII, and none was cut: then jetdb pairs as document 02 does.
+fn is_plain(rows: &Rows) -> bool {
+    let named = |stream: &[u8], row: &[u32]| stream[row[2] as usize..][..row[3] as usize].is_ascii();
+    let control = |row: &[u32]| row[1] == 1 || named(&rows.stream, row);
+    rows.controls.chunks(CONTROL_WORDS).all(control) && rows.infos.chunks(typeinfo::WORDS).all(|row| row[4] == 0 && named(&rows.info_stream, row))
+}
+
+/// What must be printed for two streams, and whether jetdb was asked; or in which way jetdb differs.
+pub fn expected((info_stream, stream): (&[u8], &[u8])) -> Result<(String, bool), String> {
+    let alone = |answer: Answer| Ok((answer_line("A", answer), false));
+    let info = typeinfo::read_type_info(info_stream, TYPE_INFO_WORDS).0;
+    if info.number != 0 {
+        return alone(info);
+    }
+    let blob = plain::readers::read_later(NO_LAYOUT, stream, [CONTROL_ROOM, PROPERTY_WORDS]).answer;
+    if blob.number != 0 {
+        return alone(blob);
+    }
+    let rows = read(stream.to_vec(), info_stream.to_vec());
+    let (answer, controls) = pair(&rows);
+    let asked = is_plain(&rows);
+    if asked {
+        same_types(&rows, &controls)?;
+    }
+    let lines = controls.chunks(CONTROL_WORDS).map(|row| row_line('C', row)).collect::<String>();
+    Ok((answer_line("A", answer) + &lines, asked))
 }
 
 // ---- all of it

@@ -27,9 +27,10 @@ pub enum Kind {
     Join = 8,
     Read2000 = 9,
     ReadLater = 10,
+    Pairing = 11,
 }
 
-pub const KINDS: [Kind; 11] = [
+pub const KINDS: [Kind; 12] = [
     Kind::Table,
     Kind::Blob,
     Kind::TypeInfo,
@@ -41,6 +42,7 @@ pub const KINDS: [Kind; 11] = [
     Kind::Join,
     Kind::Read2000,
     Kind::ReadLater,
+    Kind::Pairing,
 ];
 
 #[derive(Debug, Clone)]

@@ -21,6 +21,9 @@ const UNWRITTEN: u32 = 0xDEAD_BEEF;
 // The same of the bytes of a joined table.
 const UNTOUCHED: u8 = 0xA5;
 
+// No first byte is this layout byte.
+const NO_LAYOUT: u32 = 256;
+
 // What stands in front of a frame's bytes.
 pub struct Head {
     pub kind: u32,
@@ -143,6 +146,33 @@ fn replay_join(bytes: &[u8], lent: u32, size: u32, out: &mut [u8]) {
     print_kept(behind(room, answer.first as usize), UNTOUCHED, out);
 }
 
+// The bytes are TypeInfo, of `size` bytes, and a Blob, which is read as a later one. A reading that is refused is all that is printed.
+fn replay_pair(bytes: &[u8], size: u32, out: &mut [u8]) {
+    let mut infos = [UNWRITTEN; 256 * INFO_WIDTH];
+    let mut controls = [UNWRITTEN; 256 * CONTROL_WIDTH];
+    let mut properties = [UNWRITTEN; 1024 * PROPERTY_WIDTH];
+    let info_stream = front(bytes, size as usize);
+    let stream = behind(bytes, size as usize);
+    let info = typeinfo::read_type_info(info_stream, &mut infos);
+    if info.number != 0 {
+        return print_answer(info, out);
+    }
+    let read = blob::read_later(NO_LAYOUT, stream, &mut controls, &mut properties);
+    if read.number != 0 {
+        return print_answer(read, out);
+    }
+    let answer = pairing::pair(
+        stream,
+        &mut controls,
+        read.first,
+        info_stream,
+        &infos,
+        info.first,
+    );
+    print_answer(answer, out);
+    print_rows(b'C', &controls, CONTROL_WIDTH, read.first, out);
+}
+
 fn print_text_name(id: u16, out: &mut [u8]) {
     let mut room = [0u8; 256];
     let answer = names::text_name(id, &mut room);
@@ -198,6 +228,7 @@ fn replay_case(head: Head, codes: &[u8], bytes: &[u8], out: &mut [u8]) {
         6 => replay_names(head.first, out),
         7 => replay_name_part(bytes, head.first, head.second, out),
         8 => replay_join(bytes, head.first, head.second, out),
+        11 => replay_pair(bytes, head.first, out),
         _ => {}
     }
 }
