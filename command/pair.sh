@@ -16,7 +16,8 @@ matches none. A control without a name of its own takes part as Control_ and its
 The first line is the answer of TypeInfo (as ./oskuramos typeinfo prints it), the second that of the Blob (as ./oskuramos list does).
 C: the lines of ./oskuramos list, with the types as paired.
 U: number and name of each control that found no entry. A character that isn't printing ASCII, and the backslash, is \u and four
-   digits of hex, or in a name that isn't UTF-16 a backslash and two; no name is -, and after 255 characters a name is cut.
+   digits of hex, or in a name that isn't UTF-16 a backslash and two. An empty name is -, and of one of more than 255 characters the
+   first 255 are shown: the C line of the same number has its length.
 unpaired: how many these are. It is the last line; unpaired 0 says that each control found its entry.
 
 An Access 2000 Blob is refused: it has the type of each control itself, and ./oskuramos list shows it.
