@@ -79,11 +79,11 @@ Stated c p (refused a) = a .number ≡ 0 → ⊥
 Stated c p (read r) = (length (r .controls) ≤ c) × (length (properties r) ≤ p)
 
 module _ (c p : ℕ) where
-  stated-if : (b : Bool) (x y : Outcome) → Stated c p x → (b ≡ false → Stated c p y) → Stated c p (cond b x y)
+  pub stated-if : (b : Bool) (x y : Outcome) → Stated c p x → (b ≡ false → Stated c p y) → Stated c p (cond b x y)
   stated-if true x y h k = h
   stated-if false x y h k = k refl
 
-  fit-stated : (o : Option Reading) → Stated c p (fit c p o)
+  pub fit-stated : (o : Option Reading) → Stated c p (fit c p o)
   fit-stated none = λ e. omega arith
   fit-stated (some r) =
       stated-if (ltb c (length (r .controls))) _ _ (λ e. omega arith)

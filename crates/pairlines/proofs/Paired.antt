@@ -1,22 +1,22 @@
 -- The listing by what the readers and the pairing hand back.
 use mathlib.Core.Path.{_≡_, refl, sym, ap, ap₂, subst, _∙_}
 use mathlib.Core.Bool.{Bool, true, false, cond}
-use mathlib.Core.List.{List, [], _∷_, _++_, map}
+use mathlib.Core.List.{List, [], _++_, map}
 use Prim.Native.Nat.{ℕ, _+_, _*_, _≤_, _<_}
 use native.Mathlib.Omega.{arith}
 use native.Mathlib.Nat.{mul-le-mul}
-use borrow.Author.Tests.{ltb-false, eq-eqb, ne-eqb}
+use borrow.Author.Tests.{eq-eqb, ne-eqb}
 use mathlib.Core.Option.{some}
 use lib.Dec.{ltb, eqb}
 use lib.ListN.{length, getD, drop, length-append, length-map}
 use Rattle.rules.specs.Lists.{keep}
 use Rattle.rules.specs.Bytes.{u32, part}
-use Rattle.rules.specs.Answer.{refusal, tooLong, moreControls, moreProperties, otherLayout, longest}
+use Rattle.rules.specs.Answer.{longest}
 use Rattle.rules.specs.Rows.{controlWidth, propertyWidth, typeInfoWidth, room, rowAt, written}
 use Rattle.rules.specs.TypeInfo.{typeInfoOf, typeInfoRow, typeInfoRows, typeInfoAnswer, typeInfoExit}
-use Rattle.rules.specs.Reading.{Reading, properties, controlRows}
+use Rattle.rules.specs.Reading.{controlRows}
 use Rattle.rules.specs.ReadLater.{readLater}
-use Rattle.rules.specs.Blob.{Outcome, refused, read, counted, fit, speaks2000, outcomeLater, answerOf, controlsShown, exitLater}
+use Rattle.rules.specs.Blob.{Outcome, refused, read, speaks2000, outcomeLater, answerOf, controlsShown, exitLater}
 use Rattle.rules.specs.Pairing.{infosIn, typesSet, mayPair, pairExit}
 use Rattle.rules.specs.Listing.{answerLine, word, controlLine, linesFrom}
 use Rattle.rules.specs.declared.Answer.{Answer}
@@ -32,7 +32,7 @@ use Rattle.rules.proofs.TypeInfoLaws.{info-wide}
 use Rattle.blob.specs.Exit.{exited}
 use Rattle.listing.specs.Shown.{linesTo}
 use Rattle.listing.specs.Bound.{longestAnswer, longestControl}
-use Rattle.listing.proofs.Printed.{Stated, lines-written}
+use Rattle.listing.proofs.Printed.{Stated, stated-if, fit-stated, lines-written}
 use Rattle.listing.proofs.Longest.{Word32, answer-short, control-short, lines-short}
 use Rattle.infolines.proofs.Printed.{read as info-read}
 use Rattle.pairlines.specs.Pairs.{pairedLine, isUnpaired, unpairedLine, countLine, pairedLines, blobPaired, pairPrinted, pairListed, pairMost, longestUnpaired}
@@ -41,23 +41,12 @@ use Rattle.pairlines.proofs.RowLaws.{rows-back, lines-paired, lines-unp
 use Rattle.pairlines.proofs.Longest.{unpaired-most, tally-most, count-short}
 
 -- ---- what a later Blob's reader gives
-module _ (c p : ℕ) where
-  fit-by : (r : Reading) (d e : Bool) → ltb c (length (r .controls)) ≡ d → ltb p (length (properties r)) ≡ e
-      → Stated c p (cond d (refused (counted moreControls r)) (cond e (refused (counted moreProperties r)) (read r)))
-  fit-by r true e f g = λ z. omega arith
-  fit-by r false true f g = λ z. omega arith
-  fit-by r false false f g = (ltb-false c (length (r .controls)) f, ltb-false p (length (properties r)) g)
-
-  later-by : (a b : Bool) (o : Outcome) → Stated c p o → Stated c p (cond a (refused (refusal tooLong)) (cond b (refused (refusal otherLayout)) o))
-  later-by true b o h = λ z. omega arith
-  later-by false true o h = λ z. omega arith
-  later-by false false o h = h
-
-  later-stated : (layout : ℕ) (s : List ℕ) → Stated c p (outcomeLater layout s c p)
-  unfolding outcomeLater
-  later-stated layout s =
-      let r = readLater s in
-      later-by (ltb longest (length s)) (speaks2000 layout s) (fit c p (some r)) (fit-by r (ltb c (length (r .controls))) (ltb p (length (properties r))) refl refl)
+later-stated : (c p layout : ℕ) (s : List ℕ) → Stated c p (outcomeLater layout s c p)
+unfolding outcomeLater
+later-stated c p layout s =
+    stated-if c p (ltb longest (length s)) _ _ (λ e. omega arith)
+    (λ d. stated-if c p (speaks2000 layout s) _ _ (λ e. omega arith)
+    (λ f. fit-stated c p (some (readLater s))))
 
 -- the rows that are shown with the answer 0
 record Given (o : Outcome) (c : ℕ) : Type 0 where

@@ -1,6 +1,6 @@
 -- The listing of a later Blob whose controls are paired with TypeInfo (wish 2 of document 02): the bytes that `pairlist` prints. A control's name is shown
 -- where it found no row.
-use Prim.Native.Nat.{ℕ, _+_, _*_, _≤_, min}
+use Prim.Native.Nat.{ℕ, _+_, _*_, min}
 use mathlib.Core.Bool.{Bool, true, false, cond, _&&_}
 use mathlib.Core.List.{List, [], _∷_, _++_}
 use mathlib.Core.Option.{Option, none, some}
@@ -11,7 +11,6 @@ use Rattle.rules.specs.Bytes.{u32, part}
 use Rattle.rules.specs.Digits.{decimal, hex}
 use Rattle.rules.specs.Texts.{label}
 use Rattle.rules.specs.Answer.{refusal, tooLong}
-use Rattle.rules.specs.Rows.{controlWidth, propertyWidth, typeInfoWidth, room}
 use Rattle.rules.specs.TypeInfo.{typeInfoAnswer, typeInfoRows}
 use Rattle.rules.specs.Blob.{Outcome, outcomeLater, answerOf, controlsShown}
 use Rattle.rules.specs.Pairing.{markOf, startOf, sizeOf, controlName, hasName, pairedType}

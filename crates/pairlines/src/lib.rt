@@ -15,7 +15,7 @@ use values::value_bytes;
 ghost use mathlib.Core.Path.{_≡_};
 ghost use mathlib.Core.Bool.{true};
 ghost use mathlib.Core.List.{_∷_};
-ghost use Prim.Native.Nat.{_≤_, _<_, min};
+ghost use Prim.Native.Nat.{_<_, min};
 ghost use lib.ListN.{drop};
 ghost use Rattle.rules.specs.Lists.{all};
 ghost use Rattle.rules.specs.Rows.{controlWidth, propertyWidth, typeInfoWidth, room};

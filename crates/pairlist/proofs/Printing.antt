@@ -9,7 +9,7 @@ use borrow.Author.Tests.{lt-ltb, le-ltb, ltb-true, ltb-false}
 use lib.Dec.{ltb, eqb}
 use lib.ListN.{length, take, drop, length-drop, length-take}
 use Rattle.rules.specs.Answer.{refusal, tooLong, otherLayout, longest}
-use Rattle.rules.specs.Bytes.{u32, part}
+use Rattle.rules.specs.Bytes.{u32}
 use Rattle.rules.specs.Rows.{controlWidth, propertyWidth, typeInfoWidth, room}
 use Rattle.rules.specs.NameTables.{controlTypeNames}
 use Rattle.rules.specs.Room.{typeInfoRoom}
@@ -22,7 +22,7 @@ use Rattle.rules.specs.Blob.{Outcome, fit, refused, speaks2000, outcomeLater}
 use Rattle.rules.specs.Listing.{answerLine}
 use Rattle.rules.specs.declared.Answer.{Answer}
 use Rattle.claims.proofs.TakesLater.{tree-fits, scan-fits, short-fits}
-use Rattle.listing.specs.Bound.{longestIn, longestType, longestAnswer, longestControl}
+use Rattle.listing.specs.Bound.{longestIn, longestType, longestControl}
 use Rattle.listing.proofs.Placed.{held}
 use Rattle.inputs.specs.Begun.{Begun}
 use Rattle.inputs.proofs.Came.{all-read}

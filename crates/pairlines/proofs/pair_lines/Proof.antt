@@ -1,7 +1,7 @@
 use mathlib.Core.Path.{_∙_}
 use native.Mathlib.Omega.{arith}
 use borrow.Author.Needs.{needs}
-use Rattle.pairlines.proofs.Paired.{Words, info-refused, blob-refused, may-again, all-read}
+use Rattle.pairlines.proofs.Paired.{info-refused, blob-refused, may-again, all-read}
 use Rattle.pairlines.proofs.pair_lines.Statement.{statement}
 use Rattle.pairlines.proofs.pair_lines.Tie as tie
 
