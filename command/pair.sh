@@ -1,4 +1,4 @@
-# shellcheck shell=sh disable=SC2154,SC2034
+# shellcheck shell=sh disable=SC2154,SC2034,SC3045
 # ./oskuramos pair: the controls of a later Blob, with the types that TypeInfo has for their names.
 longest=4194304
 
