@@ -56,4 +56,7 @@ void compare_pair_bench(compare_pair_t *pair);
 /* Rewrites so many random streams of a seed by the library; false where one differs. */
 bool compare_rewrite(oskuramos_answer (*rewrite)(const uint8_t *, size_t, uint8_t *, size_t), size_t count, uint64_t seed);
 
+/* Reads so many random comma-separated texts of a seed by the library, and writes those that are read to a file; false where one differs. */
+bool compare_csv(oskuramos_answer (*read_csv)(const uint8_t *, size_t, uint32_t *, size_t, uint8_t *, size_t), size_t count, uint64_t seed, const char *file);
+
 #endif

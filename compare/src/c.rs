@@ -2,7 +2,7 @@
 
 use crate::cases::Kind;
 use crate::form::{BlobProperty, ControlInfo, ControlProperties};
-use crate::{file::FileError, form, form2000, large, oracle, paired, pairs, rewrites, speed};
+use crate::{file::FileError, form, form2000, large, oracle, paired, pairs, rewrites, sheets, speed};
 
 /// A stream, as C sees it.
 #[repr(C)]
@@ -119,4 +119,21 @@ pub extern "C" fn compare_pair_bench(pair: paired::Pair) {
 #[no_mangle]
 pub extern "C" fn compare_rewrite(rewrite: rewrites::Rewrite, count: usize, seed: u64) -> bool {
     rewrites::compare(Some(rewrite), count, seed)
+}
+
+/// Reads random comma-separated texts by the library's function, and writes those that are read to a file; false where one differs.
+///
+/// # Safety
+/// `file` is the file's name, with a zero after it.
+#[no_mangle]
+pub unsafe extern "C" fn compare_csv(read_csv: sheets::ReadCsv, count: usize, seed: u64, file: *const std::ffi::c_char) -> bool {
+    let name = std::ffi::CStr::from_ptr(file).to_string_lossy().into_owned();
+    let run = || {
+        let mut taken = std::io::BufWriter::new(std::fs::File::create(&name)?);
+        sheets::compare(read_csv, count, seed, &mut taken)
+    };
+    run().unwrap_or_else(|why| {
+        println!("{name}: {why}");
+        false
+    })
 }

@@ -18,6 +18,7 @@ mod plain;
 mod program;
 mod rewrites;
 mod run;
+mod sheets;
 mod small;
 mod speed;
 mod stubs;

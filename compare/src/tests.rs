@@ -468,3 +468,18 @@ fn examples_are_listed_as_their_files_say() {
         assert_eq!(rows.as_bytes(), example(&format!("{name}.typeinfo.rows")));
     }
 }
+
+/// The fields of each record, one `|` between two, or `-`.
+fn read(text: &str) -> String {
+    let shown = |record: &Vec<Vec<u8>>| record.iter().map(|field| String::from_utf8_lossy(field)).collect::<Vec<_>>().join("|");
+    plain::csv::records(text.as_bytes()).map_or("-".to_string(), |records| records.iter().map(shown).collect::<Vec<_>>().join(" "))
+}
+
+#[test]
+fn sheets_are_read_as_rfc_4180_says() {
+    assert_eq!(read("a,b,c,d,e\r\nf,g,h,i,\r\n"), "a|b|c|d|e f|g|h|i|");
+    assert_eq!(read("\"a\"\"\",\"\",\",\",d,\"\r\n\""), "a\"||,|d|\r\n");
+    for bad in ["", "\r\n", "a,b,c,d", "a,b,c,d,e,f", "a,b,c,d,e\n", "a,b,c,d,e\r\n\r\n", "a,b,c,d,\"e", "a,b,c,d,\"e\"f", "a,b,c,d,e\""] {
+        assert_eq!(read(bad), "-", "{bad:?}");
+    }
+}

@@ -3,6 +3,7 @@
 
 pub mod access2000;
 pub mod codes;
+pub mod csv;
 pub mod join;
 pub mod later;
 pub mod pairing;

@@ -1,0 +1,9 @@
+/* Reads N random comma-separated texts by the library: answers and every word and byte that is lent, against document 02. Those that are read go to a file. */
+#include "compare.h"
+
+#include <stdlib.h>
+
+int main(int argc, char **argv) {
+    if (argc != 4) return 2;
+    return compare_csv(oskuramos_read_csv, strtoul(argv[1], NULL, 10), strtoull(argv[2], NULL, 10), argv[3]) ? 0 : 1;
+}
