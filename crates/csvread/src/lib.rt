@@ -12,7 +12,7 @@ ghost use Prim.Native.Nat.{_+_, _-_, _*_, _≤_, _<_, _^_};
 ghost use lib.ListN.{length};
 ghost use Rattle.rules.specs.Rows.{fieldWidth};
 ghost use Rattle.rules.specs.Csv.{isData, fieldEnd, step, readFrom, countable, fieldsExit};
-ghost use Rattle.rules.specs.declared.Mode.the-variants.{Start, Plain};
+ghost use Rattle.rules.specs.declared.Mode.the-variants.{Start, Plain, Quoted, Closing, Returned};
 ghost use Rattle.rows.specs.Put.{put};
 ghost use Rattle.csvlaws.proofs.CsvReaderLaws.{counted};
 ghost use Rattle.csvread.specs.Places.{begin, placeAfter, countedAs, endOf, lastOf, Room, Fits, Wrote, rowsOf, outOf};
@@ -107,50 +107,66 @@ fn plain_step(field: u32, b: u8) -> Step
     field_end(field, b)
 }
 
+fn start_step(field: u32, b: u8) -> Step
+    ensures { λ r. ⌜ r ≡ step Start field b ⌝ }
+{
+    if b == QUOTE {
+        return Step::Pass {
+            mode: Mode::Quoted,
+            field,
+        };
+    }
+    plain_step(field, b)
+}
+
+fn quoted_step(field: u32, b: u8) -> Step
+    ensures { λ r. ⌜ r ≡ step Quoted field b ⌝ }
+{
+    if b == QUOTE {
+        return Step::Pass {
+            mode: Mode::Closing,
+            field,
+        };
+    }
+    Step::Put {
+        mode: Mode::Quoted,
+        field,
+    }
+}
+
+fn closing_step(field: u32, b: u8) -> Step
+    ensures { λ r. ⌜ r ≡ step Closing field b ⌝ }
+{
+    if b == QUOTE {
+        return Step::Put {
+            mode: Mode::Quoted,
+            field,
+        };
+    }
+    field_end(field, b)
+}
+
+fn returned_step(field: u32, b: u8) -> Step
+    ensures { λ r. ⌜ r ≡ step Returned field b ⌝ }
+{
+    if b == LF {
+        return Step::Pass {
+            mode: Mode::Start,
+            field: 0,
+        };
+    }
+    Step::Refuse
+}
+
 fn step(mode: Mode, field: u32, b: u8) -> Step
     ensures { λ r. ⌜ r ≡ step mode field b ⌝ }
 {
     match mode {
-        Mode::Start => {
-            if b == QUOTE {
-                return Step::Pass {
-                    mode: Mode::Quoted,
-                    field,
-                };
-            }
-            plain_step(field, b)
-        }
+        Mode::Start => start_step(field, b),
         Mode::Plain => plain_step(field, b),
-        Mode::Quoted => {
-            if b == QUOTE {
-                return Step::Pass {
-                    mode: Mode::Closing,
-                    field,
-                };
-            }
-            Step::Put {
-                mode: Mode::Quoted,
-                field,
-            }
-        }
-        Mode::Closing => {
-            if b == QUOTE {
-                return Step::Put {
-                    mode: Mode::Quoted,
-                    field,
-                };
-            }
-            field_end(field, b)
-        }
-        Mode::Returned => {
-            if b == LF {
-                return Step::Pass {
-                    mode: Mode::Start,
-                    field: 0,
-                };
-            }
-            Step::Refuse
-        }
+        Mode::Quoted => quoted_step(field, b),
+        Mode::Closing => closing_step(field, b),
+        Mode::Returned => returned_step(field, b),
     }
 }
 
