@@ -11,7 +11,7 @@ use borrow.Author.Tests.{eqb-true}
 use Rattle.rules.specs.Bytes.{Bytes}
 use Rattle.rules.specs.Utf16.{isUtf16}
 use Rattle.rules.specs.Scalars.{scalars}
-use Rattle.rules.specs.Csv.{cr, lf, crlf, isData, Record, allFields, fieldEnd, step, Fields, newField, withByte, atEnd, after, readFrom, fieldsOf}
+use Rattle.rules.specs.Csv.{cr, lf, crlf, isData, Record, allFields, fieldEnd, step, Fields, newField, withByte, atEnd, after, readFrom, fieldsOf, fieldsBy, fieldsExit}
 use Rattle.rules.specs.declared.Mode.{Mode}
 use Rattle.rules.specs.declared.Mode.the-variants.{Start, Plain, Quoted, Closing, Returned}
 use Rattle.rules.specs.declared.Step.{Step}
@@ -20,13 +20,14 @@ use Rattle.rules.proofs.ListLaws.{none-some}
 use Rattle.csvlaws.proofs.CsvLaws.{sheet-length, fields-many}
 use Rattle.claims.specs.Ways.{just, in-turn, first, second}
 use Rattle.claims.specs.CsvGrammar.{sheet, _spells_}
-use Rattle.claims.specs.Spreadsheet.{Accepts, Wish7}
+use Rattle.claims.specs.Spreadsheet.{Accepts, ReadAgain, Wish7}
 use Rattle.claims.specs.Characters as utf16
 use Rattle.claims.proofs.CsvComplete.{spelled-read}
 use Rattle.claims.proofs.CsvSound.{Spelled, read-spelled, no-spelling}
 use Rattle.claims.proofs.CsvWritten.{records-back, blobs-back}
 use Rattle.claims.proofs.Characters.{wish5}
 use Rattle.claims.proofs.Utf8.{well-formed, one-reading}
+use Rattle.claims.proofs.SheetRecords.{records}
 use Rattle.claims.proofs.SheetCalls.{writes, reads}
 
 -- ---- records are told by their fields
@@ -145,8 +146,17 @@ with-last s fs e = let w = read-spelled s fs e in go w (ends s (w .records) (w .
 as-utf16 : (s : List ℕ) → Bytes s → isUtf16 s ≡ true → utf16.characters (scalars s) s
 as-utf16 s b e = let w = wish5 .well-formed s b .0 e in rw (wish5 .counted s (w .0) (w .1)) (w .1)
 
+-- ---- what was written, lent to the reader
+again : ReadAgain
+unfolding fieldsExit
+again table stream controls properties′ out rows bytes e =
+    let w = writes table stream controls properties′ out .read-back e in
+    (w .0, w .1, ap (λ o. fieldsBy o rows bytes) (w .2))
+
 pub wish7 : Wish7
 wish7 = record {
+  records = records;
+  read-again = again;
   read-back = record { records = records-back; blobs = blobs-back };
   accepts = accepts;
   last-optional = record { without = without-last; and-with = with-last };

@@ -1,8 +1,8 @@
 -- Wish 7 of document 02. Hand the properties to the planners' spreadsheet.
-use Prim.Native.Nat.{ℕ, _*_, _≤_, _<_}
+use Prim.Native.Nat.{ℕ, _+_, _*_, _≤_, _<_}
 use mathlib.Core.Path.{_≡_}
 use mathlib.Core.Bool.{true}
-use mathlib.Core.List.{List, [], _++_}
+use mathlib.Core.List.{List, [], _∷_, _++_, map}
 use mathlib.Core.Logic.{_↔_, _⊎_}
 use mathlib.Core.Option.{none, some}
 use lib.ListN.{length, getD, take, drop}
@@ -10,13 +10,14 @@ use Rattle.rules.specs.Lists.{concat}
 use Rattle.rules.specs.Bytes.{Bytes, part}
 use Rattle.rules.specs.Answer.{answer, refusal}
 use Rattle.rules.specs.Rows.{controlWidth, propertyWidth, fieldWidth, room, rowAt}
-use Rattle.rules.specs.Reading.{Reading, properties}
+use Rattle.rules.specs.Digits.{decimal, hex}
+use Rattle.rules.specs.Reading.{Reading, properties, controlRows, propertyRows}
 use Rattle.rules.specs.Blob.{readingOf, exit}
 use Rattle.rules.specs.Listing.{word}
 use Rattle.rules.specs.Utf16.{isUtf16}
 use Rattle.rules.specs.Scalars.{scalars}
 use Rattle.rules.specs.Utf8.{utf8}
-use Rattle.rules.specs.Csv.{crlf, Record, allFields, sheetText, sheetLength, sheetOf, csvOf, countable, CsvExit, csvExit, Fields, fieldsOf, FieldsExit, fieldsExit}
+use Rattle.rules.specs.Csv.{crlf, Record, allFields, sheetText, sheetLength, header, propertyRecord, sheetOf, csvOf, countable, CsvExit, csvExit, Fields, fieldsOf, FieldsExit, fieldsBy, fieldsExit}
 use Rattle.rules.specs.declared.Answer.{Answer}
 use Rattle.claims.specs.Answers.{Judged, BlobAnswer}
 use Rattle.claims.specs.Demand1.{Refused}
@@ -30,6 +31,21 @@ pub record ReadBack : Type 0 where
   pub records : (t : List Record) → ¬ (t ≡ []) → fieldsOf (sheetText t) ≡ some (allFields t)
   -- so of a Blob's
   pub blobs : (stream : List ℕ) (r : Reading) → fieldsOf (csvOf stream r) ≡ some (allFields (sheetOf stream r))
+
+-- "then a record for each property with control number and type code in hex (both empty for the object's)": by the words of the rows, each control's
+-- properties being so many of the rows in turn as its row says
+unfoldable pub controlsBy : List ℕ → ℕ → List (List ℕ) → List (List ℕ) → List Record
+controlsBy stream n [] rows = []
+controlsBy stream n (c ∷ cs) rows =
+    map (propertyRecord stream (decimal n) (hex 4 (word c 0))) (take (word c 5) rows) ++ controlsBy stream (n + 1) cs (drop (word c 5) rows)
+
+pub record Records : Type 0 where
+  pub by-rows : (stream : List ℕ) (r : Reading) → sheetOf stream r
+      ≡ header ∷ map (propertyRecord stream [] []) (take (length (r .own)) (propertyRows r)) ++ controlsBy stream 0 (controlRows r) (drop (length (r .own)) (propertyRows r))
+  -- the header, and one for each property
+  pub many : (stream : List ℕ) (r : Reading) → length (sheetOf stream r) ≡ 1 + length (properties r)
+  -- "Text is written whole as UTF-8"
+  pub text-value : (stream control type row : List ℕ) → word row 1 ≡ 6 → propertyRecord stream control type row .value ≡ utf8 (part stream (word row 4) (word row 5))
 
 -- "a reader for such text": comma-separated text "by RFC 4180, its text data widened", "five fields in every record"
 pub record Accepts : Type 0 where
@@ -111,7 +127,17 @@ pub record Reads (s rows out : List ℕ) (e : FieldsExit) : Type 0 where
   pub told : e .answer .number ≡ 0 → (t : List Record) → s spells t → (i : ℕ) → i < length (allFields t)
       → part (e .out) (word (rowAt fieldWidth i (e .rows)) 0) (word (rowAt fieldWidth i (e .rows)) 1) ≡ getD (allFields t) i []
 
+-- of what the writer left in the buffer, lent to the reader with any room: its answer is never 14, and where there is room it is 0 with the records' fields
+abbrev pub ReadAgain : Type 0
+ReadAgain =
+    (table stream controls properties′ out rows bytes : List ℕ) → csvExit table stream controls properties′ out .answer .number ≡ 0
+    → (r : Reading) × (readingOf table stream ≡ some r)
+    × (fieldsExit (take (csvExit table stream controls properties′ out .answer .first) (csvExit table stream controls properties′ out .out)) rows bytes
+    ≡ fieldsBy (some (allFields (sheetOf stream r))) rows bytes)
+
 pub record Wish7 : Type 0 where
+  pub records : Records
+  pub read-again : ReadAgain
   pub read-back : ReadBack
   pub accepts : Accepts
   pub last-optional : LastOptional
