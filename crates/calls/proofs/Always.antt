@@ -25,6 +25,9 @@ both-facts 𝓤 φ ψ =
 pub three-facts : {M : Type 1} (𝓤 : URA M) (φ ψ χ : Type 0) → ent 𝓤 (sep 𝓤 (fact 𝓤 φ) (sep 𝓤 (fact 𝓤 ψ) (fact 𝓤 χ))) (fact 𝓤 (φ × (ψ × χ)))
 three-facts 𝓤 φ ψ χ = via 𝓤 (sep 𝓤 (fact 𝓤 φ) (fact 𝓤 (ψ × χ))) (monoR 𝓤 (fact 𝓤 φ) (both-facts 𝓤 ψ χ)) (both-facts 𝓤 φ (ψ × χ))
 
+pub four-facts : {M : Type 1} (𝓤 : URA M) (φ ψ χ ω : Type 0) → ent 𝓤 (sep 𝓤 (fact 𝓤 φ) (sep 𝓤 (fact 𝓤 ψ) (sep 𝓤 (fact 𝓤 χ) (fact 𝓤 ω)))) (fact 𝓤 (φ × (ψ × (χ × ω))))
+four-facts 𝓤 φ ψ χ ω = via 𝓤 (sep 𝓤 (fact 𝓤 φ) (fact 𝓤 (ψ × (χ × ω)))) (monoR 𝓤 (fact 𝓤 φ) (three-facts 𝓤 ψ χ ω)) (both-facts 𝓤 φ (ψ × (χ × ω)))
+
 module _ (f : Function) where
   abbrev Of : Saying (f .ended) → Saying (f .ended) → Type 0
   Of φ ψ = (κs : Lfts (f .ended .signature .lifetimes)) (a : Args (f .ended .signature) κs) (r : Res (f .ended .signature) κs) (e : AtExit (f .ended) κs) → φ κs a r e → ψ κs a r e

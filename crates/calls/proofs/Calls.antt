@@ -1,14 +1,21 @@
 -- What is promised of the public functions holds: each function's theorem (`met`) says its contract of its code.
 use Prim.Native.Nat.{ℕ}
+use native.Mathlib.Omega.{arith}
 use mathlib.Core.Path.{_≡_, refl, sym, ap, ap₂, subst, _∙_}
+use mathlib.Core.Bool.{Bool, true, false, cond, _||_}
 use mathlib.Core.List.{List, [], _++_}
 use mathlib.Core.Logic.{_↔_}
 use mathlib.Core.Option.{Option, none, some}
+use lib.Dec.{ltb}
+use lib.ListN.{length, take, drop}
+use lib.Seq.{take-at}
 use contract.Lifetimes.{Lfts}
 use denote.Ref.{RefT}
 use denote.Triple.Clauses.{AtExit}
 use denote.Triple.Entry.{Args, Res}
-use Rattle.rules.specs.Lists.{_>>=_}
+use Rattle.rules.specs.Lists.{_>>=_, concat}
+use Rattle.rules.specs.Answer.{answer, refusal}
+use Rattle.rules.specs.Rows.{fieldWidth, room, written}
 use Rattle.rules.specs.Bytes.{Bytes}
 use Rattle.rules.specs.NameTables.{Table as NameTable}
 use Rattle.rules.specs.Names.{nameExit}
@@ -18,7 +25,7 @@ use Rattle.rules.specs.Blob.{Exit, exit, exit2000, exitLater}
 use Rattle.rules.specs.Join.{joinExit, result}
 use Rattle.rules.specs.Rewrite.{rewriteExit}
 use Rattle.rules.specs.Pairing.{PairExit, pairExit}
-use Rattle.rules.specs.Csv.{crlf, Fields, FieldsExit, fieldsOf, fieldsBy, fieldsExit}
+use Rattle.rules.specs.Csv.{crlf, allFields, sheetOf, countable, spansFrom, CsvExit, csvExit, Fields, FieldsExit, fieldsOf, fieldsBy, fieldsExit}
 use Rattle.rules.specs.NamePart.{partBytes}
 use Rattle.blob.specs.Exit.{partPlace}
 use Rattle.oskuramos.specs.Handed.{handedAnswer}
@@ -51,6 +58,7 @@ use Rattle.text.proofs.label_text.Met as label-text-code
 use Rattle.typeinfo.proofs.read_type_info.Met as read-type-info-code
 use Rattle.pairing.proofs.pair.Met as pair-code
 use Rattle.csvread.proofs.read_csv.Met as read-csv-code
+use Rattle.csvwrite.proofs.write_csv.Met as write-csv-code
 use Rattle.blob.proofs.read_blob.Met as read-blob-code
 use Rattle.blob.proofs.read_2000.Met as read-2000-code
 use Rattle.blob.proofs.read_later.Met as read-later-code
@@ -61,6 +69,7 @@ use Rattle.oskuramos.proofs.oskuramos_read_later.Met as exported-read-later-cod
 use Rattle.oskuramos.proofs.oskuramos_read_type_info.Met as exported-read-type-info-code
 use Rattle.oskuramos.proofs.oskuramos_pair.Met as exported-pair-code
 use Rattle.oskuramos.proofs.oskuramos_read_csv.Met as exported-read-csv-code
+use Rattle.oskuramos.proofs.oskuramos_write_csv.Met as exported-write-csv-code
 use Rattle.oskuramos.proofs.oskuramos_well_formed.Met as exported-well-formed-code
 use Rattle.oskuramos.proofs.oskuramos_join.Met as exported-join-code
 use Rattle.oskuramos.proofs.oskuramos_rewrite.Met as exported-rewrite-code
@@ -105,6 +114,7 @@ use Rattle.oskuramos.proofs.oskuramos_read_later.Reads as exported-read-later-c
 use Rattle.oskuramos.proofs.oskuramos_read_type_info.Reads as exported-read-type-info-clauses
 use Rattle.oskuramos.proofs.oskuramos_pair.Reads as exported-pair-clauses
 use Rattle.oskuramos.proofs.oskuramos_read_csv.Reads as exported-read-csv-clauses
+use Rattle.oskuramos.proofs.oskuramos_write_csv.Reads as exported-write-csv-clauses
 use Rattle.oskuramos.proofs.oskuramos_guid_text.Reads as exported-guid-text-clauses
 use Rattle.oskuramos.proofs.oskuramos_label_text.Reads as exported-label-text-clauses
 use Rattle.oskuramos.proofs.oskuramos_join.Reads as exported-join-clauses
@@ -112,7 +122,7 @@ use Rattle.oskuramos.proofs.oskuramos_rewrite.Reads as exported-rewrite-clauses
 use Rattle.calls.specs.Functions as f
 use Rattle.calls.specs.Functions.{Blob, Later}
 use Rattle.calls.specs.Calls as calls
-use Rattle.calls.proofs.Always.{both-facts, three-facts, so, told, Tells, knowing}
+use Rattle.calls.proofs.Always.{both-facts, three-facts, four-facts, so, told, Tells, knowing}
 use Rattle.calls.proofs.LentBytes.{stream-told, later-told, rewrite-told, one-told, other-told}
 use Rattle.claims.proofs.Demand1.{demand1}
 use Rattle.claims.proofs.Demand2.{demand2}
@@ -596,6 +606,72 @@ crates-csv-allows a = (record { κs = ([], ([], ([], tt))); args = sheet-args a;
 exported-csv-allows : (a : f.Sheet) → (c : Call (f.exported .read-csv)) × (handed c ≡ a)
 exported-csv-allows a = (record { κs = ([], ([], ([], tt))); args = sheet-args a; result = handedAnswer (fields-of a .answer); left = (tt, (fields-of a .rows, (fields-of a .out, tt))); allowed = (refl, (refl, refl)) }, refl)
 
+-- ---- write_csv
+abbrev csv-of : f.BlobText → CsvExit
+csv-of a = csvExit (a .table) (a .stream) (a .controls) (a .properties) (a .out)
+
+write-csvs : (g : Fn f.BlobText CsvExit) → Proved g csv-of → OneResult (g .function) → ((a : f.BlobText) → (c : Call g) × (handed c ≡ a)) → calls.WriteCsv g
+write-csvs g p one allows = record {
+  is-exit = every g csv-of p _ (λ a. refl);
+  writes = every g csv-of p _ (λ a. wish7 .writes (a .table) (a .stream) (a .controls) (a .properties) (a .out));
+  one-result = one;
+  allows = allows;
+}
+
+written-rows : (g : Fn f.Blob Exit) (h : Fn f.BlobText CsvExit) → Proved g exit-of → Proved h csv-of → calls.WrittenRows g h
+written-rows g h p q c d same z =
+    let a = handed d in
+    let e = call-told h csv-of q d in
+    let x = wish7 .writes (a .table) (a .stream) (a .controls) (a .properties) (a .out) .rows (ap (λ (y : CsvExit). y .answer .number) (sym e) ∙ z) in
+    let b = (λ i. exit (same .same-table i) (same .same-stream i) (same .same-controls i) (same .same-properties i)) ∙ sym (call-told g exit-of p c) in
+    (ap (λ (y : CsvExit). y .controls) e ∙ x .0 ∙ ap (λ (y : Exit). y .controls) b, ap (λ (y : CsvExit). y .properties) e ∙ x .1 ∙ ap (λ (y : Exit). y .properties) b)
+
+gives-back : (fs : Fields) (a : f.Sheet) → fieldsOf (a .text) ≡ some fs → calls.GivesBack fs a (fields-of a)
+unfolding fieldsExit
+gives-back fs a k = rw k (go (ltb (countable (length (a .out))) (length (concat fs)) || ltb (countable (room fieldWidth (a .fields))) (length fs)))
+  where
+    go : (b : Bool) → calls.GivesBack fs a (cond b
+        (record { answer = refusal 13; rows = a .fields; out = a .out })
+        (record { answer = answer 0 (length (concat fs)) (length fs) 0; rows = written (spansFrom 0 fs) (a .fields); out = concat fs ++ drop (length (concat fs)) (a .out) }))
+    go true = record { of-the-grammar = λ e. omega (arith, e); bytes = λ e. absurd (omega (arith, e)); rows = λ e. absurd (omega (arith, e)) }
+    go false = record { of-the-grammar = λ e. omega (arith, e); bytes = λ _. take-at (concat fs) _ (length (concat fs)) refl; rows = λ _. refl }
+
+written-read-back : (g : Fn f.BlobText CsvExit) (h : Fn f.Sheet FieldsExit) → Proved g csv-of → Proved h fields-of → calls.WrittenReadBack g h
+written-read-back g h p q c d k =
+    let a = handed c in
+    let e = call-told g csv-of p c in
+    let x = wish7 .writes (a .table) (a .stream) (a .controls) (a .properties) (a .out) .read-back (ap (λ (y : CsvExit). y .answer .number) (sym e) ∙ k .wrote) in
+    let t = k .lent ∙ ap (λ (y : CsvExit). take (y .answer .first) (y .out)) e in
+    let fs = allFields (sheetOf (a .stream) (x .0)) in
+    (x .0, x .1, subst (calls.GivesBack fs (handed d)) (sym (call-told h fields-of q d)) (gives-back fs (handed d) (ap fieldsOf t ∙ x .2)))
+
+crates-write-csv : Proved (f.crates .write-csv) csv-of
+crates-write-csv = record {
+  met = λ w. write-csv-code.met (w .𝓤) (w .H) (w .𝓜) (w .𝓖) (w .𝓡);
+  told = λ κs a r e q. q;
+}
+
+exported-write-csv : Proved (f.exported .write-csv) csv-of
+exported-write-csv = record {
+  met = told (f.exported .write-csv .function) (λ w κs a r e. exported-write-csv-clauses.ensures κs a tt r e w) _ (λ w κs a r e. four-facts (w .𝓤) _ _ _ _) (λ w. exported-write-csv-code.met (w .𝓤) (w .H) (w .𝓜) (w .𝓖) (w .𝓡));
+  told = λ κs a r e q i. record { answer = f.takenAnswer (q .0 i); controls = q .1 .0 i; properties = q .1 .1 .0 i; out = q .1 .1 .1 i };
+}
+
+crates-one-csv : OneResult (f.crates .write-csv .function)
+crates-one-csv κs a r r′ x y p q = (ap (λ e. e .answer) (p ∙ sym q), λ i. (tt, (tt, ((p ∙ sym q) i .controls, ((p ∙ sym q) i .properties, ((p ∙ sym q) i .out, tt))))))
+
+exported-one-csv : OneResult (f.exported .write-csv .function)
+exported-one-csv κs a r r′ x y p q = (p .0 ∙ sym (q .0), λ i. (tt, (tt, ((p .1 .0 ∙ sym (q .1 .0)) i, ((p .1 .1 .0 ∙ sym (q .1 .1 .0)) i, ((p .1 .1 .1 ∙ sym (q .1 .1 .1)) i, tt))))))
+
+abbrev text-args : f.BlobText → RefT (List ℕ) × (RefT (List ℕ) × (RefT (List ℕ) × (RefT (List ℕ) × (RefT (List ℕ) × Unit {0}))))
+text-args a = (somewhere (a .table), (somewhere (a .stream), (somewhere (a .controls), (somewhere (a .properties), (somewhere (a .out), tt)))))
+
+crates-text-allows : (a : f.BlobText) → (c : Call (f.crates .write-csv)) × (handed c ≡ a)
+crates-text-allows a = (record { κs = ([], ([], ([], ([], ([], tt))))); args = text-args a; result = csv-of a .answer; left = (tt, (tt, (csv-of a .controls, (csv-of a .properties, (csv-of a .out, tt))))); allowed = refl }, refl)
+
+exported-text-allows : (a : f.BlobText) → (c : Call (f.exported .write-csv)) × (handed c ≡ a)
+exported-text-allows a = (record { κs = ([], ([], ([], ([], ([], tt))))); args = text-args a; result = handedAnswer (csv-of a .answer); left = (tt, (tt, (csv-of a .controls, (csv-of a .properties, (csv-of a .out, tt))))); allowed = (refl, (refl, (refl, refl))) }, refl)
+
 -- ---- as the crates have them
 of-crates : calls.Promised f.crates
 of-crates = record {
@@ -612,6 +688,9 @@ of-crates = record {
   never-refused-2000 = never-refused (f.crates .read-2000) exit-2000 (λ a. a .stream) (f.crates .read-type-info) (f.crates .pair) crates-read-2000 crates-read-type-info crates-pair
       (λ a. wish2 .as-read-2000 (a .table) (a .stream) (a .controls) (a .properties));
   read-csv = read-csvs (f.crates .read-csv) crates-read-csv (λ κs a r r′ x y p q. (p .0 ∙ sym (q .0), λ i. (tt, ((p .1 .0 ∙ sym (q .1 .0)) i, ((p .1 .1 ∙ sym (q .1 .1)) i, tt))))) crates-csv-allows;
+  write-csv = write-csvs (f.crates .write-csv) crates-write-csv crates-one-csv crates-text-allows;
+  written-rows = written-rows (f.crates .read-blob) (f.crates .write-csv) crates-read-blob crates-write-csv;
+  written-read-back = written-read-back (f.crates .write-csv) (f.crates .read-csv) crates-write-csv crates-read-csv;
   guid-text = guid-texts (f.crates .guid-text) (record {
     met = told (f.crates .guid-text .function) (λ w κs a r e. guid-text-clauses.ensures κs a tt r e w) _ (λ w κs a r e. both-facts (w .𝓤) _ _) (λ w. guid-text-code.met (w .𝓤) (w .H) (w .𝓜) (w .𝓖) (w .𝓡));
     told = λ κs a r e q i. record { answer = q .0 i; out = q .1 i };
@@ -677,6 +756,9 @@ of-exported = record {
   never-refused-2000 = never-refused (f.exported .read-2000) exit-2000 (λ a. a .stream) (f.exported .read-type-info) (f.exported .pair) exported-read-2000 exported-read-type-info exported-pair
       (λ a. wish2 .as-read-2000 (a .table) (a .stream) (a .controls) (a .properties));
   read-csv = read-csvs (f.exported .read-csv) exported-read-csv (λ κs a r r′ x y p q. (p .0 ∙ sym (q .0), λ i. (tt, ((p .1 .0 ∙ sym (q .1 .0)) i, ((p .1 .1 ∙ sym (q .1 .1)) i, tt))))) exported-csv-allows;
+  write-csv = write-csvs (f.exported .write-csv) exported-write-csv exported-one-csv exported-text-allows;
+  written-rows = written-rows (f.exported .read-blob) (f.exported .write-csv) exported-read-blob exported-write-csv;
+  written-read-back = written-read-back (f.exported .write-csv) (f.exported .read-csv) exported-write-csv exported-read-csv;
   guid-text = guid-texts (f.exported .guid-text) (record {
     met = told (f.exported .guid-text .function) (λ w κs a r e. exported-guid-text-clauses.ensures κs a tt r e w) _ (λ w κs a r e. both-facts (w .𝓤) _ _) (λ w. exported-guid-text-code.met (w .𝓤) (w .H) (w .𝓜) (w .𝓖) (w .𝓡));
     told = λ κs a r e q i. record { answer = f.takenAnswer (q .0 i); out = q .1 i };

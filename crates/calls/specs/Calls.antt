@@ -12,11 +12,12 @@ use mathlib.Core.Logic.{_↔_}
 use mathlib.Core.Option.{some}
 use lib.Ieee.{binary32, binary64, ofBits}
 use lib.ListN.{length, take, drop}
-use Rattle.rules.specs.Lists.{_>>=_}
+use Rattle.rules.specs.Lists.{_>>=_, concat}
 use Rattle.rules.specs.Bytes.{Bytes}
 use Rattle.rules.specs.Utf16.{isUtf16}
 use Rattle.rules.specs.Value.{integerValue, entryValue, storedValue, valueAs, widened}
-use Rattle.rules.specs.Rows.{controlWidth, propertyWidth, room}
+use Rattle.rules.specs.Rows.{controlWidth, propertyWidth, room, written}
+use Rattle.rules.specs.Reading.{Reading}
 use Rattle.rules.specs.Texts.{TextExit, guidExit, labelExit}
 use Rattle.rules.specs.NameTables.{Table as NameTable, textNames, numberNames, bytesNames, controlTypeNames}
 use Rattle.rules.specs.Names.{namesFor, nameExit}
@@ -26,9 +27,9 @@ use Rattle.rules.specs.Join.{joinExit, result}
 use Rattle.rules.specs.Rewrite.{rewriteExit}
 use Rattle.rules.specs.NamePart.{Part, namePart, partBytes}
 use Rattle.rules.specs.Pairing.{PairExit, pairExit}
-use Rattle.rules.specs.Csv.{crlf, FieldsExit, fieldsExit}
+use Rattle.rules.specs.Csv.{crlf, Fields, allFields, sheetOf, spansFrom, CsvExit, csvExit, FieldsExit, fieldsExit}
 use Rattle.rules.specs.Room.{room2000, roomLater, roomFor, typeInfoRoom}
-use Rattle.rules.specs.Blob.{Exit, is2000, exit, exit2000, exitLater, spots}
+use Rattle.rules.specs.Blob.{Exit, is2000, readingOf, exit, exit2000, exitLater, spots}
 use Rattle.numbers.specs.Int.{intOf}
 use Rattle.numbers.specs.Wide.{wordsOf, bitsOf}
 use Rattle.blob.specs.Exit.{partPlace}
@@ -60,6 +61,7 @@ use Rattle.calls.specs.Functions.{
   TypeInfo,
   Pair,
   Sheet,
+  BlobText,
   Guid,
   Label,
   NameOf,
@@ -259,6 +261,44 @@ pub record ReadCsv (f : Fn Sheet FieldsExit) : Type 2 where
   -- the contract allows a call of any words, so that what is said of two calls isn't idle
   pub allows : (a : Sheet) → (c : Call f) × (handed c ≡ a)
 
+-- ---- write_csv(table, stream, controls, properties, out): wish 7 (Spreadsheet)
+pub record WriteCsv (f : Fn BlobText CsvExit) : Type 2 where
+  -- what is seen is what the definition says: the answer, and every word and byte of the three slices
+  pub is-exit : Every f (λ a seen. seen ≡ csvExit (a .table) (a .stream) (a .controls) (a .properties) (a .out))
+  -- the Blob's refusals, then 13, exactly when the wish says, and then no row and no byte is written; else the Blob's rows, and its text
+  pub writes : Every f (λ a seen. csv.Writes (a .table) (a .stream) (a .controls) (a .properties) (a .out) seen)
+  pub one-result : OneResult (f .function)
+  pub allows : (a : BlobText) → (c : Call f) × (handed c ≡ a)
+
+-- the rows and the text are those of the reader of Blobs: the same table, stream and rows lent, and a writer that answered 0
+pub record SameBlob (a : Blob) (b : BlobText) : Type 0 where
+  pub same-table : b .table ≡ a .table
+  pub same-stream : b .stream ≡ a .stream
+  pub same-controls : b .controls ≡ a .controls
+  pub same-properties : b .properties ≡ a .properties
+
+abbrev pub WrittenRows : Fn Blob Exit → Fn BlobText CsvExit → Type 0
+WrittenRows reader writer =
+    (c : Call reader) (d : Call writer) → SameBlob (handed c) (handed d) → seen d .answer .number ≡ 0
+    → (seen d .controls ≡ seen c .controls) × (seen d .properties ≡ seen c .properties)
+
+-- "reading back what was written gives the same fields in the same order": the reader is lent what a writer that answered 0 has written. It never answers
+-- 14; where it answers 0, its fields are those of the Blob's records
+pub record ReadsBack (text : CsvExit) (a : Sheet) : Type 0 where
+  pub wrote : text .answer .number ≡ 0
+  pub lent : a .text ≡ take (text .answer .first) (text .out)
+
+-- never 14; and on 0 the bytes of these fields end to end, with their starts and lengths
+pub record GivesBack (fs : Fields) (a : Sheet) (e : FieldsExit) : Type 0 where
+  pub of-the-grammar : ¬ (e .answer .number ≡ 14)
+  pub bytes : e .answer .number ≡ 0 → take (e .answer .first) (e .out) ≡ concat fs
+  pub rows : e .answer .number ≡ 0 → e .rows ≡ written (spansFrom 0 fs) (a .fields)
+
+abbrev pub WrittenReadBack : Fn BlobText CsvExit → Fn Sheet FieldsExit → Type 0
+WrittenReadBack writer reader =
+    (c : Call writer) (d : Call reader) → ReadsBack (seen c) (handed d)
+    → (r : Reading) × (readingOf (handed c .table) (handed c .stream) ≡ some r) × GivesBack (allFields (sheetOf (handed c .stream) r)) (handed d) (seen d)
+
 -- ---- guid_text(guid, out): `guidExit` says which bytes are written, and that those behind them stay
 pub record GuidText (f : Fn Guid TextExit) : Type 2 where
   pub is-exit : Every f (λ a seen. seen ≡ guidExit (a .guid) (a .out))
@@ -368,6 +408,9 @@ pub record Promised (i : Interface) : Type 2 where
   pub never-refused-later : NeverRefused (i .read-later) (λ a. a .stream) (i .read-type-info) (i .pair)
   pub never-refused-2000 : NeverRefused (i .read-2000) (λ a. a .stream) (i .read-type-info) (i .pair)
   pub read-csv : ReadCsv (i .read-csv)
+  pub write-csv : WriteCsv (i .write-csv)
+  pub written-rows : WrittenRows (i .read-blob) (i .write-csv)
+  pub written-read-back : WrittenReadBack (i .write-csv) (i .read-csv)
   pub guid-text : GuidText (i .guid-text)
   pub label-text : LabelText (i .label-text)
   pub join : JoinTables (i .join)

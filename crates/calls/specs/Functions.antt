@@ -13,7 +13,7 @@ use Rattle.rules.specs.Texts.{TextExit}
 use Rattle.rules.specs.TypeInfo.{TypeInfoExit}
 use Rattle.rules.specs.Blob.{Exit}
 use Rattle.rules.specs.Pairing.{PairExit}
-use Rattle.rules.specs.Csv.{FieldsExit}
+use Rattle.rules.specs.Csv.{CsvExit, FieldsExit}
 use Rattle.numbers.specs.declared.Int.{Int}
 use Rattle.numbers.specs.declared.Wide.{Wide}
 use Rattle.blob.specs.Exit.{Place}
@@ -39,6 +39,7 @@ use Rattle.join.proofs.join as join
 use Rattle.typeinfo.proofs.read_type_info as read_type_info
 use Rattle.pairing.proofs.pair as pair
 use Rattle.csvread.proofs.read_csv as read_csv
+use Rattle.csvwrite.proofs.write_csv as write_csv
 use Rattle.blob.proofs.read_blob as read_blob
 use Rattle.blob.proofs.read_2000 as «read_2000»
 use Rattle.blob.proofs.read_later as read_later
@@ -54,6 +55,7 @@ use Rattle.oskuramos.proofs.oskuramos_read_later as oskuramos_read_later
 use Rattle.oskuramos.proofs.oskuramos_read_type_info as oskuramos_read_type_info
 use Rattle.oskuramos.proofs.oskuramos_pair as oskuramos_pair
 use Rattle.oskuramos.proofs.oskuramos_read_csv as oskuramos_read_csv
+use Rattle.oskuramos.proofs.oskuramos_write_csv as oskuramos_write_csv
 use Rattle.oskuramos.proofs.oskuramos_well_formed as oskuramos_well_formed
 use Rattle.oskuramos.proofs.oskuramos_join as oskuramos_join
 use Rattle.oskuramos.proofs.oskuramos_rewrite as oskuramos_rewrite
@@ -137,6 +139,23 @@ pub record Sheet : Type 0 where
 
 abbrev sheet : Slice × (Slice × (Slice × End)) → Sheet
 sheet a = record { text = now (a .0); fields = now (a .1 .0); out = now (a .1 .1 .0) }
+
+-- (table, stream, controls, properties, out)
+pub record BlobText : Type 0 where
+  pub table : List ℕ
+  pub stream : List ℕ
+  pub controls : List ℕ
+  pub properties : List ℕ
+  pub out : List ℕ
+
+abbrev blob-text : Slice × (Slice × (Slice × (Slice × (Slice × End)))) → BlobText
+blob-text a = record {
+  table = now (a .0);
+  stream = now (a .1 .0);
+  controls = now (a .1 .1 .0);
+  properties = now (a .1 .1 .1 .0);
+  out = now (a .1 .1 .1 .1 .0);
+}
 
 -- (guid, out)
 pub record Guid : Type 0 where
@@ -259,6 +278,9 @@ pair-exit r e = record { answer = r; controls = rows-to-pair e .controls }
 abbrev fields-exit : Answer → Slice × (Slice × (Slice × End)) → FieldsExit
 fields-exit r e = record { answer = r; rows = sheet e .fields; out = sheet e .out }
 
+abbrev csv-exit : Answer → Slice × (Slice × (Slice × (Slice × (Slice × End)))) → CsvExit
+csv-exit r e = record { answer = r; controls = blob-text e .controls; properties = blob-text e .properties; out = blob-text e .out }
+
 abbrev guid-exit : Answer → Slice × (Slice × End) → TextExit
 guid-exit r e = record { answer = r; out = guid e .out }
 
@@ -295,6 +317,7 @@ pub record Interface : Type 2 where
   pub read-type-info : Fn TypeInfo TypeInfoExit
   pub pair : Fn Pair PairExit
   pub read-csv : Fn Sheet FieldsExit
+  pub write-csv : Fn BlobText CsvExit
   pub well-formed : Fn (List ℕ) Bool
   pub room : Fn ℕ Room
   pub room-2000 : Fn ℕ Room
@@ -346,6 +369,11 @@ crates = record {
     function = record { ended = read_csv.ended; routine = read_csv.Symbol.routine; says = read_csv.Reads.Learnt };
     handed = λ κs a. sheet a;
     seen = λ κs r e. fields-exit r e;
+  };
+  write-csv = record {
+    function = record { ended = write_csv.ended; routine = write_csv.Symbol.routine; says = write_csv.Reads.Learnt };
+    handed = λ κs a. blob-text a;
+    seen = λ κs r e. csv-exit r e;
   };
   well-formed = record {
     function = record { ended = well_formed.ended; routine = well_formed.Symbol.routine; says = well_formed.Reads.Learnt };
@@ -471,6 +499,11 @@ exported = record {
     function = record { ended = oskuramos_read_csv.ended; routine = oskuramos_read_csv.Symbol.routine; says = oskuramos_read_csv.Reads.Learnt };
     handed = λ κs a. sheet a;
     seen = λ κs r e. fields-exit (takenAnswer r) e;
+  };
+  write-csv = record {
+    function = record { ended = oskuramos_write_csv.ended; routine = oskuramos_write_csv.Symbol.routine; says = oskuramos_write_csv.Reads.Learnt };
+    handed = λ κs a. blob-text a;
+    seen = λ κs r e. csv-exit (takenAnswer r) e;
   };
   well-formed = record {
     function = record { ended = oskuramos_well_formed.ended; routine = oskuramos_well_formed.Symbol.routine; says = oskuramos_well_formed.Reads.Learnt };

@@ -8,7 +8,7 @@ ghost use Rattle.rules.specs.NameTables.{textNames, numberNames, bytesNames, co
 ghost use Rattle.rules.specs.Names.{namesFor, nameExit};
 ghost use Rattle.rules.specs.Rewrite.{rewriteExit};
 ghost use Rattle.rules.specs.Pairing.{pairExit};
-ghost use Rattle.rules.specs.Csv.{fieldsExit};
+ghost use Rattle.rules.specs.Csv.{csvExit, fieldsExit};
 ghost use Rattle.rules.specs.Room.{room2000, roomLater, roomFor, typeInfoRoom};
 ghost use Rattle.rules.specs.Texts.{guidExit, labelExit};
 ghost use Rattle.rules.specs.TypeInfo.{typeInfoExit};
@@ -155,6 +155,22 @@ pub extern "C" fn oskuramos_pair(
 }
 
 // ---- comma-separated text
+#[no_mangle]
+pub extern "C" fn oskuramos_write_csv(
+    table: &[u8],
+    stream: &[u8],
+    controls: &mut [u32],
+    properties: &mut [u32],
+    out: &mut [u8],
+) -> Answer
+    ensures { λ r. ⌜ r ≡ handedAnswer (csvExit (now (table .entry)) (now (stream .entry)) (now (controls .entry)) (now (properties .entry)) (now (out .entry)) .answer) ⌝ }
+    ensures { λ _. ⌜ now (controls .exit) ≡ csvExit (now (table .entry)) (now (stream .entry)) (now (controls .entry)) (now (properties .entry)) (now (out .entry)) .controls ⌝ }
+    ensures { λ _. ⌜ now (properties .exit) ≡ csvExit (now (table .entry)) (now (stream .entry)) (now (controls .entry)) (now (properties .entry)) (now (out .entry)) .properties ⌝ }
+    ensures { λ _. ⌜ now (out .exit) ≡ csvExit (now (table .entry)) (now (stream .entry)) (now (controls .entry)) (now (properties .entry)) (now (out .entry)) .out ⌝ }
+{
+    handed_answer(csvwrite::write_csv(table, stream, controls, properties, out))
+}
+
 #[no_mangle]
 pub extern "C" fn oskuramos_read_csv(text: &[u8], fields: &mut [u32], out: &mut [u8]) -> Answer
     ensures { λ r. ⌜ r ≡ handedAnswer (fieldsExit (now (text .entry)) (now (fields .entry)) (now (out .entry)) .answer) ⌝ }
