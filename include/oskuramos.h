@@ -150,6 +150,18 @@ oskuramos_answer oskuramos_pair(const uint8_t *stream, size_t stream_length, uin
                                 size_t infos_length, uint32_t info_count);
 
 /* ---- comma-separated text */
+/* Reads a Blob into rows as oskuramos_read_blob does, and writes its properties as text by RFC 4180: the record control,type,property,word,value, then a
+   record for each property row, in their order. Control is the control's number in decimal and type its code in four digits of hex; both are empty for
+   the object's own properties. Property is the name or, where it has none, the id in four digits of hex. Word is bool, notdefault, short, long, double,
+   guid, text, binary or loose, and value is yes or no, -, a decimal number, 16 digits of hex, a GUID, the text whole in UTF-8, or bytes in hex, two
+   digits each. A field is quoted where it holds a comma, a quote, CR or LF, and its quotes are doubled; only text can. Each record ends with CR LF.
+   No NUL is written after the text, and text may hold one.
+   Answers 0 with the length written, 0, 0, or 5, 8, 4, 6, 7 as oskuramos_read_blob, and then 13 where the text doesn't fit the buffer or has more than
+   4,294,967,295 bytes. A refusal, 13 too, writes no row and no byte. Rows, words and bytes after what is written keep their values. */
+oskuramos_answer oskuramos_write_csv(const uint8_t *table, size_t table_length, const uint8_t *stream, size_t stream_length,
+                                     uint32_t *controls, size_t controls_length, uint32_t *properties, size_t properties_length,
+                                     uint8_t *out, size_t out_length);
+
 /* The words of a field's row: where its bytes start in the buffer, and how many they are. A record has five fields: control, type, property, word, value. */
 enum {
     OSKURAMOS_FIELD_START = 0,

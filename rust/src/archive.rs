@@ -61,6 +61,10 @@ extern "C" {
     fn oskuramos_join(
         one: *const u8, one_length: usize, other: *const u8, other_length: usize, out: *mut u8, out_length: usize,
     ) -> Answer;
+    fn oskuramos_write_csv(
+        table: *const u8, table_length: usize, stream: *const u8, stream_length: usize,
+        controls: *mut u32, controls_length: usize, properties: *mut u32, properties_length: usize, out: *mut u8, out_length: usize,
+    ) -> Answer;
     fn oskuramos_rewrite(stream: *const u8, stream_length: usize, out: *mut u8, out_length: usize) -> Answer;
     fn oskuramos_room(length: usize) -> Rows;
     fn oskuramos_room_2000(length: usize) -> Rows;
@@ -119,6 +123,12 @@ pub fn well_formed(table: &[u8]) -> bool {
 
 pub fn join(one: &[u8], other: &[u8], out: &mut [u8]) -> Answer {
     unsafe { oskuramos_join(one.as_ptr(), one.len(), other.as_ptr(), other.len(), out.as_mut_ptr(), out.len()) }
+}
+
+pub fn write_csv(table: &[u8], stream: &[u8], controls: &mut [u32], properties: &mut [u32], out: &mut [u8]) -> Answer {
+    let (t, s) = ((table.as_ptr(), table.len()), (stream.as_ptr(), stream.len()));
+    let (c, p) = ((controls.as_mut_ptr(), controls.len()), (properties.as_mut_ptr(), properties.len()));
+    unsafe { oskuramos_write_csv(t.0, t.1, s.0, s.1, c.0, c.1, p.0, p.1, out.as_mut_ptr(), out.len()) }
 }
 
 pub fn rewrite(stream: &[u8], out: &mut [u8]) -> Answer {

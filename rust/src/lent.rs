@@ -9,7 +9,7 @@ pub use crate::format::{
     CONTROL_WORDS, FIELD_WORDS, GUID_TEXT, LABEL_LONGEST, LONGEST, NAME_ROOM, NO_PARENT, NO_TYPE, PROPERTY_WORDS, RECORD_FIELDS, STACK,
     TABLE_LONGEST, TYPE_INFO_WORDS,
 };
-use crate::refused::{of_blob, of_paired, of_sheet, of_type_info, of_written, Counts, Refused};
+use crate::refused::{of_blob, of_blob_text, of_paired, of_sheet, of_type_info, of_written, Counts, Refused};
 
 /// Type code, name mark, name start, name length, first property row, property count, level, and the parent's row, [`NO_PARENT`] at level 0.
 pub type ControlRow = [u32; CONTROL_WORDS];
@@ -101,6 +101,19 @@ pub fn label_text(n: u32, out: &mut [u8]) -> Result<usize, Refused> {
 /// Bytes after it keep their values. [`CodeTable::join`](crate::CodeTable::join) does the same with room of its own.
 pub fn join(one: &[u8], other: &[u8], out: &mut [u8]) -> Result<usize, Refused> {
     of_written(archive::join(one, other, out))
+}
+
+/// Reads a Blob by a code table into rows, and writes its properties as comma-separated text; says how many bytes that has. A refusal, also
+/// [`Refused::NoRoomForSheet`] where the text doesn't fit, writes no row and no byte. What stands after rows and text keeps its values.
+/// [`write_csv`](crate::write_csv()) does the same with room of its own.
+pub fn write_csv(
+    table: &[u8],
+    stream: &[u8],
+    controls: &mut [ControlRow],
+    properties: &mut [PropertyRow],
+    out: &mut [u8],
+) -> Result<usize, Refused> {
+    of_blob_text(archive::write_csv(table, stream, controls.as_flattened_mut(), properties.as_flattened_mut(), out))
 }
 
 /// Writes an Access 2000 stream in its shortest spelling, and says how many bytes it has: no more than the stream. Bytes after it keep their values.

@@ -15,6 +15,7 @@ mod room;
 mod text;
 mod type_info;
 mod value;
+mod write_csv;
 
 pub use blob::{Blob, Control, ControlName, Layout, Property};
 pub use code_table::{CodeRow, CodeScope, CodeTable, Scope};
@@ -25,6 +26,7 @@ pub use room::Room;
 pub use text::{is_utf16, Guid, Loose, Name, Text};
 pub use type_info::{TypeInfo, TypeInfoEntry};
 pub use value::{entry_value, stored_value, value_as, Kind, Value};
+pub use write_csv::write_csv;
 
 /// The version of this crate, which is that of the archive and of `oskuramos.h`.
 pub const VERSION: &str = env!("CARGO_PKG_VERSION");

@@ -176,6 +176,12 @@ pub(crate) fn of_blob(a: archive::Answer) -> Result<Counts, Refused> {
     }
 }
 
+/// The length of a Blob's text, or its refusal.
+pub(crate) fn of_blob_text(a: archive::Answer) -> Result<usize, Refused> {
+    let length = a.first as usize;
+    of_blob(a).map(|_| length)
+}
+
 /// The rows of TypeInfo, or its refusal.
 pub(crate) fn of_type_info(a: archive::Answer) -> Result<usize, Refused> {
     match a.number {

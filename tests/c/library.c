@@ -434,6 +434,55 @@ static void rewriting(const uint8_t *large) {
     check(rewrite_refused(large, OSKURAMOS_LONGEST + 1, 0, 5), "5 of rewrite for 16,777,217 bytes, before 4");
 }
 
+/* ---- properties as comma-separated text */
+static const char blob_text[] = "control,type,property,word,value\r\n,,8031,short,5\r\n1,0064,Left,short,-1\r\n1,0064,Name,text,A\r\n";
+static const size_t blob_text_length = sizeof blob_text - 1;
+
+/* K1 with other text: a comma, a quote, and a sign outside the basic plane. */
+static const uint8_t quoting[32] = {0x2A, 0, 0,    0, 0,    0, 0,    0,    0,    0, 0x31, 5,    0xFE, 0x98, 0,    0xFE,
+                                    0x64, 0, 0x60, 0xFF, 0xFF, 0xDC, 8, 0x2C, 0, 0x22, 0, 0x3D, 0xD8, 0x00, 0xDE, 0xFD};
+static const char quoted[] = "control,type,property,word,value\r\n,,8031,short,5\r\n1,0064,Left,short,-1\r\n1,0064,Name,text,\",\"\"\xF0\x9F\x98\x80\"\r\n";
+
+static bool blob_text_written(size_t controls_length, size_t properties_length, size_t room) {
+    words c, p;
+    bytes out;
+    oskuramos_answer a = oskuramos_write_csv(table, sizeof table, blob, sizeof blob, lend_words(&c), controls_length, lend_words(&p), properties_length,
+                                             lend_bytes(&out), room);
+    return is(a, 0, (uint32_t)blob_text_length, 0, 0) && memcmp(out.byte + GUARD, blob_text, blob_text_length) == 0 && bytes_kept(&out, blob_text_length) &&
+           memcmp(c.word + GUARD, control_rows, sizeof control_rows) == 0 && memcmp(p.word + GUARD, property_rows, sizeof property_rows) == 0 &&
+           words_kept(&c, 16) && words_kept(&p, 18);
+}
+
+static bool blob_text_refused(const uint8_t *t, size_t t_length, const uint8_t *s, size_t s_length, size_t controls_length, size_t properties_length, size_t room,
+                          oskuramos_answer expected) {
+    words c, p;
+    bytes out;
+    oskuramos_answer a =
+        oskuramos_write_csv(t, t_length, s, s_length, lend_words(&c), controls_length, lend_words(&p), properties_length, lend_bytes(&out), room);
+    return is(a, expected.number, expected.first, expected.second, expected.third) && words_kept(&c, 0) && words_kept(&p, 0) && bytes_kept(&out, 0);
+}
+
+static bool text_quoted(void) {
+    words c, p;
+    bytes out;
+    oskuramos_answer a = oskuramos_write_csv(table, sizeof table, quoting, sizeof quoting, lend_words(&c), ROOM, lend_words(&p), ROOM, lend_bytes(&out), ROOM);
+    return is(a, 0, sizeof quoted - 1, 0, 0) && memcmp(out.byte + GUARD, quoted, sizeof quoted - 1) == 0 && bytes_kept(&out, sizeof quoted - 1);
+}
+
+static void blob_texts(const uint8_t *large) {
+    oskuramos_answer six = {6, 2, 3, 1}, seven = {7, 2, 3, 1}, four = {4, 0, 0, 0}, five = {5, 0, 0, 0}, eight = {8, 0, 0, 0};
+    oskuramos_answer thirteen = {OSKURAMOS_NO_ROOM_FOR_SHEET, 0, 0, 0};
+    check(blob_text_written(16, 18, blob_text_length), "K1 as text with room to the byte: each byte, each word, and the guards");
+    check(blob_text_written(ROOM, ROOM, ROOM), "K1 as text with much room: what is beyond stays");
+    check(text_quoted(), "text with a comma, a quote and a pair: quoted, doubled, UTF-8");
+    check(blob_text_refused(table, sizeof table, blob, sizeof blob, 16, 18, blob_text_length - 1, thirteen), "13 for a byte too few: no row and no byte");
+    check(blob_text_refused(table, sizeof table, blob, sizeof blob, 15, 18, 0, six), "6 of write_csv, before 13");
+    check(blob_text_refused(table, sizeof table, blob, sizeof blob, 16, 17, 0, seven), "7 of write_csv, before 13");
+    check(blob_text_refused(table, sizeof table, blob, sizeof blob - 1, 0, 0, 0, four), "4 of write_csv, before 6");
+    check(blob_text_refused(table, sizeof table - 1, blob, sizeof blob - 1, 0, 0, 0, eight), "8 of write_csv, before 4");
+    check(blob_text_refused(table, sizeof table - 1, large, OSKURAMOS_LONGEST + 1, 0, 0, 0, five), "5 of write_csv, before 8");
+}
+
 /* ---- text */
 static bool guid_refused(size_t guid_length, size_t out_length, uint32_t number) {
     static const uint8_t guid[17] = {0};
@@ -561,6 +610,7 @@ static void nulls(void) {
     check(!oskuramos_well_formed(NULL, 0) && oskuramos_well_formed(table, sizeof table), "null for a code table");
     check(is(oskuramos_join(NULL, 0, NULL, 0, NULL, 0), 8, 0, 0, 0), "null for two tables, and no room");
     check(is(oskuramos_join(table, sizeof table, table, sizeof table, NULL, 0), 9, 0, 0, 0), "null for the joined table");
+    check(oskuramos_write_csv(NULL, 0, NULL, 0, NULL, 0, NULL, 0, NULL, 0).number == 8, "null for all that write_csv is lent");
     check(is(oskuramos_rewrite(NULL, 0, NULL, 0), 4, 0, 0, 0), "null for a stream that is rewritten, and no room");
     check(oskuramos_guid_text(NULL, 0, NULL, 0).number == 10, "null for a GUID and its text");
     check(oskuramos_label_text(0, NULL, 0).number == 9, "null for a label");
@@ -582,6 +632,7 @@ int main(void) {
     sheets();
     rooms();
     joinings();
+    blob_texts(large);
     rewriting(large);
     texts();
     parts();

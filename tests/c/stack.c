@@ -12,6 +12,7 @@ enum { PAINT = 0xA5, PAINTED = 1 << 20, LEVELS = 256, ROOM = 1 << 22, ROWS = 1 <
 
 static uint8_t painted[PAINTED], table[1 << 16], stream[ROOM];
 static uint32_t controls[ROWS], properties[ROWS * 8];
+static uint8_t text[1 << 26];
 static uint8_t half[2][OSKURAMOS_TABLE_LONGEST], joined[OSKURAMOS_TABLE_LONGEST];
 static size_t table_length, length, half_length;
 
@@ -40,6 +41,13 @@ static void read_blob(void) {
 
 static void read_2000(void) {
     answer = oskuramos_read_2000(table, table_length, stream, length, controls, ROWS, properties, ROWS * 8);
+}
+
+/* No byte of text is lent: the counting walk runs, and answers 13. With room the rows and the text are written. */
+static void count_csv(void) { answer = oskuramos_write_csv(table, table_length, stream, length, controls, ROWS, properties, ROWS * 8, NULL, 0); }
+
+static void write_csv(void) {
+    answer = oskuramos_write_csv(table, table_length, stream, length, controls, ROWS, properties, ROWS * 8, text, sizeof text);
 }
 
 static void read_later(void) { answer = oskuramos_read_later(table[0], stream, length, controls, ROWS, properties, ROWS * 8); }
@@ -199,6 +207,10 @@ static void deepest_2000(void) {
             expect(0, "a tree of Access 2000, by its own reader");
             if (bytes > largest_alone) largest_alone = bytes;
         }
+    told(count_csv, "write_csv without room, Access 2000, 256 levels");
+    expect(13, "text without room");
+    told(write_csv, "write_csv, Access 2000, 256 levels");
+    expect(0, "text of a tree of Access 2000");
     printf("%6zu read_blob, Access 2000, 256 levels\n", largest);
     printf("%6zu read_2000, 256 levels\n", largest_alone);
 }
@@ -215,11 +227,15 @@ int main(int argc, char **argv) {
     expect(0, "a tree of the later layout");
     told(read_later, "read_later, 256 levels");
     expect(0, "a tree of the later layout, by its own reader");
+    told(write_csv, "write_csv, later layout, 256 levels");
+    expect(0, "text of a tree of the later layout");
     tree_later(true);
     told(read_blob, "read_blob, later layout, a scan behind 256 levels");
     expect(0, "a scan");
     told(read_later, "read_later, a scan behind 256 levels");
     expect(0, "a scan, by its own reader");
+    told(write_csv, "write_csv, later layout, a scan");
+    expect(0, "text of a scan");
     type_info();
     told(read_type_info, "read_type_info");
     expect(0, "TypeInfo");
