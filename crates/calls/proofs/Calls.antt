@@ -26,6 +26,7 @@ use Rattle.rules.specs.Join.{joinExit, result}
 use Rattle.rules.specs.Rewrite.{rewriteExit}
 use Rattle.rules.specs.Pairing.{PairExit, pairExit}
 use Rattle.rules.specs.Csv.{crlf, allFields, sheetOf, countable, spansFrom, CsvExit, csvExit, Fields, FieldsExit, fieldsOf, fieldsBy, fieldsExit}
+use Rattle.rules.specs.Panel.{panelExit}
 use Rattle.rules.specs.NamePart.{partBytes}
 use Rattle.blob.specs.Exit.{partPlace}
 use Rattle.oskuramos.specs.Handed.{handedAnswer}
@@ -34,6 +35,7 @@ use Rattle.claims.specs.Demand3.{Lent, SameRoom, SameBut, Same}
 use Rattle.claims.specs.Readers.{Agree}
 use Rattle.claims.specs.Rewriting.{SameRows, Rewrites}
 use Rattle.claims.specs.Pairing.{NeverRefused}
+use Rattle.claims.specs.Panels.{NoSource}
 use Rattle.calls.specs.Always.{Saying, Always, OneResult, Fn, Every, Gives, Call, handed, seen}
 use Rattle.codetable.proofs.well_formed.Met as well-formed-code
 use Rattle.join.proofs.join.Met as join-code
@@ -59,6 +61,7 @@ use Rattle.typeinfo.proofs.read_type_info.Met as read-type-info-code
 use Rattle.pairing.proofs.pair.Met as pair-code
 use Rattle.csvread.proofs.read_csv.Met as read-csv-code
 use Rattle.csvwrite.proofs.write_csv.Met as write-csv-code
+use Rattle.panel.proofs.check_panel.Met as check-panel-code
 use Rattle.blob.proofs.read_blob.Met as read-blob-code
 use Rattle.blob.proofs.read_2000.Met as read-2000-code
 use Rattle.blob.proofs.read_later.Met as read-later-code
@@ -70,6 +73,7 @@ use Rattle.oskuramos.proofs.oskuramos_read_type_info.Met as exported-read-type-
 use Rattle.oskuramos.proofs.oskuramos_pair.Met as exported-pair-code
 use Rattle.oskuramos.proofs.oskuramos_read_csv.Met as exported-read-csv-code
 use Rattle.oskuramos.proofs.oskuramos_write_csv.Met as exported-write-csv-code
+use Rattle.oskuramos.proofs.oskuramos_check_panel.Met as exported-check-panel-code
 use Rattle.oskuramos.proofs.oskuramos_well_formed.Met as exported-well-formed-code
 use Rattle.oskuramos.proofs.oskuramos_join.Met as exported-join-code
 use Rattle.oskuramos.proofs.oskuramos_rewrite.Met as exported-rewrite-code
@@ -115,6 +119,7 @@ use Rattle.oskuramos.proofs.oskuramos_read_type_info.Reads as exported-read-typ
 use Rattle.oskuramos.proofs.oskuramos_pair.Reads as exported-pair-clauses
 use Rattle.oskuramos.proofs.oskuramos_read_csv.Reads as exported-read-csv-clauses
 use Rattle.oskuramos.proofs.oskuramos_write_csv.Reads as exported-write-csv-clauses
+use Rattle.oskuramos.proofs.oskuramos_check_panel.Reads as exported-check-panel-clauses
 use Rattle.oskuramos.proofs.oskuramos_guid_text.Reads as exported-guid-text-clauses
 use Rattle.oskuramos.proofs.oskuramos_label_text.Reads as exported-label-text-clauses
 use Rattle.oskuramos.proofs.oskuramos_join.Reads as exported-join-clauses
@@ -135,6 +140,7 @@ use Rattle.claims.proofs.Counts.{counts-hold}
 use Rattle.claims.proofs.CutNames.{wish6}
 use Rattle.claims.proofs.Pairing.{wish2}
 use Rattle.claims.proofs.Spreadsheet.{wish7}
+use Rattle.claims.proofs.Panels.{wish11, panel-unchanged}
 use Rattle.claims.proofs.RowChecks.{row-checks}
 use Rattle.claims.proofs.Nesting.{nesting}
 use Rattle.claims.proofs.Characters.{wish5}
@@ -672,6 +678,67 @@ crates-text-allows a = (record { κs = ([], ([], ([], ([], ([], tt))))); args = 
 exported-text-allows : (a : f.BlobText) → (c : Call (f.exported .write-csv)) × (handed c ≡ a)
 exported-text-allows a = (record { κs = ([], ([], ([], ([], ([], tt))))); args = text-args a; result = handedAnswer (csv-of a .answer); left = (tt, (tt, (csv-of a .controls, (csv-of a .properties, (csv-of a .out, tt))))); allowed = (refl, (refl, (refl, refl))) }, refl)
 
+-- ---- check_panel
+abbrev panel-of : Blob → Exit
+panel-of a = panelExit (a .table) (a .stream) (a .controls) (a .properties)
+
+module _ (f : Fn Blob Exit) (p : Proved f panel-of) (one : OneResult (f .function)) (allows : (a : Blob) → (c : Call f) × (handed c ≡ a)) where
+  check-panels : calls.CheckPanel f
+  check-panels = record {
+    met = p .met;
+    is-exit = every f panel-of p _ (λ a. refl);
+    unchanged = every f panel-of p _ (λ a. panel-unchanged (a .table) (a .stream) (a .controls) (a .properties));
+    filled = every f panel-of p _ (λ a. wish11 .filled (a .table) (a .stream) (a .controls) (a .properties));
+    sourced = every f panel-of p _ (λ a. wish11 .sourced (a .table) (a .stream) (a .controls) (a .properties));
+    older-no = λ c d h two yes x o tree k n l at box q lacks.
+        subst (λ e. NoSource k (e .answer)) (sym (call-told f panel-of p c ∙ ap panel-of h))
+        (wish11 .older-no (handed c .table) (handed d .table) (handed d .stream) (handed d .controls) (handed d .properties) two (ap (λ e. e .answer) (sym (call-told f panel-of p d)) ∙ yes) x o tree k n l at box q lacks);
+    one-result = one;
+    by-words = by-words f panel-of p;
+    allows = allows;
+  }
+
+module _ (reader : Fn Blob Exit) (f : Fn Blob Exit) (b : Proved reader exit-of) (p : Proved f panel-of) where
+  panel-reads : calls.PanelReads reader f
+  panel-reads c d h =
+      subst (λ e. calls.OnReading (handed d .stream) e (seen d)) (sym (call-told reader exit-of b c ∙ ap exit-of h))
+      (subst (calls.OnReading (handed d .stream) (exit-of (handed d))) (sym (call-told f panel-of p d)) (on-reading (handed d)))
+    where
+      on-reading : (a : Blob) → calls.OnReading (a .stream) (exit-of a) (panel-of a)
+      on-reading a = record {
+        refused = wish11 .refused (a .table) (a .stream) (a .controls) (a .properties);
+        accepted = wish11 .accepted (a .table) (a .stream) (a .controls) (a .properties);
+        rows = wish11 .rows (a .table) (a .stream) (a .controls) (a .properties);
+        judged = wish11 .judged (a .table) (a .stream) (a .controls) (a .properties);
+      }
+
+crates-check-panel : Proved (f.crates .check-panel) panel-of
+crates-check-panel = record {
+  met = λ w. check-panel-code.met (w .𝓤) (w .H) (w .𝓜) (w .𝓖) (w .𝓡);
+  told = λ κs a r e q. q;
+}
+
+exported-check-panel : Proved (f.exported .check-panel) panel-of
+exported-check-panel = record {
+  met = told (f.exported .check-panel .function) (λ w κs a r e. exported-check-panel-clauses.ensures κs a tt r e w) _ (λ w κs a r e. three-facts (w .𝓤) _ _ _) (λ w. exported-check-panel-code.met (w .𝓤) (w .H) (w .𝓜) (w .𝓖) (w .𝓡));
+  told = λ κs a r e q i. record { answer = f.takenAnswer (q .0 i); controls = q .1 .0 i; properties = q .1 .1 i };
+}
+
+abbrev panel-left : Blob → Unit {0} × (Unit {0} × (List ℕ × (List ℕ × Unit {0})))
+panel-left a = (tt, (tt, (panel-of a .controls, (panel-of a .properties, tt))))
+
+crates-panel-allows : (a : Blob) → (c : Call (f.crates .check-panel)) × (handed c ≡ a)
+crates-panel-allows a = (record { κs = lifetimes; args = args-of a; result = panel-of a .answer; left = panel-left a; allowed = refl }, refl)
+
+exported-panel-allows : (a : Blob) → (c : Call (f.exported .check-panel)) × (handed c ≡ a)
+exported-panel-allows a = (record { κs = lifetimes; args = args-of a; result = handedAnswer (panel-of a .answer); left = panel-left a; allowed = (refl, (refl, refl)) }, refl)
+
+crates-panel-one : OneResult (f.crates .check-panel .function)
+crates-panel-one κs a r r′ x y p q = (ap (λ e. e .answer) (p ∙ sym q), λ i. (tt, (tt, ((p ∙ sym q) i .controls, ((p ∙ sym q) i .properties, tt)))))
+
+exported-panel-one : OneResult (f.exported .check-panel .function)
+exported-panel-one κs a r r′ x y p q = (p .0 ∙ sym (q .0), λ i. (tt, (tt, ((p .1 .0 ∙ sym (q .1 .0)) i, ((p .1 .1 ∙ sym (q .1 .1)) i, tt)))))
+
 -- ---- as the crates have them
 of-crates : calls.Promised f.crates
 of-crates = record {
@@ -691,6 +758,8 @@ of-crates = record {
   write-csv = write-csvs (f.crates .write-csv) crates-write-csv crates-one-csv crates-text-allows;
   written-rows = written-rows (f.crates .read-blob) (f.crates .write-csv) crates-read-blob crates-write-csv;
   written-read-back = written-read-back (f.crates .write-csv) (f.crates .read-csv) crates-write-csv crates-read-csv;
+  check-panel = check-panels (f.crates .check-panel) crates-check-panel crates-panel-one crates-panel-allows;
+  panel-reads = panel-reads (f.crates .read-blob) (f.crates .check-panel) crates-read-blob crates-check-panel;
   guid-text = guid-texts (f.crates .guid-text) (record {
     met = told (f.crates .guid-text .function) (λ w κs a r e. guid-text-clauses.ensures κs a tt r e w) _ (λ w κs a r e. both-facts (w .𝓤) _ _) (λ w. guid-text-code.met (w .𝓤) (w .H) (w .𝓜) (w .𝓖) (w .𝓡));
     told = λ κs a r e q i. record { answer = q .0 i; out = q .1 i };
@@ -759,6 +828,8 @@ of-exported = record {
   write-csv = write-csvs (f.exported .write-csv) exported-write-csv exported-one-csv exported-text-allows;
   written-rows = written-rows (f.exported .read-blob) (f.exported .write-csv) exported-read-blob exported-write-csv;
   written-read-back = written-read-back (f.exported .write-csv) (f.exported .read-csv) exported-write-csv exported-read-csv;
+  check-panel = check-panels (f.exported .check-panel) exported-check-panel exported-panel-one exported-panel-allows;
+  panel-reads = panel-reads (f.exported .read-blob) (f.exported .check-panel) exported-read-blob exported-check-panel;
   guid-text = guid-texts (f.exported .guid-text) (record {
     met = told (f.exported .guid-text .function) (λ w κs a r e. exported-guid-text-clauses.ensures κs a tt r e w) _ (λ w κs a r e. both-facts (w .𝓤) _ _) (λ w. exported-guid-text-code.met (w .𝓤) (w .H) (w .𝓜) (w .𝓖) (w .𝓡));
     told = λ κs a r e q i. record { answer = f.takenAnswer (q .0 i); out = q .1 i };

@@ -4,16 +4,17 @@
 -- that it may write at exit. `OneResult` says that its contract allows one result only, to the last word. Functions.antt has the names.
 -- A call is one of the function's code: the routine that it is on the logic's machine. That the compiler keeps to it is believed.
 -- Each promise stands once. It holds of the functions of the crates (`crates`) and of those that C and Rust have (`exported`).
-use Prim.Native.Nat.{ℕ, _≤_}
+use Prim.Native.Nat.{ℕ, _≤_, _<_}
 use mathlib.Core.Path.{_≡_}
 use mathlib.Core.Bool.{true, false}
-use mathlib.Core.List.{List, _++_, map}
+use mathlib.Core.List.{List, _++_, map, List·Memᴰ}
 use mathlib.Core.Logic.{_↔_}
 use mathlib.Core.Option.{some}
 use lib.Ieee.{binary32, binary64, ofBits}
-use lib.ListN.{length, take, drop}
+use lib.ListN.{length, take, drop, getD}
 use Rattle.rules.specs.Lists.{_>>=_, concat}
 use Rattle.rules.specs.Bytes.{Bytes}
+use Rattle.rules.specs.Answer.{answer}
 use Rattle.rules.specs.Utf16.{isUtf16}
 use Rattle.rules.specs.Value.{integerValue, entryValue, storedValue, valueAs, widened}
 use Rattle.rules.specs.Rows.{controlWidth, propertyWidth, room, written}
@@ -30,12 +31,17 @@ use Rattle.rules.specs.Pairing.{PairExit, pairExit}
 use Rattle.rules.specs.Csv.{crlf, Fields, allFields, sheetOf, spansFrom, CsvExit, csvExit, FieldsExit, fieldsExit}
 use Rattle.rules.specs.Room.{room2000, roomLater, roomFor, typeInfoRoom}
 use Rattle.rules.specs.Blob.{Exit, is2000, readingOf, exit, exit2000, exitLater, spots}
+use Rattle.rules.specs.Panel.{panelExit}
+use Rattle.rules.specs.Tree.{Entries, Node, nodesOf}
+use Rattle.rules.specs.Access2000.{Prop, streamOf}
+use Rattle.rules.specs.Read2000.{controlOf}
+use Rattle.rules.specs.declared.Answer.{Answer}
 use Rattle.numbers.specs.Int.{intOf}
 use Rattle.numbers.specs.Wide.{wordsOf, bitsOf}
 use Rattle.blob.specs.Exit.{partPlace}
 use Rattle.oskuramos.specs.Handed.{handedPart}
 use Rattle.claims.specs.Answers.{GuidAnswer, LabelAnswer, NameAnswer}
-use Rattle.claims.specs.Demand1.{Blobs, TypeInfos, Texts}
+use Rattle.claims.specs.Demand1.{Refused, Blobs, TypeInfos, Texts}
 use Rattle.claims.specs.Demand2.{Given, Enough, Spelled, Judges}
 use Rattle.claims.specs.Demand3.{Successor, Lent, SameRoom, SameBut, Same}
 use Rattle.claims.specs.Readers.{Answer2000, AnswerLater, Reads, Agree}
@@ -47,10 +53,11 @@ use Rattle.claims.specs.Counts.{Counts, InfoCounts}
 use Rattle.claims.specs.CutNames.{CutNames}
 use Rattle.claims.specs.Pairing.{Pairs}
 use Rattle.claims.specs.Spreadsheet as csv
+use Rattle.claims.specs.Panels.{shownProperties, IsBox, OneText, Verdict, controlsOf, Sourced, Lacks, NoSource}
 use Rattle.claims.specs.Rooms as rooms
 use Rattle.claims.specs.Rewriting.{RewriteAnswer, SameRows, Rewrites}
 use Rattle.claims.specs.ScanNames.{ScanNamed}
-use Rattle.claims.specs.RowChecks.{Checks, SeenItems}
+use Rattle.claims.specs.RowChecks.{controlType, firstRow, propertyCount, Checks, SeenItems}
 use Rattle.claims.specs.Nesting.{Nested, Lists2000, ListsLater}
 use Rattle.claims.specs.Characters.{Formed}
 use Rattle.calls.specs.Always.{Always, OneResult, Fn, Every, Gives, Call, handed, seen}
@@ -396,6 +403,43 @@ pub record Both (s r : List ℕ) (a b : Blob) : Type 0 where
 abbrev pub RewrittenRead : Fn Blob Exit → Type 0
 RewrittenRead reader = (s r : List ℕ) → Rewrites s r → (c d : Call reader) → Both s r (handed c) (handed d) → SameRows s r (seen c) (seen d)
 
+-- ---- check_panel(table, stream, controls, properties): wish 11 (Panels)
+-- the reading that is made in the call
+abbrev pub read-for : Blob → Exit
+read-for a = exit (a .table) (a .stream) (a .controls) (a .properties)
+
+pub record CheckPanel (f : Fn Blob Exit) : Type 2 where
+  pub met : Always (f .function) (f .function .says)
+  pub is-exit : Every f (λ a seen. seen ≡ panelExit (a .table) (a .stream) (a .controls) (a .properties))
+  -- a refused call changes no byte of any buffer
+  pub unchanged : Every f (λ a seen. Refused (seen .answer) → (seen .controls ≡ a .controls) × (seen .properties ≡ a .properties))
+  -- on yes every TextBox or ComboBox has its one source, and that is text (the rows are those of read_blob: `PanelReads`)
+  pub filled : Every f (λ a seen. seen .answer ≡ answer 0 1 0 0 → (i : ℕ) → i < read-for a .answer .first
+      → IsBox (controlType (read-for a) i) → OneText (shownProperties (read-for a) (firstRow (read-for a) i) (propertyCount (read-for a) i)))
+  -- in an Access 2000 stream the code table has its code
+  pub sourced : Every f (λ a seen. seen .answer ≡ answer 0 1 0 0 → (x : List Prop × Entries Prop) → is2000 (a .table) (a .stream) ≡ true → streamOf (a .stream) ≡ some x
+      → (n : Node Prop) → List·Memᴰ n (nodesOf (x .1)) → IsBox (controlOf (a .table) (a .stream) n .type) → Sourced (a .table) (a .stream) n)
+  -- and a table that lacks it answers no with rule 4. Of any two calls that the contract allows, over the same stream and slices
+  pub older-no : (older newer : Call f) → handed older ≡ record { table = handed older .table; stream = handed newer .stream; controls = handed newer .controls; properties = handed newer .properties }
+      → Successor (handed older .table) (handed newer .table) → seen newer .answer ≡ answer 0 1 0 0
+      → (x : List Prop × Entries Prop) → is2000 (handed newer .table) (handed newer .stream) ≡ true → streamOf (handed newer .stream) ≡ some x
+      → (k : ℕ) (n : Node Prop) → k < length (nodesOf (x .1)) → ((d : Node Prop) → getD (nodesOf (x .1)) k d ≡ n)
+      → IsBox (controlOf (handed newer .table) (handed newer .stream) n .type) → (q : Sourced (handed newer .table) (handed newer .stream) n) → Lacks (handed older .table) n (q .stored)
+      → NoSource k (seen older .answer)
+  pub one-result : OneResult (f .function)
+  pub by-words : (c d : Call f) → handed c ≡ handed d → seen c ≡ seen d
+  pub allows : (a : Blob) → (c : Call f) × (handed c ≡ a)
+
+-- of two calls with the same words: what the reader refuses is refused alike, the rows are the reader's, and the verdict is on what these show
+pub record OnReading (stream : List ℕ) (read checked : Exit) : Type 0 where
+  pub refused : Refused (read .answer) → checked ≡ read
+  pub accepted : read .answer .number ≡ 0 → checked .answer .number ≡ 0
+  pub rows : (checked .controls ≡ read .controls) × (checked .properties ≡ read .properties)
+  pub judged : read .answer .number ≡ 0 → (v : Answer) → Verdict stream (controlsOf read (read .answer .first)) v ↔ (v ≡ checked .answer)
+
+abbrev pub PanelReads : Fn Blob Exit → Fn Blob Exit → Type 0
+PanelReads reader f = (c : Call reader) (d : Call f) → handed c ≡ handed d → OnReading (handed d .stream) (seen c) (seen d)
+
 -- ---- the functions that both the crates and the archive have. `Gives f d` says that every call of f gives what d says, and that the contract allows nothing else
 pub record Promised (i : Interface) : Type 2 where
   pub read-blob : ReadBlob (i .read-blob)
@@ -411,6 +455,8 @@ pub record Promised (i : Interface) : Type 2 where
   pub write-csv : WriteCsv (i .write-csv)
   pub written-rows : WrittenRows (i .read-blob) (i .write-csv)
   pub written-read-back : WrittenReadBack (i .write-csv) (i .read-csv)
+  pub check-panel : CheckPanel (i .check-panel)
+  pub panel-reads : PanelReads (i .read-blob) (i .check-panel)
   pub guid-text : GuidText (i .guid-text)
   pub label-text : LabelText (i .label-text)
   pub join : JoinTables (i .join)

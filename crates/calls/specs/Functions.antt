@@ -40,6 +40,7 @@ use Rattle.typeinfo.proofs.read_type_info as read_type_info
 use Rattle.pairing.proofs.pair as pair
 use Rattle.csvread.proofs.read_csv as read_csv
 use Rattle.csvwrite.proofs.write_csv as write_csv
+use Rattle.panel.proofs.check_panel as check_panel
 use Rattle.blob.proofs.read_blob as read_blob
 use Rattle.blob.proofs.read_2000 as «read_2000»
 use Rattle.blob.proofs.read_later as read_later
@@ -49,6 +50,7 @@ use Rattle.room.proofs.room_for as room_for
 use Rattle.room.proofs.room_2000 as «room_2000»
 use Rattle.room.proofs.room_later as room_later
 use Rattle.room.proofs.type_info_room as type_info_room
+use Rattle.oskuramos.proofs.oskuramos_check_panel as oskuramos_check_panel
 use Rattle.oskuramos.proofs.oskuramos_read_blob as oskuramos_read_blob
 use Rattle.oskuramos.proofs.oskuramos_read_2000 as «oskuramos_read_2000»
 use Rattle.oskuramos.proofs.oskuramos_read_later as oskuramos_read_later
@@ -318,6 +320,7 @@ pub record Interface : Type 2 where
   pub pair : Fn Pair PairExit
   pub read-csv : Fn Sheet FieldsExit
   pub write-csv : Fn BlobText CsvExit
+  pub check-panel : Fn Blob Exit
   pub well-formed : Fn (List ℕ) Bool
   pub room : Fn ℕ Room
   pub room-2000 : Fn ℕ Room
@@ -374,6 +377,11 @@ crates = record {
     function = record { ended = write_csv.ended; routine = write_csv.Symbol.routine; says = write_csv.Reads.Learnt };
     handed = λ κs a. blob-text a;
     seen = λ κs r e. csv-exit r e;
+  };
+  check-panel = record {
+    function = record { ended = check_panel.ended; routine = check_panel.Symbol.routine; says = check_panel.Reads.Learnt };
+    handed = λ κs a. blob a;
+    seen = λ κs r e. blob-exit r e;
   };
   well-formed = record {
     function = record { ended = well_formed.ended; routine = well_formed.Symbol.routine; says = well_formed.Reads.Learnt };
@@ -504,6 +512,11 @@ exported = record {
     function = record { ended = oskuramos_write_csv.ended; routine = oskuramos_write_csv.Symbol.routine; says = oskuramos_write_csv.Reads.Learnt };
     handed = λ κs a. blob-text a;
     seen = λ κs r e. csv-exit (takenAnswer r) e;
+  };
+  check-panel = record {
+    function = record { ended = oskuramos_check_panel.ended; routine = oskuramos_check_panel.Symbol.routine; says = oskuramos_check_panel.Reads.Learnt };
+    handed = λ κs a. blob a;
+    seen = λ κs r e. blob-exit (takenAnswer r) e;
   };
   well-formed = record {
     function = record { ended = oskuramos_well_formed.ended; routine = oskuramos_well_formed.Symbol.routine; says = oskuramos_well_formed.Reads.Learnt };

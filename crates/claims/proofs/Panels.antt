@@ -32,6 +32,7 @@ use Rattle.claims.specs.Demand1.{Refused}
 use Rattle.claims.specs.Demand3.{Successor, Lent}
 use Rattle.claims.specs.RowChecks.{controlType, firstRow, propertyCount}
 use Rattle.claims.specs.Panels.{shownProperties, shownControl, shownControls, no-control, control, itsName, IsBox, OneText, Placing, Kept, AllKept, FirstBroken, Verdict, controlsOf, Sourced, Lacks, NoSource, SameRows, Wish11}
+use Rattle.claims.proofs.Demand1.{demand1}
 use Rattle.claims.proofs.Demand3.{demand3}
 use Rattle.claims.proofs.RowsSeen.{Rows, Zero, zero-read}
 use Rattle.claims.proofs.PanelRules.{false-true, told, one-verdict, all-of-yes, fourth}
@@ -479,6 +480,12 @@ by-rows t s cs ps t′ s′ cs′ ps′ e same =
     panel-is t s cs ps e
     ∙ ap verdict (same-shown s s′ (exit t s cs ps) (exit t′ s′ cs′ ps′) same (all-many t s cs ps e))
     ∙ sym (panel-is t′ s′ cs′ ps′ e′)
+
+pub panel-unchanged : (t s cs ps : List ℕ) → Refused (panelExit t s cs ps .answer) → (panelExit t s cs ps .controls ≡ cs) × (panelExit t s cs ps .properties ≡ ps)
+panel-unchanged t s cs ps h =
+    let n : Refused (exit t s cs ps .answer) = λ e. h (panel-0 t s cs ps e) in
+    let e = panel-refused t s cs ps n in
+    (ap (λ x. x .controls) e ∙ demand1 .blobs t s cs ps .controls-stay n, ap (λ x. x .properties) e ∙ demand1 .blobs t s cs ps .properties-stay n)
 
 pub wish11 : Wish11
 wish11 = record {

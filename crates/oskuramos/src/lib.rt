@@ -9,6 +9,7 @@ ghost use Rattle.rules.specs.Names.{namesFor, nameExit};
 ghost use Rattle.rules.specs.Rewrite.{rewriteExit};
 ghost use Rattle.rules.specs.Pairing.{pairExit};
 ghost use Rattle.rules.specs.Csv.{csvExit, fieldsExit};
+ghost use Rattle.rules.specs.Panel.{panelExit};
 ghost use Rattle.rules.specs.Room.{room2000, roomLater, roomFor, typeInfoRoom};
 ghost use Rattle.rules.specs.Texts.{guidExit, labelExit};
 ghost use Rattle.rules.specs.TypeInfo.{typeInfoExit};
@@ -121,6 +122,21 @@ pub extern "C" fn oskuramos_read_later(
     ensures { λ _. ⌜ now (properties .exit) ≡ exitLater layout (now (stream .entry)) (now (controls .entry)) (now (properties .entry)) .properties ⌝ }
 {
     handed_answer(blob::read_later(layout, stream, controls, properties))
+}
+
+// Reads a Blob and judges it by the rules of panels.
+#[no_mangle]
+pub extern "C" fn oskuramos_check_panel(
+    table: &[u8],
+    stream: &[u8],
+    controls: &mut [u32],
+    properties: &mut [u32],
+) -> Answer
+    ensures { λ r. ⌜ r ≡ handedAnswer (panelExit (now (table .entry)) (now (stream .entry)) (now (controls .entry)) (now (properties .entry)) .answer) ⌝ }
+    ensures { λ _. ⌜ now (controls .exit) ≡ panelExit (now (table .entry)) (now (stream .entry)) (now (controls .entry)) (now (properties .entry)) .controls ⌝ }
+    ensures { λ _. ⌜ now (properties .exit) ≡ panelExit (now (table .entry)) (now (stream .entry)) (now (controls .entry)) (now (properties .entry)) .properties ⌝ }
+{
+    handed_answer(panel::check_panel(table, stream, controls, properties))
 }
 
 #[no_mangle]
