@@ -176,6 +176,22 @@ enum {
    Answers 0 with the bytes and the fields, or 14, 13, tried in this order; 13 also for more than 4,294,967,295 bytes or fields. There are never more bytes
    than the text has, and never more fields than its bytes and one: such room is always enough. A field that is empty has a row with length 0. */
 oskuramos_answer oskuramos_read_csv(const uint8_t *text, size_t text_length, uint32_t *fields, size_t fields_length, uint8_t *out, size_t out_length);
+/* The rules of panels, by the numbers that oskuramos_check_panel gives. */
+enum {
+    OSKURAMOS_PANEL_TYPE_NAME = 1, /* every type code has a type name (oskuramos_control_type_name) */
+    OSKURAMOS_PANEL_NAME_MARK = 2, /* names with mark OSKURAMOS_NAME_UTF16 only */
+    OSKURAMOS_PANEL_NEW_NAME = 3,  /* no name equal, byte for byte, to an earlier row's */
+    OSKURAMOS_PANEL_SOURCE = 4,    /* each TextBox or ComboBox has exactly one property 0x001B (ControlSource), and that is text of at least one byte */
+    OSKURAMOS_PANEL_PLACE = 5,     /* every property with the id of Left, Top, Width or Height is Short, and those of Width and Height aren't negative */
+    OSKURAMOS_PANEL_LEVEL = 6      /* level at most 7 */
+};
+
+/* Reads a Blob as oskuramos_read_blob does, into the same rows, and judges what was read by the rules of panels.
+   Answers 0 with 1, 0, 0 where all controls keep all rules; else 0 with 0, the first control row that breaks a rule, and the first rule that it breaks;
+   the rows stay written for yes and for no. Or 5, 8, 4, 6, 7, as oskuramos_read_blob does, which change nothing.
+   So a yes says of an Access 2000 Blob that the code table has the code of every box's source. The time of rule 3 grows with the square of the controls. */
+oskuramos_answer oskuramos_check_panel(const uint8_t *table, size_t table_length, const uint8_t *stream, size_t stream_length,
+                                       uint32_t *controls, size_t controls_length, uint32_t *properties, size_t properties_length);
 
 /* ---- room by the length */
 /* How many rows to lend: rows, not words. A buffer has OSKURAMOS_CONTROL_WORDS or OSKURAMOS_PROPERTY_WORDS words for each of them. */

@@ -57,6 +57,10 @@ extern "C" {
     fn oskuramos_read_csv(
         text: *const u8, text_length: usize, fields: *mut u32, fields_length: usize, out: *mut u8, out_length: usize,
     ) -> Answer;
+    fn oskuramos_check_panel(
+        table: *const u8, table_length: usize, stream: *const u8, stream_length: usize,
+        controls: *mut u32, controls_length: usize, properties: *mut u32, properties_length: usize,
+    ) -> Answer;
     fn oskuramos_well_formed(table: *const u8, table_length: usize) -> bool;
     fn oskuramos_join(
         one: *const u8, one_length: usize, other: *const u8, other_length: usize, out: *mut u8, out_length: usize,
@@ -115,6 +119,10 @@ pub fn pair(stream: &[u8], controls: &mut [u32], control_count: u32, info_stream
 
 pub fn read_csv(text: &[u8], fields: &mut [u32], out: &mut [u8]) -> Answer {
     unsafe { oskuramos_read_csv(text.as_ptr(), text.len(), fields.as_mut_ptr(), fields.len(), out.as_mut_ptr(), out.len()) }
+}
+pub fn check_panel(table: &[u8], stream: &[u8], controls: &mut [u32], properties: &mut [u32]) -> Answer {
+    let (c, p) = ((controls.as_mut_ptr(), controls.len()), (properties.as_mut_ptr(), properties.len()));
+    unsafe { oskuramos_check_panel(table.as_ptr(), table.len(), stream.as_ptr(), stream.len(), c.0, c.1, p.0, p.1) }
 }
 
 pub fn well_formed(table: &[u8]) -> bool {

@@ -57,6 +57,16 @@ pub mod answer {
     pub const TOO_MANY_SCOPES: u32 = 18;
 }
 
+/// Rules of panels.
+pub mod panel {
+    pub const TYPE_NAME: u32 = 1;
+    pub const NAME_MARK: u32 = 2;
+    pub const NEW_NAME: u32 = 3;
+    pub const SOURCE: u32 = 4;
+    pub const PLACE: u32 = 5;
+    pub const LEVEL: u32 = 6;
+}
+
 /// Where a part of a name is: in the stream, or else in the label.
 pub const OF_STREAM: u32 = 0;
 

@@ -10,6 +10,8 @@ pub use crate::format::{
     TABLE_LONGEST, TYPE_INFO_WORDS,
 };
 use crate::refused::{of_blob, of_blob_text, of_paired, of_sheet, of_type_info, of_written, Counts, Refused};
+use crate::panel::Panel;
+use crate::refused::{of_blob, of_paired, of_panel, of_type_info, of_written, Counts, Refused};
 
 /// Type code, name mark, name start, name length, first property row, property count, level, and the parent's row, [`NO_PARENT`] at level 0.
 pub type ControlRow = [u32; CONTROL_WORDS];
@@ -49,6 +51,11 @@ pub fn read_2000(table: &[u8], stream: &[u8], controls: &mut [ControlRow], prope
 /// byte, is refused with [`Refused::OtherLayout`]. No first byte is above 255.
 pub fn read_later(layout: u32, stream: &[u8], controls: &mut [ControlRow], properties: &mut [PropertyRow]) -> Result<Counts, Refused> {
     of_blob(archive::read_later(layout, stream, controls.as_flattened_mut(), properties.as_flattened_mut()))
+}
+
+/// Reads a Blob as [`read_blob`] does, and judges it by the rules of panels. The rows stay written.
+pub fn check_panel(table: &[u8], stream: &[u8], controls: &mut [ControlRow], properties: &mut [PropertyRow]) -> Result<Panel, Refused> {
+    of_panel(archive::check_panel(table, stream, controls.as_flattened_mut(), properties.as_flattened_mut()))
 }
 
 /// Reads TypeInfo, and says how many rows it has. Rows after them keep their words.

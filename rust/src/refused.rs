@@ -2,6 +2,7 @@
 
 use crate::archive;
 use crate::format::{answer, table, GUID_BYTES, GUID_TEXT, LABEL_LONGEST, LONGEST, TABLE_LONGEST, TYPE_INFO_SHORTEST};
+use crate::panel::{of_counts, Panel};
 use std::error::Error;
 use std::fmt::{self, Display, Formatter};
 
@@ -187,6 +188,14 @@ pub(crate) fn of_type_info(a: archive::Answer) -> Result<usize, Refused> {
     match a.number {
         answer::MORE_CONTROLS => Err(Refused::MoreRows(a.first as usize)),
         number => of_others(number, a.first as usize),
+    }
+}
+
+/// What the rules of panels say, or the Blob's refusal.
+pub(crate) fn of_panel(a: archive::Answer) -> Result<Panel, Refused> {
+    match a.number {
+        answer::READ => of_counts(&a),
+        _ => of_blob(a).and(Err(Refused::OtherArchive(answer::READ))),
     }
 }
 

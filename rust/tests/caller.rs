@@ -89,6 +89,24 @@ fn rows_that_fit_no_stream_are_refused() {
 }
 
 #[test]
+fn a_panel_is_judged_by_its_rules() {
+    let stream = example("panel-2000.blob");
+    assert_eq!(Panel::check(ACCESS_2000_CODES, &stream), Ok(Panel::Yes));
+    let mut other = ACCESS_2000_CODES.to_vec(); // ties the codes of ControlSource to another id
+    let sources = other.windows(3).enumerate().filter(|(_, row)| *row == [0x1B, 0, 1]).map(|(at, _)| at).collect::<Vec<_>>();
+    sources.iter().for_each(|&at| other[at] = 0x1C);
+    assert_eq!(Panel::check(&other, &stream), Ok(Panel::No { control: 9, rule: PanelRule::Source }));
+    let numbered = example("form-2000.blob");
+    assert_eq!(Panel::check(ACCESS_2000_CODES, &numbered), Ok(Panel::No { control: 7, rule: PanelRule::NameMark }));
+    assert_eq!(Panel::check(ACCESS_2000_CODES, &numbered[..numbered.len() - 1]), Err(Refused::NoReading));
+    assert_eq!(Panel::check(b"", &stream), Err(Refused::BadTable));
+    assert!(matches!(lent::check_panel(ACCESS_2000_CODES, &stream, &mut [], &mut []), Err(Refused::MoreControls(_))));
+    let rules = [PanelRule::TypeName, PanelRule::NameMark, PanelRule::NewName, PanelRule::Source, PanelRule::Place, PanelRule::Level];
+    assert_eq!(rules.map(PanelRule::number), [1, 2, 3, 4, 5, 6]);
+    assert_eq!(HashSet::from(rules.map(|rule| rule.to_string())).len(), 6);
+}
+
+#[test]
 fn only_text_is_text() {
     let stream = example("form-2000.blob");
     let form = Blob::read(ACCESS_2000_CODES, &stream).unwrap();

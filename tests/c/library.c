@@ -280,6 +280,42 @@ static void pairings(void) {
     check(refused_11(OSKURAMOS_CONTROL_NAME_START, UINT32_MAX, 32, 4, 4), "11 for a start whose sum with the length wraps in 32 bits");
 }
 
+/* ---- the rules of panels: a Detail "D" with a text box that has a name, a source (code 0xE0) and a place (code 0x60, the last two bytes but one).
+   The older table lacks the source's code; the place is tied to Left, in the other table to Width. */
+static const uint8_t panel_older[17] = {0x2A, 0, 1, 0, 2, 0x6D, 0, 2, 0, 0x60, 0x36, 0, 0, 0xDC, 0x14, 0, 1};
+static const uint8_t panel_newer[21] = {0x2A, 0, 1, 0, 2, 0x6D, 0, 3, 0, 0x60, 0x36, 0, 0, 0xDC, 0x14, 0, 1, 0xE0, 0x1B, 0, 1};
+static const uint8_t panel_width[21] = {0x2A, 0, 1, 0, 2, 0x6D, 0, 3, 0, 0x60, 0x96, 0, 0, 0xDC, 0x14, 0, 1, 0xE0, 0x1B, 0, 1};
+static const uint8_t panel[32] = {0x2A, 0,    0, 0,    0, 0, 0,    0, 0,    0, 0xFE, 0x98, 0, 0xDF, 2, 0x44,
+                                  0,    0xFE, 0x6D, 0, 0xDC, 2, 0x41, 0, 0xE0, 2, 0x42, 0, 0x60, 5, 0xFF, 0xFD};
+static const uint32_t panel_rows[16] = {0x98, 0, 15, 2, 0, 1, 0, OSKURAMOS_NO_PARENT, 0x6D, 0, 22, 2, 1, 3, 1, 0};
+
+/* The verdict on a stream, and that the rows stand there for yes and for no. */
+static bool judged(const uint8_t *t, size_t t_length, const uint8_t *s, uint32_t yes, uint32_t row, uint32_t rule) {
+    words c, p;
+    oskuramos_answer a = oskuramos_check_panel(t, t_length, s, sizeof panel, lend_words(&c), ROOM, lend_words(&p), ROOM);
+    return is(a, 0, yes, row, rule) && memcmp(c.word + GUARD, panel_rows, sizeof panel_rows) == 0 && words_kept(&c, 16) && words_kept(&p, 24);
+}
+
+static bool not_judged(size_t t_length, size_t s_length, size_t c_length, size_t p_length, uint32_t number, uint32_t first, uint32_t second) {
+    words c, p;
+    oskuramos_answer a = oskuramos_check_panel(panel_older, t_length, panel, s_length, lend_words(&c), c_length, lend_words(&p), p_length);
+    return is(a, number, first, second, 0) && words_kept(&c, 0) && words_kept(&p, 0);
+}
+
+static void panels(void) {
+    uint8_t twice[sizeof panel];
+    memcpy(twice, panel, sizeof panel);
+    twice[22] = 0x44;
+    check(judged(panel_newer, sizeof panel_newer, panel, 1, 0, 0), "a panel that keeps all rules");
+    check(judged(panel_older, sizeof panel_older, panel, 0, 1, OSKURAMOS_PANEL_SOURCE), "rule 4 where the code table lacks the source's code");
+    check(judged(panel_width, sizeof panel_width, panel, 0, 1, OSKURAMOS_PANEL_PLACE), "rule 5 for a negative Width");
+    check(judged(panel_newer, sizeof panel_newer, twice, 0, 1, OSKURAMOS_PANEL_NEW_NAME), "rule 3 for a second D");
+    check(not_judged(16, sizeof panel, ROOM, ROOM, 8, 0, 0), "8 for a panel's table whose last byte is missing");
+    check(not_judged(17, sizeof panel - 1, ROOM, ROOM, 4, 0, 0), "4 for a panel whose last byte is missing");
+    check(not_judged(17, sizeof panel, 15, ROOM, 6, 2, 4), "6 for a panel's controls that lack a word");
+    check(not_judged(17, sizeof panel, ROOM, 23, 7, 2, 4), "7 for a panel's properties that lack a word");
+}
+
 /* ---- room by the length */
 static bool rows_are(oskuramos_rows r, uint32_t controls, uint32_t properties) { return r.controls == controls && r.properties == properties; }
 
@@ -607,6 +643,7 @@ static void nulls(void) {
     check(oskuramos_read_type_info(NULL, 0, NULL, 0).number == 1, "null for all that read_type_info is lent");
     check(is(oskuramos_pair(NULL, 0, NULL, 0, 0, NULL, 0, NULL, 0, 0), 0, 0, 0, 0), "null for all that pair is lent");
     check(is(oskuramos_read_csv(NULL, 0, NULL, 0, NULL, 0), 14, 0, 0, 0), "null for text, rows and bytes: no record");
+    check(oskuramos_check_panel(NULL, 0, NULL, 0, NULL, 0, NULL, 0).number == 8, "null for all that check_panel is lent");
     check(!oskuramos_well_formed(NULL, 0) && oskuramos_well_formed(table, sizeof table), "null for a code table");
     check(is(oskuramos_join(NULL, 0, NULL, 0, NULL, 0), 8, 0, 0, 0), "null for two tables, and no room");
     check(is(oskuramos_join(table, sizeof table, table, sizeof table, NULL, 0), 9, 0, 0, 0), "null for the joined table");
@@ -630,6 +667,7 @@ int main(void) {
     type_info(large);
     pairings();
     sheets();
+    panels();
     rooms();
     joinings();
     blob_texts(large);

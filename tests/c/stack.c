@@ -49,6 +49,9 @@ static void count_csv(void) { answer = oskuramos_write_csv(table, table_length, 
 static void write_csv(void) {
     answer = oskuramos_write_csv(table, table_length, stream, length, controls, ROWS, properties, ROWS * 8, text, sizeof text);
 }
+static void check_panel(void) {
+    answer = oskuramos_check_panel(table, table_length, stream, length, controls, ROWS, properties, ROWS * 8);
+}
 
 static void read_later(void) { answer = oskuramos_read_later(table[0], stream, length, controls, ROWS, properties, ROWS * 8); }
 
@@ -225,6 +228,8 @@ int main(int argc, char **argv) {
     tree_later(false);
     told(read_blob, "read_blob, later layout, 256 levels");
     expect(0, "a tree of the later layout");
+    told(check_panel, "check_panel, later layout, 256 levels");
+    expect(0, "a tree of the later layout, judged");
     told(read_later, "read_later, 256 levels");
     expect(0, "a tree of the later layout, by its own reader");
     told(write_csv, "write_csv, later layout, 256 levels");
