@@ -58,5 +58,10 @@ bool compare_rewrite(oskuramos_answer (*rewrite)(const uint8_t *, size_t, uint8_
 
 /* Reads so many random comma-separated texts of a seed by the library, and writes those that are read to a file; false where one differs. */
 bool compare_csv(oskuramos_answer (*read_csv)(const uint8_t *, size_t, uint32_t *, size_t, uint8_t *, size_t), size_t count, uint64_t seed, const char *file);
+/* Judges so many random streams of a seed by the library's panel rules; false where one differs. */
+bool compare_panel(compare_read_blob_t *check, size_t count, uint64_t seed);
+
+/* Times the library's panel rules beside its reading. */
+void compare_panel_bench(compare_read_blob_t *read, compare_read_blob_t *check);
 
 #endif

@@ -2,7 +2,7 @@
 
 use crate::cases::Kind;
 use crate::form::{BlobProperty, ControlInfo, ControlProperties};
-use crate::{file::FileError, form, form2000, large, oracle, paired, pairs, rewrites, sheets, speed};
+use crate::{file::FileError, form, form2000, large, oracle, paired, pairs, panels, rewrites, sheets, speed};
 
 /// A stream, as C sees it.
 #[repr(C)]
@@ -136,4 +136,15 @@ pub unsafe extern "C" fn compare_csv(read_csv: sheets::ReadCsv, count: usize, se
         println!("{name}: {why}");
         false
     })
+}
+/// Judges random streams by the library's panel rules; false where one differs.
+#[no_mangle]
+pub extern "C" fn compare_panel(check: large::ReadBlob, count: usize, seed: u64) -> bool {
+    panels::compare(check, count, seed)
+}
+
+/// Times the library's panel rules beside its reading.
+#[no_mangle]
+pub extern "C" fn compare_panel_bench(read: large::ReadBlob, check: large::ReadBlob) {
+    panels::bench(read, check);
 }

@@ -14,6 +14,7 @@ mod long;
 mod oracle;
 mod paired;
 mod pairs;
+mod panels;
 mod plain;
 mod program;
 mod rewrites;

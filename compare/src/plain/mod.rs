@@ -7,6 +7,7 @@ pub mod csv;
 pub mod join;
 pub mod later;
 pub mod pairing;
+pub mod panel;
 pub mod readers;
 pub mod rewrite;
 pub mod room;
