@@ -304,7 +304,7 @@ fn same_codes(one: &[u8], other: &[u8], n: usize) -> bool
     true
 }
 
-fn same_head(one: &[u8], other: &[u8]) -> bool
+pub fn same_head(one: &[u8], other: &[u8]) -> bool
     ensures { λ r. ⌜ r ≡ sameHead (now (one .entry)) (now (other .entry)) ⌝ }
 {
     if layout(one) != layout(other) {
