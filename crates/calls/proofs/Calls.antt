@@ -4,7 +4,7 @@ use native.Mathlib.Omega.{arith}
 use mathlib.Core.Path.{_≡_, refl, sym, ap, ap₂, subst, _∙_}
 use mathlib.Core.Bool.{Bool, true, false, cond, _||_}
 use mathlib.Core.List.{List, [], _++_}
-use mathlib.Core.Logic.{_↔_}
+use mathlib.Core.Logic.{_↔_, _⊎_, inl, inr}
 use mathlib.Core.Option.{Option, none, some}
 use lib.Dec.{ltb}
 use lib.ListN.{length, take, drop}
@@ -579,6 +579,19 @@ without-line s rows out n = go (fieldsOf (s ++ crlf)) refl n
     go none e n = absurd (n (ap (λ o. fieldsBy o rows out .answer .number) e))
     go (some fs) e n = ap (λ o. fieldsBy o rows out) (wish7 .last-optional .without s fs e ∙ sym e)
 
+-- and the other way round, unless it ends so already
+with-line : (s rows out : List ℕ) → ¬ (fieldsExit s rows out .answer .number ≡ 14) → ((u : List ℕ) → ¬ (s ≡ u ++ crlf)) → fieldsExit (s ++ crlf) rows out ≡ fieldsExit s rows out
+unfolding fieldsExit
+with-line s rows out n ends = go (fieldsOf s) refl n
+  where
+    more : (fs : Fields) → fieldsOf s ≡ some fs → (fieldsOf (s ++ crlf) ≡ some fs) ⊎ ((u : List ℕ) × (s ≡ u ++ crlf)) → fieldsBy (fieldsOf (s ++ crlf)) rows out ≡ fieldsBy (fieldsOf s) rows out
+    more fs e (inl q) = ap (λ o. fieldsBy o rows out) (q ∙ sym e)
+    more fs e (inr u) = absurd (ends (u .0) (u .1))
+
+    go : (o : Option Fields) → fieldsOf s ≡ o → ¬ (fieldsBy (fieldsOf s) rows out .answer .number ≡ 14) → fieldsBy (fieldsOf (s ++ crlf)) rows out ≡ fieldsBy (fieldsOf s) rows out
+    go none e n = absurd (n (ap (λ o. fieldsBy o rows out .answer .number) e))
+    go (some fs) e n = more fs e (wish7 .last-optional .and-with s fs e)
+
 read-csvs : (g : Fn f.Sheet FieldsExit) → Proved g fields-of → OneResult (g .function) → ((a : f.Sheet) → (c : Call g) × (handed c ≡ a)) → calls.ReadCsv g
 read-csvs g p one allows = record {
   is-exit = every g fields-of p _ (λ a. refl);
@@ -587,6 +600,11 @@ read-csvs g p one allows = record {
       let a = handed c in
       let longer = call-told g fields-of p d ∙ (λ i. fieldsExit (h .with-line i) (h .same-fields i) (h .same-out i)) in
       call-told g fields-of p c ∙ without-line (a .text) (a .fields) (a .out) (λ e. n (ap (λ (x : FieldsExit). x .answer .number) longer ∙ e)) ∙ sym longer;
+  one-more = λ c d h n ends.
+      let a = handed c in
+      let shorter = call-told g fields-of p c in
+      call-told g fields-of p d ∙ (λ i. fieldsExit (h .with-line i) (h .same-fields i) (h .same-out i))
+      ∙ with-line (a .text) (a .fields) (a .out) (λ e. n (ap (λ (x : FieldsExit). x .answer .number) shorter ∙ e)) ends ∙ sym shorter;
   one-result = one;
   allows = allows;
 }

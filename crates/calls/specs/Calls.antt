@@ -264,6 +264,9 @@ pub record ReadCsv (f : Fn Sheet FieldsExit) : Type 2 where
   pub reads : Every f (λ a seen. csv.Reads (a .text) (a .fields) (a .out) seen)
   -- "the last CR LF optional": unless the longer text isn't of the grammar, both calls give the same
   pub last-optional : (c d : Call f) → OneLineMore (handed c) (handed d) → ¬ (seen d .answer .number ≡ 14) → seen c ≡ seen d
+  -- and so where the shorter one is of the grammar and doesn't end with CR LF already
+  pub one-more : (c d : Call f) → OneLineMore (handed c) (handed d) → ¬ (seen c .answer .number ≡ 14)
+      → ((u : List ℕ) → ¬ (handed c .text ≡ u ++ crlf)) → seen d ≡ seen c
   pub one-result : OneResult (f .function)
   -- the contract allows a call of any words, so that what is said of two calls isn't idle
   pub allows : (a : Sheet) → (c : Call f) × (handed c ≡ a)
