@@ -154,3 +154,66 @@ fn damage(rng: &mut Rng, text: &mut Vec<u8>) {
         }
     }
 }
+
+#[cfg(test)]
+mod tests {
+    use super::*;
+
+    /// What a library lends and gives back: rows, bytes and the answer.
+    struct Lent<'a> {
+        rows: &'a mut [u32],
+        out: &'a mut [u8],
+        answer: Answer,
+    }
+
+    /// A library that reads plainly, but for one slip.
+    macro_rules! library {
+        ($name:ident, $slip:expr) => {
+            unsafe extern "C" fn $name(text: *const u8, size: usize, rows: *mut u32, words: usize, out: *mut u8, bytes: usize) -> CAnswer {
+                let text = std::slice::from_raw_parts(text, size);
+                let (rows, out) = (std::slice::from_raw_parts_mut(rows, words), std::slice::from_raw_parts_mut(out, bytes));
+                let mut lent = Lent { rows, out, answer: Answer::refusal(14) };
+                if let Some(fields) = csv::records(text).map(|records| records.concat()) {
+                    let all = fields.concat();
+                    lent.answer = Answer::refusal(13);
+                    if all.len() <= bytes && fields.len() <= words / 2 {
+                        lent.answer = Answer { number: 0, counts: [all.len() as u32, fields.len() as u32, 0] };
+                        lent.out[..all.len()].copy_from_slice(&all);
+                        let mut start = 0;
+                        for (i, field) in fields.iter().enumerate() {
+                            lent.rows[2 * i..][..2].copy_from_slice(&[start, field.len() as u32]);
+                            start += field.len() as u32;
+                        }
+                    }
+                }
+                let slip: fn(&[u8], &mut Lent) = $slip;
+                slip(text, &mut lent);
+                CAnswer::of(lent.answer)
+            }
+        };
+    }
+
+    library!(right, |_, _| ());
+    library!(takes_lf, |text, lent| if text.ends_with(b"\n") && !text.ends_with(b"\r\n") && lent.answer.number == 14 {
+        lent.answer.number = 13
+    });
+    library!(first_13, |_, lent| if lent.answer.number == 14 && lent.rows.is_empty() {
+        lent.answer.number = 13
+    });
+    library!(writes_on_13, |_, lent| if lent.answer.number == 13 && !lent.out.is_empty() {
+        lent.out[0] ^= 1
+    });
+    library!(writes_beyond, |_, lent| if lent.answer.number == 0 && lent.answer.counts[1] * 2 < lent.rows.len() as u32 {
+        *lent.rows.last_mut().unwrap() = 0
+    });
+    library!(loses_count, |_, lent| lent.answer.counts[1] = 0);
+
+    #[test]
+    fn slips_of_a_library_are_seen() {
+        let agrees = |library: ReadCsv| compare(library, 20_000, 1, &mut io::sink()).unwrap();
+        assert!(agrees(right));
+        for (n, slip) in [takes_lf as ReadCsv, first_13, writes_on_13, writes_beyond, loses_count].into_iter().enumerate() {
+            assert!(!agrees(slip), "slip {n}");
+        }
+    }
+}
