@@ -64,4 +64,8 @@ bool compare_panel(compare_read_blob_t *check, size_t count, uint64_t seed);
 /* Times the library's panel rules beside its reading. */
 void compare_panel_bench(compare_read_blob_t *read, compare_read_blob_t *check);
 
+/* Writes so many random Blobs of a seed as comma-separated text by the library, and what is written to a file; false where one differs. */
+typedef oskuramos_answer compare_write_csv_t(const uint8_t *, size_t, const uint8_t *, size_t, uint32_t *, size_t, uint32_t *, size_t, uint8_t *, size_t);
+bool compare_write_csv(compare_write_csv_t *write_csv, size_t count, uint64_t seed, const char *file);
+
 #endif

@@ -2,7 +2,7 @@
 
 use crate::cases::Kind;
 use crate::form::{BlobProperty, ControlInfo, ControlProperties};
-use crate::{file::FileError, form, form2000, large, oracle, paired, pairs, panels, rewrites, sheets, speed};
+use crate::{blob_texts, file::FileError, form, form2000, large, oracle, paired, pairs, panels, rewrites, sheets, speed};
 
 /// A stream, as C sees it.
 #[repr(C)]
@@ -147,4 +147,26 @@ pub extern "C" fn compare_panel(check: large::ReadBlob, count: usize, seed: u64)
 #[no_mangle]
 pub extern "C" fn compare_panel_bench(read: large::ReadBlob, check: large::ReadBlob) {
     panels::bench(read, check);
+}
+
+/// Writes random Blobs as comma-separated text by the library's function, and what is written to a file; false where one differs.
+///
+/// # Safety
+/// `file` is the file's name, with a zero after it.
+#[no_mangle]
+pub unsafe extern "C" fn compare_write_csv(
+    write_csv: blob_texts::WriteCsv,
+    count: usize,
+    seed: u64,
+    file: *const std::ffi::c_char,
+) -> bool {
+    let name = std::ffi::CStr::from_ptr(file).to_string_lossy().into_owned();
+    let run = || {
+        let mut taken = std::io::BufWriter::new(std::fs::File::create(&name)?);
+        blob_texts::compare(write_csv, count, seed, &mut taken)
+    };
+    run().unwrap_or_else(|why| {
+        println!("{name}: {why}");
+        false
+    })
 }

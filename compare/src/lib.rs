@@ -4,6 +4,7 @@
 include!(concat!(env!("OUT_DIR"), "/jetdb.rs"));
 
 mod batch;
+mod blob_texts;
 pub mod c;
 mod cases;
 mod expect;

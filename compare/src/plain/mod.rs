@@ -2,6 +2,7 @@
 //! Trees are judged with a stack of counts, not by recursion, so that a slip in the levels is not shared either.
 
 pub mod access2000;
+pub mod blob_text;
 pub mod codes;
 pub mod csv;
 pub mod join;
