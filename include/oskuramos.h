@@ -52,6 +52,7 @@ enum {
     OSKURAMOS_BAD_ROWS = 11,        /* rows to pair: more counted than lent, a name mark above 2, or a name outside its stream */
     OSKURAMOS_NO_ROOM_FOR_SHEET = 13, /* what is written or read as comma-separated text doesn't fit the room lent */
     OSKURAMOS_NOT_A_SHEET = 14,     /* text read isn't comma-separated text with five fields in every record */
+    OSKURAMOS_OVER_CEILING = 12,    /* a total would pass 4,294,967,295 */
     OSKURAMOS_OTHER_LAYOUT = 15,    /* a reader for one layout is given a stream that speaks for the other */
     OSKURAMOS_OTHER_HEAD = 16,      /* two code tables differ in layout byte or header codes */
     OSKURAMOS_TWO_ROWS = 17,        /* two code tables have different rows for one scope and id */
@@ -192,6 +193,40 @@ enum {
    So a yes says of an Access 2000 Blob that the code table has the code of every box's source. The time of rule 3 grows with the square of the controls. */
 oskuramos_answer oskuramos_check_panel(const uint8_t *table, size_t table_length, const uint8_t *stream, size_t stream_length,
                                        uint32_t *controls, size_t controls_length, uint32_t *properties, size_t properties_length);
+/* ---- running totals over many streams */
+enum {
+    OSKURAMOS_TOTALS_ANSWERS = 6,
+    OSKURAMOS_TOTALS_TYPES = 31,
+    OSKURAMOS_TOTALS_OTHER_TYPES = 30, /* the place of all types that have no name */
+    OSKURAMOS_TOTALS_MARKS = 9
+};
+
+/* How many Blobs were answered 0, 4, 5, 6, 7 and 8, in this order; and of those answered 0: how many controls have each type name, how many properties are
+   unmapped (an id of OSKURAMOS_UNMAPPED or more, in an Access 2000 stream) and how many aren't, and how many values have each mark. Set all to 0 before the
+   first stream. A type name is counted at one place, whichever of its codes a control has: the place of a name is that of its first code below. */
+typedef struct {
+    uint32_t answers[OSKURAMOS_TOTALS_ANSWERS];
+    uint32_t types[OSKURAMOS_TOTALS_TYPES];
+    uint32_t unmapped;
+    uint32_t mapped;
+    uint32_t marks[OSKURAMOS_TOTALS_MARKS]; /* by mark, 0 to 8 */
+} oskuramos_totals;
+
+/* What the places of `answers` count, and the first code of the name that each place of `types` but the last counts: Label, Rectangle, Line, Image,
+   CommandButton, OptionButton, CheckBox, OptionGroup, BoundObjectFrame, TextBox, ListBox, ComboBox, SubForm, ObjectFrame, PageBreak, CustomControl,
+   ToggleButton, TabControl, Page, Detail, PageHeader, PageFooter, GroupHeader, GroupFooter, FormHeader, FormFooter, ReportHeader, ReportFooter, SubReport,
+   EmptyCell. oskuramos_control_type_name writes the name of a code. */
+#define OSKURAMOS_TOTALS_ANSWER_NUMBERS {0, 4, 5, 6, 7, 8}
+#define OSKURAMOS_TOTALS_TYPE_CODES                                                                                                          \
+    {0x0064, 0x0065, 0x0066, 0x0067, 0x0068, 0x0069, 0x006A, 0x006B, 0x006C, 0x006D, 0x006E, 0x006F, 0x0070, 0x0072, 0x0076,                   \
+     0x0077, 0x007A, 0x007B, 0x007C, 0x0098, 0x009B, 0x009C, 0x009D, 0x009E, 0x1899, 0x189A, 0x1999, 0x199A, 0x1B70, 0x247F}
+
+/* Counts a Blob into a record. No rows are written: the room is two numbers of rows, and the answer with its counts is the one that oskuramos_read_blob
+   gives where so many rows are lent. Whatever that answer is, the record counts it. With UINT32_MAX for both numbers no stream is answered 6 or 7.
+   12, with counts 0, in the place of the reading's answer where any number of the record would pass 4,294,967,295; then the record stays as it is.
+   The record is lent as the other buffers are: it overlaps nothing else that is lent, and isn't null. */
+oskuramos_answer oskuramos_count_blob(oskuramos_totals *totals, const uint8_t *table, size_t table_length, const uint8_t *stream,
+                                      size_t stream_length, uint32_t control_room, uint32_t property_room);
 
 /* ---- room by the length */
 /* How many rows to lend: rows, not words. A buffer has OSKURAMOS_CONTROL_WORDS or OSKURAMOS_PROPERTY_WORDS words for each of them. */

@@ -3,6 +3,7 @@
 use crate::cases::Kind;
 use crate::form::{BlobProperty, ControlInfo, ControlProperties};
 use crate::{blob_texts, file::FileError, form, form2000, large, oracle, paired, pairs, panels, rewrites, sheets, speed};
+use crate::{file::FileError, form, form2000, large, oracle, paired, pairs, rewrites, speed, totals};
 
 /// A stream, as C sees it.
 #[repr(C)]
@@ -169,4 +170,9 @@ pub unsafe extern "C" fn compare_write_csv(
         println!("{name}: {why}");
         false
     })
+}
+/// Counts random streams by the library's function into records of totals; false where one differs.
+#[no_mangle]
+pub extern "C" fn compare_totals(count: totals::Count, n: usize, seed: u64) -> bool {
+    totals::compare(count, n, seed)
 }

@@ -26,6 +26,7 @@ mod speed;
 mod stubs;
 #[cfg(test)]
 mod tests;
+mod totals;
 
 use cases::rng::Rng;
 use cases::{fixed, join, leaves, readers, Case};

@@ -35,6 +35,17 @@ pub struct Rows {
     pub properties: u32,
 }
 
+/// Running totals: by answer number, by type name, unmapped and mapped properties, by mark.
+#[repr(C)]
+#[derive(Debug, Clone, Copy, PartialEq, Eq, Hash, Default)]
+pub struct Totals {
+    pub answers: [u32; 6],
+    pub types: [u32; 31],
+    pub unmapped: u32,
+    pub mapped: u32,
+    pub marks: [u32; 9],
+}
+
 #[rustfmt::skip]
 extern "C" {
     fn oskuramos_read_blob(
@@ -60,6 +71,10 @@ extern "C" {
     fn oskuramos_check_panel(
         table: *const u8, table_length: usize, stream: *const u8, stream_length: usize,
         controls: *mut u32, controls_length: usize, properties: *mut u32, properties_length: usize,
+    ) -> Answer;
+    fn oskuramos_count_blob(
+        totals: *mut Totals, table: *const u8, table_length: usize, stream: *const u8, stream_length: usize,
+        control_room: u32, property_room: u32,
     ) -> Answer;
     fn oskuramos_well_formed(table: *const u8, table_length: usize) -> bool;
     fn oskuramos_join(
@@ -123,6 +138,10 @@ pub fn read_csv(text: &[u8], fields: &mut [u32], out: &mut [u8]) -> Answer {
 pub fn check_panel(table: &[u8], stream: &[u8], controls: &mut [u32], properties: &mut [u32]) -> Answer {
     let (c, p) = ((controls.as_mut_ptr(), controls.len()), (properties.as_mut_ptr(), properties.len()));
     unsafe { oskuramos_check_panel(table.as_ptr(), table.len(), stream.as_ptr(), stream.len(), c.0, c.1, p.0, p.1) }
+}
+pub fn count_blob(totals: &mut Totals, table: &[u8], stream: &[u8], control_room: u32, property_room: u32) -> Answer {
+    let (t, s) = ((table.as_ptr(), table.len()), (stream.as_ptr(), stream.len()));
+    unsafe { oskuramos_count_blob(totals, t.0, t.1, s.0, s.1, control_room, property_room) }
 }
 
 pub fn well_formed(table: &[u8]) -> bool {

@@ -34,6 +34,14 @@ pub const FIELD_WORDS: usize = 2;
 
 /// Fields of a record of comma-separated text.
 pub const RECORD_FIELDS: usize = 5;
+/// Running totals: what the places of the answers count, and the first code of the name that each place of the types but the last counts.
+pub mod totals {
+    pub const ANSWER_NUMBERS: [u32; 6] = [0, 4, 5, 6, 7, 8];
+    pub const TYPE_CODES: [u16; 30] = [
+        0x0064, 0x0065, 0x0066, 0x0067, 0x0068, 0x0069, 0x006A, 0x006B, 0x006C, 0x006D, 0x006E, 0x006F, 0x0070, 0x0072, 0x0076, //
+        0x0077, 0x007A, 0x007B, 0x007C, 0x0098, 0x009B, 0x009C, 0x009D, 0x009E, 0x1899, 0x189A, 0x1999, 0x199A, 0x1B70, 0x247F,
+    ];
+}
 
 /// Answer numbers.
 pub mod answer {
@@ -51,6 +59,7 @@ pub mod answer {
     pub const BAD_ROWS: u32 = 11;
     pub const NO_ROOM_FOR_SHEET: u32 = 13;
     pub const NOT_A_SHEET: u32 = 14;
+    pub const OVER_CEILING: u32 = 12;
     pub const OTHER_LAYOUT: u32 = 15;
     pub const OTHER_HEAD: u32 = 16;
     pub const TWO_ROWS: u32 = 17;

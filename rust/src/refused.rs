@@ -58,6 +58,8 @@ pub enum Refused {
     NoRoomForSheet,
     /// 14: text isn't comma-separated text with five fields in every record.
     NotASheet,
+    /// 12: a total would pass 4,294,967,295; the totals stay as they were.
+    OverCeiling,
     /// 15: the stream's first byte speaks for the other layout than the one that was asked for.
     OtherLayout,
     /// 16: two code tables differ in layout byte or header codes.
@@ -87,6 +89,7 @@ impl Refused {
             Refused::BadRows => answer::BAD_ROWS,
             Refused::NoRoomForSheet => answer::NO_ROOM_FOR_SHEET,
             Refused::NotASheet => answer::NOT_A_SHEET,
+            Refused::OverCeiling => answer::OVER_CEILING,
             Refused::OtherLayout => answer::OTHER_LAYOUT,
             Refused::OtherHead => answer::OTHER_HEAD,
             Refused::TwoRows => answer::TWO_ROWS,
@@ -144,6 +147,7 @@ impl Display for Refused {
                      inside a field, or lines that end without CR LF"
                 )
             }
+            Refused::OverCeiling => write!(f, "a total would pass {}: begin new totals with this stream", u32::MAX),
             Refused::OtherLayout => {
                 write!(
                     f,
@@ -228,6 +232,7 @@ fn of_others<T>(number: u32, read: T) -> Result<T, Refused> {
         answer::BAD_ROWS => Refused::BadRows,
         answer::NO_ROOM_FOR_SHEET => Refused::NoRoomForSheet,
         answer::NOT_A_SHEET => Refused::NotASheet,
+        answer::OVER_CEILING => Refused::OverCeiling,
         answer::OTHER_LAYOUT => Refused::OtherLayout,
         answer::OTHER_HEAD => Refused::OtherHead,
         answer::TWO_ROWS => Refused::TwoRows,

@@ -63,6 +63,7 @@ fn numbers_are_the_headers() {
         ("BAD_ROWS", Refused::BadRows),
         ("NO_ROOM_FOR_SHEET", Refused::NoRoomForSheet),
         ("NOT_A_SHEET", Refused::NotASheet),
+        ("OVER_CEILING", Refused::OverCeiling),
         ("OTHER_LAYOUT", Refused::OtherLayout),
         ("OTHER_HEAD", Refused::OtherHead),
         ("TWO_ROWS", Refused::TwoRows),

@@ -315,6 +315,53 @@ static void panels(void) {
     check(not_judged(17, sizeof panel, 15, ROOM, 6, 2, 4), "6 for a panel's controls that lack a word");
     check(not_judged(17, sizeof panel, ROOM, 23, 7, 2, 4), "7 for a panel's properties that lack a word");
 }
+/* ---- running totals: a record between guards, all of whose words are looked at */
+typedef struct {
+    uint32_t before[GUARD];
+    oskuramos_totals totals;
+    uint32_t after[GUARD];
+} guarded_totals;
+
+static guarded_totals counted;
+
+static bool counts(const uint8_t *t, size_t t_length, const uint8_t *s, size_t s_length, uint32_t c, uint32_t p, oskuramos_totals must, const uint32_t answer[4]) {
+    oskuramos_answer a = oskuramos_count_blob(&counted.totals, t, t_length, s, s_length, c, p);
+    for (size_t i = 0; i < GUARD; i++)
+        if (counted.before[i] != 0 || counted.after[i] != 0) return false;
+    return is(a, answer[0], answer[1], answer[2], answer[3]) && memcmp(&counted.totals, &must, sizeof must) == 0;
+}
+
+static void totals(const uint8_t *large) {
+    const uint32_t read[4] = {0, 2, 3, 1}, six[4] = {6, 2, 3, 1}, seven[4] = {7, 2, 3, 1}, four[4] = {4, 0, 0, 0}, five[4] = {5, 0, 0, 0},
+                   eight[4] = {8, 0, 0, 0}, twelve[4] = {12, 0, 0, 0};
+    const uint16_t codes[] = OSKURAMOS_TOTALS_TYPE_CODES;
+    const uint32_t numbers[] = OSKURAMOS_TOTALS_ANSWER_NUMBERS;
+    oskuramos_totals must;
+    memset(&must, 0, sizeof must);
+    must.answers[0] = 1, must.types[0] = 1, must.types[19] = 1, must.unmapped = 1, must.mapped = 2, must.marks[2] = 2, must.marks[6] = 1;
+    check(counts(table, sizeof table, blob, sizeof blob, 2, 3, must, read), "K1 counted: a Label and a Detail, one of three properties unmapped");
+    must.answers[3]++;
+    check(counts(table, sizeof table, blob, sizeof blob, 1, 3, must, six), "6 in room for one control: the answer alone is counted");
+    must.answers[4]++;
+    check(counts(table, sizeof table, blob, sizeof blob, 2, 2, must, seven), "7 in room for two properties");
+    must.answers[1]++;
+    check(counts(table, sizeof table, blob, 25, 2, 3, must, four), "4 for a stream that was cut");
+    must.answers[5]++;
+    check(counts(NULL, 0, blob, sizeof blob, 2, 3, must, eight), "8 without a code table");
+    must.answers[2]++;
+    check(counts(NULL, 0, large, OSKURAMOS_LONGEST + 1, 2, 3, must, five), "5 for a stream that is too long, before 8");
+    counted.totals.marks[2] = must.marks[2] = UINT32_MAX - 1;
+    check(counts(table, sizeof table, blob, sizeof blob, 2, 3, must, twelve), "12 where a total would pass the ceiling: nothing is counted");
+    counted.totals.marks[2] = must.marks[2] = UINT32_MAX - 2;
+    must.answers[0]++, must.types[0]++, must.types[19]++, must.unmapped++, must.mapped += 2, must.marks[2] += 2, must.marks[6]++;
+    check(counts(table, sizeof table, blob, sizeof blob, UINT32_MAX, UINT32_MAX, must, read), "and up to the ceiling it is counted");
+    counted.totals.answers[1] = must.answers[1] = UINT32_MAX;
+    check(counts(table, sizeof table, blob, 25, 2, 3, must, twelve), "12 for a stream that is refused, too");
+    uint8_t name[OSKURAMOS_NAME_ROOM];
+    bool named = numbers[5] == 8;
+    for (size_t i = 0; i < OSKURAMOS_TOTALS_OTHER_TYPES; i++) named = named && oskuramos_control_type_name(codes[i], name, sizeof name).first > 0;
+    check(named && sizeof codes == 2 * OSKURAMOS_TOTALS_OTHER_TYPES, "each place of the types but the last has a name");
+}
 
 /* ---- room by the length */
 static bool rows_are(oskuramos_rows r, uint32_t controls, uint32_t properties) { return r.controls == controls && r.properties == properties; }
@@ -668,6 +715,7 @@ int main(void) {
     pairings();
     sheets();
     panels();
+    totals(large);
     rooms();
     joinings();
     blob_texts(large);

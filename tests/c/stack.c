@@ -70,6 +70,10 @@ static void pair(void) {
     answer = oskuramos_pair(stream, length, properties, 16, 2, stream, length, controls, ROWS, 200);
 }
 
+static oskuramos_totals totals;
+
+static void count_blob(void) { answer = oskuramos_count_blob(&totals, table, table_length, stream, length, UINT32_MAX, UINT32_MAX); }
+
 static void well_formed(void) { answer.number = !oskuramos_well_formed(table, table_length); }
 
 /* The longest table of its halves. */
@@ -199,7 +203,7 @@ static void expect(uint32_t number, const char *what) {
 }
 
 static void deepest_2000(void) {
-    size_t largest = 0, largest_alone = 0;
+    size_t largest = 0, largest_alone = 0, largest_counted = 0;
     for (unsigned type = 0x60; type < 0xA0; type++)
         for (unsigned form = 0; form < 4; form++) {
             tree_2000(type, form & 1 ? 0x97 : 0, form & 2);
@@ -209,6 +213,9 @@ static void deepest_2000(void) {
             bytes = told(read_2000, NULL);
             expect(0, "a tree of Access 2000, by its own reader");
             if (bytes > largest_alone) largest_alone = bytes;
+            bytes = told(count_blob, NULL);
+            expect(0, "a tree of Access 2000, counted");
+            if (bytes > largest_counted) largest_counted = bytes;
         }
     told(count_csv, "write_csv without room, Access 2000, 256 levels");
     expect(13, "text without room");
@@ -216,6 +223,7 @@ static void deepest_2000(void) {
     expect(0, "text of a tree of Access 2000");
     printf("%6zu read_blob, Access 2000, 256 levels\n", largest);
     printf("%6zu read_2000, 256 levels\n", largest_alone);
+    printf("%6zu count_blob, Access 2000, 256 levels\n", largest_counted);
 }
 
 int main(int argc, char **argv) {
@@ -230,6 +238,8 @@ int main(int argc, char **argv) {
     expect(0, "a tree of the later layout");
     told(check_panel, "check_panel, later layout, 256 levels");
     expect(0, "a tree of the later layout, judged");
+    told(count_blob, "count_blob, later layout, 256 levels");
+    expect(0, "a tree of the later layout, counted");
     told(read_later, "read_later, 256 levels");
     expect(0, "a tree of the later layout, by its own reader");
     told(write_csv, "write_csv, later layout, 256 levels");

@@ -12,6 +12,7 @@ pub mod panel;
 pub mod readers;
 pub mod rewrite;
 pub mod room;
+pub mod totals;
 pub mod typeinfo;
 pub mod value;
 
