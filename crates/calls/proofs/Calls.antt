@@ -28,6 +28,9 @@ use Rattle.rules.specs.Pairing.{PairExit, pairExit}
 use Rattle.rules.specs.Csv.{crlf, allFields, sheetOf, countable, spansFrom, CsvExit, csvExit, Fields, FieldsExit, fieldsOf, fieldsBy, fieldsExit}
 use Rattle.rules.specs.Panel.{panelExit}
 use Rattle.rules.specs.NamePart.{partBytes}
+use Rattle.rules.specs.Totals.{Total}
+use Rattle.rules.specs.declared.Totals.{Totals}
+use Rattle.rules.specs.declared.Totalled.{Totalled}
 use Rattle.blob.specs.Exit.{partPlace}
 use Rattle.oskuramos.specs.Handed.{handedAnswer}
 use Rattle.claims.specs.Demand2.{Given, Spelled, Judges}
@@ -124,6 +127,7 @@ use Rattle.oskuramos.proofs.oskuramos_guid_text.Reads as exported-guid-text-cla
 use Rattle.oskuramos.proofs.oskuramos_label_text.Reads as exported-label-text-clauses
 use Rattle.oskuramos.proofs.oskuramos_join.Reads as exported-join-clauses
 use Rattle.oskuramos.proofs.oskuramos_rewrite.Reads as exported-rewrite-clauses
+use Rattle.oskuramos.proofs.oskuramos_count_blob.Met as exported-count-blob-code
 use Rattle.calls.specs.Functions as f
 use Rattle.calls.specs.Functions.{Blob, Later}
 use Rattle.calls.specs.Calls as calls
@@ -135,6 +139,9 @@ use Rattle.claims.proofs.Demand3.{demand3}
 use Rattle.claims.proofs.Readers.{wish8}
 use Rattle.claims.proofs.Joining.{wish9, wish12}
 use Rattle.calls.proofs.JoiningCalls.{join-of, plans-carried}
+use Rattle.calls.specs.CountCalls.{streamOf, CountBlob}
+use Rattle.calls.proofs.CountCalls as counting
+use Rattle.calls.proofs.CountCalls.{count-of}
 use Rattle.claims.proofs.LaterTree.{later-tree}
 use Rattle.claims.proofs.Counts.{counts-hold}
 use Rattle.claims.proofs.CutNames.{wish6}
@@ -147,6 +154,8 @@ use Rattle.claims.proofs.Characters.{wish5}
 use Rattle.claims.proofs.Rooms.{rooms}
 use Rattle.claims.proofs.Rewriting.{wish13}
 use Rattle.claims.proofs.ScanNames.{wish10}
+use Rattle.claims.proofs.Depot.{wish4}
+use Rattle.totals.proofs.count_blob.Met as count-blob-code
 
 -- ---- a function whose contract is an equation with a definition
 record Proved {A B : Type 0} (f : Fn A B) (definition : A → B) : Type 2 where
@@ -757,6 +766,41 @@ crates-panel-one κs a r r′ x y p q = (ap (λ e. e .answer) (p ∙ sym q), λ 
 exported-panel-one : OneResult (f.exported .check-panel .function)
 exported-panel-one κs a r r′ x y p q = (p .0 ∙ sym (q .0), λ i. (tt, (tt, ((p .1 .0 ∙ sym (q .1 .0)) i, ((p .1 .1 ∙ sym (q .1 .1)) i, tt)))))
 
+-- ---- count_blob
+count-blobs : (g : Fn f.Count Totalled) → Proved g count-of → OneResult (g .function) → ((a : f.Count) → (c : Call g) × (handed c ≡ a)) → CountBlob g
+count-blobs g p one allows = record {
+  met = p .met;
+  is-exit = every g count-of p _ (λ a. refl);
+  exactly = every g count-of p _ (λ a. wish4 .exactly (a .totals) (streamOf a));
+  unchanged = every g count-of p _ (λ a. wish4 .unchanged (a .totals) (streamOf a));
+  counted = every g count-of p _ (λ a n. wish4 .otherwise (a .totals) (streamOf a) n .totals);
+  sums = counting.sums g (call-told g count-of p);
+  any-order = counting.any-order g (call-told g count-of p);
+  one-result = one;
+  allows = allows;
+}
+
+abbrev count-args : f.Count → RefT Totals × (RefT (List ℕ) × (RefT (List ℕ) × (ℕ × (ℕ × Unit {0}))))
+count-args a = (record { ptr = (0, 0); name = 0; now = a .totals }, (somewhere (a .table), (somewhere (a .stream), (a .control-room, (a .property-room, tt)))))
+
+crates-count-blob : Proved (f.crates .count-blob) count-of
+crates-count-blob = record {
+  met = λ w. count-blob-code.met (w .𝓤) (w .H) (w .𝓜) (w .𝓖) (w .𝓡);
+  told = λ κs a r e q i. record { answer = q .0 i; totals = q .1 i };
+}
+
+exported-count-blob : Proved (f.exported .count-blob) count-of
+exported-count-blob = record {
+  met = λ w. exported-count-blob-code.met (w .𝓤) (w .H) (w .𝓜) (w .𝓖) (w .𝓡);
+  told = λ κs a r e q i. record { answer = f.takenAnswer (q .0 i); totals = q .1 i };
+}
+
+crates-count-allows : (a : f.Count) → (c : Call (f.crates .count-blob)) × (handed c ≡ a)
+crates-count-allows a = (record { κs = ([], ([], ([], tt))); args = count-args a; result = count-of a .answer; left = (count-of a .totals, (tt, (tt, (tt, (tt, tt))))); allowed = (refl, refl) }, refl)
+
+exported-count-allows : (a : f.Count) → (c : Call (f.exported .count-blob)) × (handed c ≡ a)
+exported-count-allows a = (record { κs = ([], ([], ([], tt))); args = count-args a; result = handedAnswer (count-of a .answer); left = (count-of a .totals, (tt, (tt, (tt, (tt, tt))))); allowed = (refl, refl) }, refl)
+
 -- ---- as the crates have them
 of-crates : calls.Promised f.crates
 of-crates = record {
@@ -778,6 +822,8 @@ of-crates = record {
   written-read-back = written-read-back (f.crates .write-csv) (f.crates .read-csv) crates-write-csv crates-read-csv;
   check-panel = check-panels (f.crates .check-panel) crates-check-panel crates-panel-one crates-panel-allows;
   panel-reads = panel-reads (f.crates .read-blob) (f.crates .check-panel) crates-read-blob crates-check-panel;
+  count-blob = count-blobs (f.crates .count-blob) crates-count-blob (λ κs a r r′ x y p q. (p .0 ∙ sym (q .0), λ i. ((p .1 ∙ sym (q .1)) i, (tt, (tt, (tt, (tt, tt))))))) crates-count-allows;
+  counts-agree = counting.agree (f.crates .count-blob) (call-told (f.crates .count-blob) count-of crates-count-blob) (f.crates .read-blob) (call-told (f.crates .read-blob) exit-of crates-read-blob);
   guid-text = guid-texts (f.crates .guid-text) (record {
     met = told (f.crates .guid-text .function) (λ w κs a r e. guid-text-clauses.ensures κs a tt r e w) _ (λ w κs a r e. both-facts (w .𝓤) _ _) (λ w. guid-text-code.met (w .𝓤) (w .H) (w .𝓜) (w .𝓖) (w .𝓡));
     told = λ κs a r e q i. record { answer = q .0 i; out = q .1 i };
@@ -848,6 +894,8 @@ of-exported = record {
   written-read-back = written-read-back (f.exported .write-csv) (f.exported .read-csv) exported-write-csv exported-read-csv;
   check-panel = check-panels (f.exported .check-panel) exported-check-panel exported-panel-one exported-panel-allows;
   panel-reads = panel-reads (f.exported .read-blob) (f.exported .check-panel) exported-read-blob exported-check-panel;
+  count-blob = count-blobs (f.exported .count-blob) exported-count-blob (λ κs a r r′ x y p q. (p .0 ∙ sym (q .0), λ i. ((p .1 ∙ sym (q .1)) i, (tt, (tt, (tt, (tt, tt))))))) exported-count-allows;
+  counts-agree = counting.agree (f.exported .count-blob) (call-told (f.exported .count-blob) count-of exported-count-blob) (f.exported .read-blob) (call-told (f.exported .read-blob) exit-of exported-read-blob);
   guid-text = guid-texts (f.exported .guid-text) (record {
     met = told (f.exported .guid-text .function) (λ w κs a r e. exported-guid-text-clauses.ensures κs a tt r e w) _ (λ w κs a r e. both-facts (w .𝓤) _ _) (λ w. exported-guid-text-code.met (w .𝓤) (w .H) (w .𝓜) (w .𝓖) (w .𝓡));
     told = λ κs a r e q i. record { answer = f.takenAnswer (q .0 i); out = q .1 i };

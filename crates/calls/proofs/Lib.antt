@@ -3,4 +3,5 @@ pub mod Promises
 pub mod Always
 pub mod LentBytes
 pub mod JoiningCalls
+pub mod CountCalls
 pub mod Calls

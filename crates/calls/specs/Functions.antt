@@ -5,6 +5,7 @@
 use Prim.Native.Nat.{ℕ}
 use mathlib.Core.Bool.{Bool}
 use mathlib.Core.List.{List}
+use mathlib.Core.Path.{_≡_}
 use denote.Ref.{RefT, now}
 use Rattle.rules.specs.declared.Answer.{Answer}
 use Rattle.rules.specs.declared.Value.{Value}
@@ -14,9 +15,13 @@ use Rattle.rules.specs.TypeInfo.{TypeInfoExit}
 use Rattle.rules.specs.Blob.{Exit}
 use Rattle.rules.specs.Pairing.{PairExit}
 use Rattle.rules.specs.Csv.{CsvExit, FieldsExit}
+use Rattle.rules.specs.Totals.{totalsExit}
+use Rattle.rules.specs.declared.Totals.{Totals}
+use Rattle.rules.specs.declared.Totalled.{Totalled}
 use Rattle.numbers.specs.declared.Int.{Int}
 use Rattle.numbers.specs.declared.Wide.{Wide}
 use Rattle.blob.specs.Exit.{Place}
+use Rattle.oskuramos.specs.Handed.{handedAnswer}
 use Rattle.oskuramos.specs.declared.Answer as c-answer
 use Rattle.oskuramos.specs.declared.Value as c-value
 use Rattle.oskuramos.specs.declared.Room as c-room
@@ -46,6 +51,7 @@ use Rattle.blob.proofs.read_2000 as «read_2000»
 use Rattle.blob.proofs.read_later as read_later
 use Rattle.blob.proofs.control_name as control_name
 use Rattle.rewrite.proofs.rewrite as rewrite
+use Rattle.totals.proofs.count_blob as count_blob
 use Rattle.room.proofs.room_for as room_for
 use Rattle.room.proofs.room_2000 as «room_2000»
 use Rattle.room.proofs.room_later as room_later
@@ -61,6 +67,7 @@ use Rattle.oskuramos.proofs.oskuramos_write_csv as oskuramos_write_csv
 use Rattle.oskuramos.proofs.oskuramos_well_formed as oskuramos_well_formed
 use Rattle.oskuramos.proofs.oskuramos_join as oskuramos_join
 use Rattle.oskuramos.proofs.oskuramos_rewrite as oskuramos_rewrite
+use Rattle.oskuramos.proofs.oskuramos_count_blob as oskuramos_count_blob
 use Rattle.oskuramos.proofs.oskuramos_room as oskuramos_room
 use Rattle.oskuramos.proofs.oskuramos_room_2000 as «oskuramos_room_2000»
 use Rattle.oskuramos.proofs.oskuramos_room_later as oskuramos_room_later
@@ -158,6 +165,21 @@ blob-text a = record {
   properties = now (a .1 .1 .1 .0);
   out = now (a .1 .1 .1 .1 .0);
 }
+
+-- (totals, table, stream, control_room, property_room)
+pub record Count : Type 0 where
+  pub totals : Totals
+  pub table : List ℕ
+  pub stream : List ℕ
+  pub control-room : ℕ
+  pub property-room : ℕ
+
+abbrev counting : RefT Totals × (Slice × (Slice × (ℕ × (ℕ × End)))) → Count
+counting a = record { totals = now (a .0); table = now (a .1 .0); stream = now (a .1 .1 .0); control-room = a .1 .1 .1 .0; property-room = a .1 .1 .1 .1 .0 }
+
+-- the contract of a function that is lent a struct isn't handed out by name, so it is written down once more; the proof that the code meets it is of this one
+abbrev pub counted-by : Count → Totalled
+counted-by a = totalsExit (a .totals) (a .table) (a .stream) (a .control-room) (a .property-room)
 
 -- (guid, out)
 pub record Guid : Type 0 where
@@ -283,6 +305,9 @@ fields-exit r e = record { answer = r; rows = sheet e .fields; out = sheet e .ou
 abbrev csv-exit : Answer → Slice × (Slice × (Slice × (Slice × (Slice × End)))) → CsvExit
 csv-exit r e = record { answer = r; controls = blob-text e .controls; properties = blob-text e .properties; out = blob-text e .out }
 
+abbrev count-exit : Answer → RefT Totals × (Slice × (Slice × (ℕ × (ℕ × End)))) → Totalled
+count-exit r e = record { answer = r; totals = counting e .totals }
+
 abbrev guid-exit : Answer → Slice × (Slice × End) → TextExit
 guid-exit r e = record { answer = r; out = guid e .out }
 
@@ -321,6 +346,7 @@ pub record Interface : Type 2 where
   pub read-csv : Fn Sheet FieldsExit
   pub write-csv : Fn BlobText CsvExit
   pub check-panel : Fn Blob Exit
+  pub count-blob : Fn Count Totalled
   pub well-formed : Fn (List ℕ) Bool
   pub room : Fn ℕ Room
   pub room-2000 : Fn ℕ Room
@@ -382,6 +408,11 @@ crates = record {
     function = record { ended = check_panel.ended; routine = check_panel.Symbol.routine; says = check_panel.Reads.Learnt };
     handed = λ κs a. blob a;
     seen = λ κs r e. blob-exit r e;
+  };
+  count-blob = record {
+    function = record { ended = count_blob.ended; routine = count_blob.Symbol.routine; says = λ κs a r e. (r ≡ counted-by (counting a) .answer) × (now (e .0) ≡ counted-by (counting a) .totals) };
+    handed = λ κs a. counting a;
+    seen = λ κs r e. count-exit r e;
   };
   well-formed = record {
     function = record { ended = well_formed.ended; routine = well_formed.Symbol.routine; says = well_formed.Reads.Learnt };
@@ -517,6 +548,11 @@ exported = record {
     function = record { ended = oskuramos_check_panel.ended; routine = oskuramos_check_panel.Symbol.routine; says = oskuramos_check_panel.Reads.Learnt };
     handed = λ κs a. blob a;
     seen = λ κs r e. blob-exit (takenAnswer r) e;
+  };
+  count-blob = record {
+    function = record { ended = oskuramos_count_blob.ended; routine = oskuramos_count_blob.Symbol.routine; says = λ κs a r e. (r ≡ handedAnswer (counted-by (counting a) .answer)) × (now (e .0) ≡ counted-by (counting a) .totals) };
+    handed = λ κs a. counting a;
+    seen = λ κs r e. count-exit (takenAnswer r) e;
   };
   well-formed = record {
     function = record { ended = oskuramos_well_formed.ended; routine = oskuramos_well_formed.Symbol.routine; says = oskuramos_well_formed.Reads.Learnt };
