@@ -717,9 +717,15 @@ module _ (f : Fn Blob Exit) (p : Proved f panel-of) (one : OneResult (f .functio
     unchanged = every f panel-of p _ (λ a. panel-unchanged (a .table) (a .stream) (a .controls) (a .properties));
     filled = every f panel-of p _ (λ a. wish11 .filled (a .table) (a .stream) (a .controls) (a .properties));
     sourced = every f panel-of p _ (λ a. wish11 .sourced (a .table) (a .stream) (a .controls) (a .properties));
-    older-no = λ c d h two yes x o tree k n l at box q lacks.
-        subst (λ e. NoSource k (e .answer)) (sym (call-told f panel-of p c ∙ ap panel-of h))
-        (wish11 .older-no (handed c .table) (handed d .table) (handed d .stream) (handed d .controls) (handed d .properties) two (ap (λ e. e .answer) (sym (call-told f panel-of p d)) ∙ yes) x o tree k n l at box q lacks);
+    older-no = λ c d h yes x o tree k n l at box q lacks.
+        subst (λ e. NoSource k (e .answer)) (sym (call-told f panel-of p c))
+        (wish11 .older-no (handed c .table) (handed d .table) (handed c .stream) (calls.lent (handed c)) (calls.lent (handed d)) (h .successor) (h .same-room)
+        (ap (λ s. panelExit (handed d .table) s (handed d .controls) (handed d .properties) .answer) (h .same-stream) ∙ ap (λ e. e .answer) (sym (call-told f panel-of p d)) ∙ yes)
+        x o tree k n l at box q lacks);
+    by-rows = λ c d e same.
+        ap (λ e. e .answer) (call-told f panel-of p c)
+        ∙ wish11 .by-rows (handed c .table) (handed c .stream) (handed c .controls) (handed c .properties) (handed d .table) (handed d .stream) (handed d .controls) (handed d .properties) e same
+        ∙ ap (λ e. e .answer) (sym (call-told f panel-of p d));
     one-result = one;
     by-words = by-words f panel-of p;
     allows = allows;

@@ -54,6 +54,7 @@ use Rattle.claims.specs.CutNames.{CutNames}
 use Rattle.claims.specs.Pairing.{Pairs}
 use Rattle.claims.specs.Spreadsheet as csv
 use Rattle.claims.specs.Panels.{shownProperties, IsBox, OneText, Verdict, controlsOf, Sourced, Lacks, NoSource}
+use Rattle.claims.specs.Panels as panel
 use Rattle.claims.specs.Rooms as rooms
 use Rattle.claims.specs.Rewriting.{RewriteAnswer, SameRows, Rewrites}
 use Rattle.claims.specs.ScanNames.{ScanNamed}
@@ -423,13 +424,15 @@ pub record CheckPanel (f : Fn Blob Exit) : Type 2 where
   -- in an Access 2000 stream the code table has its code
   pub sourced : Every f (λ a seen. seen .answer ≡ answer 0 1 0 0 → (x : List Prop × Entries Prop) → is2000 (a .table) (a .stream) ≡ true → streamOf (a .stream) ≡ some x
       → (n : Node Prop) → List·Memᴰ n (nodesOf (x .1)) → IsBox (controlOf (a .table) (a .stream) n .type) → Sourced (a .table) (a .stream) n)
-  -- and a table that lacks it answers no with rule 4. Of any two calls that the contract allows, over the same stream and slices
-  pub older-no : (older newer : Call f) → handed older ≡ record { table = handed older .table; stream = handed newer .stream; controls = handed newer .controls; properties = handed newer .properties }
-      → Successor (handed older .table) (handed newer .table) → seen newer .answer ≡ answer 0 1 0 0
-      → (x : List Prop × Entries Prop) → is2000 (handed newer .table) (handed newer .stream) ≡ true → streamOf (handed newer .stream) ≡ some x
+  -- and a table that lacks it answers no with rule 4. Of any two calls that the contract allows, over the same stream and room, whatever stood in it
+  pub older-no : (older newer : Call f) → TwoTables (handed older) (handed newer) → seen newer .answer ≡ answer 0 1 0 0
+      → (x : List Prop × Entries Prop) → is2000 (handed newer .table) (handed older .stream) ≡ true → streamOf (handed older .stream) ≡ some x
       → (k : ℕ) (n : Node Prop) → k < length (nodesOf (x .1)) → ((d : Node Prop) → getD (nodesOf (x .1)) k d ≡ n)
-      → IsBox (controlOf (handed newer .table) (handed newer .stream) n .type) → (q : Sourced (handed newer .table) (handed newer .stream) n) → Lacks (handed older .table) n (q .stored)
+      → IsBox (controlOf (handed newer .table) (handed older .stream) n .type) → (q : Sourced (handed newer .table) (handed older .stream) n) → Lacks (handed older .table) n (q .stored)
       → NoSource k (seen older .answer)
+  -- the verdict is a function of the rows and of the bytes that they name, whatever the tables, the streams and the room. Of any two calls
+  pub by-rows : (c d : Call f) → read-for (handed c) .answer .number ≡ 0 → panel.SameRows (handed c .stream) (handed d .stream) (read-for (handed c)) (read-for (handed d))
+      → seen c .answer ≡ seen d .answer
   pub one-result : OneResult (f .function)
   pub by-words : (c d : Call f) → handed c ≡ handed d → seen c ≡ seen d
   pub allows : (a : Blob) → (c : Call f) × (handed c ≡ a)

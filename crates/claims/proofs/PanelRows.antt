@@ -5,6 +5,7 @@ use mathlib.Core.Path.{_≡_, refl, sym, ap, ap₂, _∙_}
 use mathlib.Core.Bool.{Bool, true, false, cond}
 use mathlib.Core.List.{List, [], _∷_}
 use mathlib.Core.Option.{Option}
+use borrow.Author.Tests.{eqb-true, eqb-false}
 use lib.Dec.{eqb}
 use lib.ListN.{length, getD}
 use Rattle.rules.specs.Bytes.{part}
@@ -102,21 +103,23 @@ module _ (seen seen′ : Exit) where
 
 -- ---- and the same names
 -- the bytes of a name by its words
-by-part : (s s′ : List ℕ) (n mark start size : ℕ) → part s start size ≡ part s′ start size → nameBytes s n (shownName mark start size) ≡ nameBytes s′ n (shownName mark start size)
+by-part : (s s′ : List ℕ) (n mark start size : ℕ) → (¬ (mark ≡ 1) → part s start size ≡ part s′ start size)
+    → nameBytes s n (shownName mark start size) ≡ nameBytes s′ n (shownName mark start size)
 unfolding nameBytes
-by-part s s′ n mark start size e = go (eqb mark 0) (eqb mark 1)
+by-part s s′ n mark start size e = go (eqb mark 0) (eqb mark 1) refl refl
   where
-    go : (a b : Bool) → nameBytes s n (cond a (Text start size) (cond b Numbered (Loose start size))) ≡ nameBytes s′ n (cond a (Text start size) (cond b Numbered (Loose start size)))
-    go true b = e
-    go false true = refl
-    go false false = e
+    go : (a b : Bool) → eqb mark 0 ≡ a → eqb mark 1 ≡ b
+        → nameBytes s n (cond a (Text start size) (cond b Numbered (Loose start size))) ≡ nameBytes s′ n (cond a (Text start size) (cond b Numbered (Loose start size)))
+    go true b h k = e (λ z. let y : mark ≡ 0 = eqb-true mark 0 h in omega arith)
+    go false true h k = refl
+    go false false h k = e (eqb-false mark 1 k)
 
 -- the first rule that a control with a name of these bytes breaks
 abbrev tried : List (List ℕ) → Control → List ℕ → Option ℕ
 tried earlier c name = firstBroken 1 (hasTypeName (c .type) ∷ isTextName (c .name) ∷ isNewName earlier name ∷ isFilled (c .type) (c .properties) ∷ isPlaced (c .properties) ∷ isShallow (c .level) ∷ [])
 
 module _ (s s′ : List ℕ) (seen : Exit) where
-  same-from : (i n : ℕ) (earlier : List (List ℕ)) → ((k : ℕ) → i ≤ k → k < i + n → part s (nameStart seen k) (nameLength seen k) ≡ part s′ (nameStart seen k) (nameLength seen k))
+  same-from : (i n : ℕ) (earlier : List (List ℕ)) → ((k : ℕ) → i ≤ k → k < i + n → ¬ (nameMark seen k ≡ 1) → part s (nameStart seen k) (nameLength seen k) ≡ part s′ (nameStart seen k) (nameLength seen k))
       → brokenFrom s i earlier (shownControls seen i n) ≡ brokenFrom s′ i earlier (shownControls seen i n)
   unfolding shownControls brokenFrom kept shownControl
   same-from i zero earlier h = refl
@@ -125,7 +128,7 @@ module _ (s s′ : List ℕ) (seen : Exit) where
       ap (λ name. rowOr i (tried earlier (shownControl seen i) name) (brokenFrom s (i + 1) (name ∷ earlier) (shownControls seen (i + 1) n))) e
       ∙ ap (rowOr i (tried earlier (shownControl seen i) (nameBytes s′ i (shownControl seen i .name)))) (same-from (i + 1) n (nameBytes s′ i (shownControl seen i .name) ∷ earlier) (λ k a b. h k (omega arith) (omega arith)))
 
-  pub same-broken : (n : ℕ) → ((k : ℕ) → k < n → part s (nameStart seen k) (nameLength seen k) ≡ part s′ (nameStart seen k) (nameLength seen k))
+  pub same-broken : (n : ℕ) → ((k : ℕ) → k < n → ¬ (nameMark seen k ≡ 1) → part s (nameStart seen k) (nameLength seen k) ≡ part s′ (nameStart seen k) (nameLength seen k))
       → broken s (shownControls seen 0 n) ≡ broken s′ (shownControls seen 0 n)
   unfolding broken
   same-broken n h = same-from 0 n [] (λ k a b. h k (omega arith))

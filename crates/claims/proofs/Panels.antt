@@ -29,7 +29,7 @@ use Rattle.rules.specs.declared.Property.{Property}
 use Rattle.rules.proofs.ListLaws.{and-l, and-r, getD-map}
 use Rattle.rules.proofs.CodeTableLaws.{found-held, held-found, kept as still, unmapped-large}
 use Rattle.claims.specs.Demand1.{Refused}
-use Rattle.claims.specs.Demand3.{Successor, Lent}
+use Rattle.claims.specs.Demand3.{Successor, Lent, SameRoom}
 use Rattle.claims.specs.RowChecks.{controlType, firstRow, propertyCount}
 use Rattle.claims.specs.Panels.{shownProperties, shownControl, shownControls, no-control, control, itsName, IsBox, OneText, Placing, Kept, AllKept, FirstBroken, Verdict, controlsOf, Sourced, Lacks, NoSource, SameRows, Wish11}
 use Rattle.claims.proofs.Demand1.{demand1}
@@ -305,7 +305,7 @@ module _ (t s cs ps : List ℕ) (x : List Prop × Entries Prop) (o : is2000 t s 
       box-sourced t s n (yes-one-text e (p .0) n (p .1) (p .2) box)
 
 -- ---- and under an older table
-module _ (older newer s cs ps : List ℕ) (two : Successor older newer) (x : List Prop × Entries Prop) (o : is2000 newer s ≡ true) (tree : streamOf s ≡ some x) where
+module _ (older newer s : List ℕ) (lent lent′ : Lent) (two : Successor older newer) (rooms : SameRoom lent lent′) (x : List Prop × Entries Prop) (o : is2000 newer s ≡ true) (tree : streamOf s ≡ some x) where
   o′ : is2000 older s ≡ true
   unfolding is2000
   o′ = rw (two .one-layout) o
@@ -437,10 +437,10 @@ module _ (older newer s cs ps : List ℕ) (two : Successor older newer) (x : Lis
         old-box = subst IsBox (sym (same-type n)) box
 
         new-one : OneText (controlOf newer s n .properties)
-        new-one = one-text-of newer s cs ps x o tree k n l h (yes k (in-news k l) 4 (omega arith) (omega arith)) box
+        new-one = one-text-of newer s (lent′ .controls) (lent′ .properties) x o tree k n l h (yes k (in-news k l) 4 (omega arith) (omega arith)) box
 
         never : ¬ Kept s olds k 4
-        never f = not-both n q lacks new-one (one-text-of older s cs ps x o′ tree k n l h f old-box)
+        never f = not-both n q lacks new-one (one-text-of older s (lent .controls) (lent .properties) x o′ tree k n l h f old-box)
 
         go : (a : Answer) → Verdict s olds a → NoSource k a
         go _ (Verdict.yes all-kept) = absurd (never (all-kept k (omega (arith, length-map (nodesOf (x .1)) (controlOf older s))) 4 (omega arith) (omega arith)))
@@ -463,15 +463,14 @@ module _ (older newer s cs ps : List ℕ) (two : Successor older newer) (x : Lis
                 by true e = eqb-true rule 4 e
                 by false e = absurd (f .broken (still-kept n i inside rule (yes i (in-news i inside) rule (f .least) (f .most)) (eqb-false rule 4 e)))
 
-  older-no : panelExit newer s cs ps .answer ≡ answer 0 1 0 0
+  older-no : panelExit newer s (lent′ .controls) (lent′ .properties) .answer ≡ answer 0 1 0 0
       → (k : ℕ) (n : Node Prop) → k < length (nodesOf (x .1)) → ((d : Node Prop) → getD (nodesOf (x .1)) k d ≡ n)
-      → IsBox (controlOf newer s n .type) → (q : Sourced newer s n) → Lacks older n (q .stored) → NoSource k (panelExit older s cs ps .answer)
+      → IsBox (controlOf newer s n .type) → (q : Sourced newer s n) → Lacks older n (q .stored) → NoSource k (panelExit older s (lent .controls) (lent .properties) .answer)
   older-no e k n l h box q lacks =
-      let a : exit newer s cs ps .answer .number ≡ 0 = panel-accepted newer s cs ps (ap (λ a. a .number) e) in
-      let lent : Lent = record { controls = cs; properties = ps } in
-      let same = demand3 .chosen-same-but older newer s lent lent two (record { of-controls = refl; of-properties = refl }) o′ in
-      let a′ : exit older s cs ps .answer .number ≡ 0 = ap (λ a. a .number) (same .alike .same-answer) ∙ a in
-      said-no (yes-nodes newer s cs ps x o tree e) k n l h box q lacks (panelExit older s cs ps .answer) (judged-nodes older s cs ps x o′ tree a′)
+      let a : exit newer s (lent′ .controls) (lent′ .properties) .answer .number ≡ 0 = panel-accepted newer s (lent′ .controls) (lent′ .properties) (ap (λ a. a .number) e) in
+      let same = demand3 .chosen-same-but older newer s lent lent′ two rooms o′ in
+      let a′ : exit older s (lent .controls) (lent .properties) .answer .number ≡ 0 = ap (λ a. a .number) (same .alike .same-answer) ∙ a in
+      said-no (yes-nodes newer s (lent′ .controls) (lent′ .properties) x o tree e) k n l h box q lacks (panelExit older s (lent .controls) (lent .properties) .answer) (judged-nodes older s (lent .controls) (lent .properties) x o′ tree a′)
 
 by-rows : (t s cs ps t′ s′ cs′ ps′ : List ℕ) → exit t s cs ps .answer .number ≡ 0 → SameRows s s′ (exit t s cs ps) (exit t′ s′ cs′ ps′)
     → panelExit t s cs ps .answer ≡ panelExit t′ s′ cs′ ps′ .answer
@@ -496,5 +495,5 @@ wish11 = record {
   by-rows = by-rows;
   filled = filled;
   sourced = λ t s cs ps e x o tree n m box. sourced t s cs ps x o tree e n m box;
-  older-no = λ older newer s cs ps two e x o tree k n l h box q lacks. older-no older newer s cs ps two x o tree e k n l h box q lacks;
+  older-no = λ older newer s lent lent′ two rooms e x o tree k n l h box q lacks. older-no older newer s lent lent′ two rooms x o tree e k n l h box q lacks;
 }

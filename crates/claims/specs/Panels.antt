@@ -26,7 +26,7 @@ use Rattle.rules.specs.declared.Property.{Property}
 use Rattle.rules.specs.declared.Name.{Name}
 use Rattle.rules.specs.declared.Name.the-variants.{Text, Numbered, Loose}
 use Rattle.claims.specs.Demand1.{Refused}
-use Rattle.claims.specs.Demand3.{Successor}
+use Rattle.claims.specs.Demand3.{Successor, Lent, SameRoom}
 use Rattle.claims.specs.RowChecks.{propertyWord, shownId, valueMark, valueStart, valueLength, controlType, nameMark, nameStart, nameLength, firstRow, propertyCount, level, parentRow}
 
 -- ---- what the rows show, by their words
@@ -141,12 +141,12 @@ pub record NoSource (k : ℕ) (a : Answer) : Type 0 where
   pub row : a .second ≤ k
   pub rule : a .third ≡ 4
 
--- two calls left the same rows, and these name the same bytes
+-- two calls left the same rows, and these name the same bytes (a numbered row names none)
 pub record SameRows (s s′ : List ℕ) (seen seen′ : Exit) : Type 0 where
   pub answer : seen .answer ≡ seen′ .answer
   pub controls : (i : ℕ) → i < seen .answer .first → rowAt controlWidth i (seen .controls) ≡ rowAt controlWidth i (seen′ .controls)
   pub properties : (j : ℕ) → j < seen .answer .second → rowAt propertyWidth j (seen .properties) ≡ rowAt propertyWidth j (seen′ .properties)
-  pub names : (i : ℕ) → i < seen .answer .first → part s (nameStart seen i) (nameLength seen i) ≡ part s′ (nameStart seen i) (nameLength seen i)
+  pub names : (i : ℕ) → i < seen .answer .first → ¬ (nameMark seen i ≡ 1) → part s (nameStart seen i) (nameLength seen i) ≡ part s′ (nameStart seen i) (nameLength seen i)
 
 pub record Wish11 : Type 0 where
   -- 5, 8, 4, 6, 7 as for the Blob itself, with the same counts, and then nothing is written (Demand1)
@@ -170,9 +170,10 @@ pub record Wish11 : Type 0 where
   pub sourced : (t s controls properties : List ℕ) → panelExit t s controls properties .answer ≡ answer 0 1 0 0
       → (x : List Prop × Entries Prop) → is2000 t s ≡ true → streamOf s ≡ some x
       → (n : Node Prop) → List·Memᴰ n (nodesOf (x .1)) → IsBox (controlOf t s n .type) → Sourced t s n
-  -- so under an older table (demand 3) that lacks that code the same form is answered no with rule 4, at that box's row k or before it
-  pub older-no : (older newer s controls properties : List ℕ) → Successor older newer → panelExit newer s controls properties .answer ≡ answer 0 1 0 0
+  -- so under an older table (demand 3) that lacks that code the same form, in the same room, is answered no with rule 4, at that box's row k or before it
+  pub older-no : (older newer s : List ℕ) (lent lent′ : Lent) → Successor older newer → SameRoom lent lent′
+      → panelExit newer s (lent′ .controls) (lent′ .properties) .answer ≡ answer 0 1 0 0
       → (x : List Prop × Entries Prop) → is2000 newer s ≡ true → streamOf s ≡ some x
       → (k : ℕ) (n : Node Prop) → k < length (nodesOf (x .1)) → ((d : Node Prop) → getD (nodesOf (x .1)) k d ≡ n)
       → IsBox (controlOf newer s n .type) → (q : Sourced newer s n) → Lacks older n (q .stored)
-      → NoSource k (panelExit older s controls properties .answer)
+      → NoSource k (panelExit older s (lent .controls) (lent .properties) .answer)
