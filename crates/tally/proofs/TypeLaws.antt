@@ -6,12 +6,13 @@ use mathlib.Core.Path.{_≡_, refl, sym, ap, _∙_}
 use mathlib.Core.Bool.{Bool, true, false, cond}
 use mathlib.Core.List.{List, [], _∷_, _++_, map}
 use mathlib.Core.Option.{Option, none, some}
-use lib.Dec.{T, eqb}
+use lib.Dec.{T, leb, eqb}
 use lib.ListN.{length, getD}
-use borrow.Author.Tests.{eqb-true}
-use Rattle.rules.specs.Lists.{ascends, find}
+use borrow.Author.Tests.{eqb-true, ne-eqb, leb-true}
+use Rattle.rules.specs.Lists.{all, ascends, find}
 use Rattle.rules.specs.NameTables.{Table, controlTypeNames}
 use Rattle.rules.specs.Names.{hasId}
+use Rattle.rules.proofs.ListLaws.{and-l, and-r}
 use Rattle.rules.proofs.OpenTotals.{totals-open}
 use Rattle.names.specs.Lookup.{placeIn}
 use Rattle.totallaws.proofs.TotalsLaws.{typePlace, type-places, type-placed, no-type-place}
@@ -75,3 +76,18 @@ module _ (type : ℕ) {i : ℕ} (e : i ≡ placeIn codes type) where
 
   pub place-small : getD places i 0 < 31
   place-small = omega (arith, place-found, type-placed type .0)
+
+-- ---- no type below the first has a name
+none-below : (t : Table) (id : ℕ) → all (λ row. leb 100 (row .0)) t ≡ true → id < 100 → find (hasId id) t ≡ none
+unfolding all find
+none-below [] id e h = refl
+none-below (row ∷ t) id e h =
+    let l : 100 ≤ row .0 = leb-true 100 (row .0) (and-l (leb 100 (row .0)) (all (λ row. leb 100 (row .0)) t) e) in
+    rw (ne-eqb (row .0) id (λ z. omega arith)) (none-below t id (and-r (leb 100 (row .0)) (all (λ row. leb 100 (row .0)) t) e) h)
+
+all-high : all (λ row. leb 100 (row .0)) controlTypeNames ≡ true
+unfolding totals-open
+all-high = refl
+
+pub place-low : (type : ℕ) → type < 100 → 30 ≡ typePlace type
+place-low type h = sym (no-type-place type (none-below controlTypeNames type all-high h))

@@ -143,6 +143,11 @@ const TYPE_PLACES: [u32; 56] = [
     30,
 ];
 
+// No type below this one has a name, as 0 has none: that of a control which the scan of a later stream finds.
+const FIRST_TYPE: u32 = 0x64;
+
+const OTHER_TYPES: usize = 30;
+
 // One more at a place. A number at the ceiling stays, and so does all where there is no such place.
 pub fn bump(words: &mut [u32], place: usize)
     ensures { λ _. ⌜ now (words .exit) ≡ bump (now (words .entry)) place ⌝ }
@@ -159,6 +164,9 @@ pub fn bump(words: &mut [u32], place: usize)
 fn type_place(type_code: u32) -> usize
     ensures { λ r. ⌜ r ≡ typePlace «type_code» ⌝ }
 {
+    if type_code < FIRST_TYPE {
+        return OTHER_TYPES;
+    }
     let codes = TYPE_CODES;
     let places = TYPE_PLACES;
     let i = place_in(&codes, type_code);
