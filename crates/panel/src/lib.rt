@@ -17,7 +17,7 @@ ghost use Rattle.rules.specs.Answer.{answer};
 ghost use Rattle.rules.specs.Panel.{hasTypeName, isNewName, isBox, isSource, isOneText, isFilled, isPlacing, isPlaced, broken, verdict, panelExit};
 ghost use Rattle.names.specs.Lookup.{Lent};
 ghost use Rattle.blob.specs.Exit.{exited};
-ghost use Rattle.panel.specs.ByRows.{controlsFrom, bytesAt, namesBefore, between, NextSource, Inside, Rows, Before, ruleOf};
+ghost use Rattle.panel.specs.ByRows.{controlsFrom, bytesAt, namesBefore, between, NextSource, Ends, Rows, Before, ruleOf};
 
 // The rules by their numbers: what a row breaks. 0 is none.
 const NO_TYPE_NAME: u32 = 1;
@@ -64,6 +64,9 @@ const WIDTH: u32 = 0x0096;
 // A number below 0 has this or more in its low word.
 const NEGATIVE: u32 = 0x80000000;
 
+// Bytes of a letter.
+const LETTER: usize = 2;
+
 // The words of a control row that a name has.
 const NAME_START: usize = 2;
 
@@ -96,7 +99,22 @@ fn same_bytes(s: &[u8], one: usize, other: usize, size: usize) -> bool
     true
 }
 
-// Row `n` names the bytes that these are. The lengths are compared first.
+// Whether the last letters are the same, and the first ones: two bytes make a letter, and its low byte stands first. Asked before all bytes are compared.
+fn ends_alike(s: &[u8], one: usize, other: usize, size: usize) -> bool
+    requires { ⌜ (one + size ≤ length (now s)) × (other + size ≤ length (now s)) ⌝ }
+    ensures { λ r. ⌜ Ends (now (s .entry)) one other size r ⌝ }
+{
+    if size < LETTER {
+        return true;
+    }
+    let last = size - LETTER;
+    if s[one + last] != s[other + last] {
+        return false;
+    }
+    s[one] == s[other]
+}
+
+// Row `n` names the bytes that these are. The lengths are compared first, then the ends.
 fn has_name(s: &[u8], controls: &[u32], n: u32, start: u32, size: u32) -> bool
     requires { ⌜ Before (now s) (now controls) (n + 1) ⌝ }
     requires { ⌜ start + size ≤ length (now s) ⌝ }
@@ -106,12 +124,11 @@ fn has_name(s: &[u8], controls: &[u32], n: u32, start: u32, size: u32) -> bool
     if controls[at + NAME_SIZE] != size {
         return false;
     }
-    same_bytes(
-        s,
-        controls[at + NAME_START] as usize,
-        start as usize,
-        size as usize,
-    )
+    let from = controls[at + NAME_START] as usize;
+    if !ends_alike(s, from, start as usize, size as usize) {
+        return false;
+    }
+    same_bytes(s, from, start as usize, size as usize)
 }
 
 // No row before row `n` names these bytes.
