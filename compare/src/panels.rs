@@ -250,10 +250,11 @@ fn put_later(rng: &mut Rng, out: &mut Vec<u8>, level: usize, left: &mut usize, d
 
 // ---- speed
 
-/// Names as Access gives them, and names of one length that differ in their last letters alone.
-const NAMINGS: [(&str, fn(usize) -> String); 2] = [
+/// Names as Access gives them, and names of one length that differ in their last letters alone, or in their first.
+const NAMINGS: [(&str, fn(usize) -> String); 3] = [
     ("as Access names them", |n| format!("{}{n}", ["Label", "Text", "Command", "Combo", "Check", "Option", "Frame", "Box"][n % 8])),
     ("of one length and beginning", |n| format!("txtFeeder{n:04}")),
+    ("of one length and end", |n| format!("{n:04}FeederVoltage")),
 ];
 
 /// A form of so many controls that keeps all rules: labels and text boxes in turn, each with its name, its place and six properties more.
