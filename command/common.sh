@@ -206,6 +206,7 @@ refused() { # FILE LINE
         why="it has ${counts%% *} controls and ${left%% *} properties, which is more than there is room for"
         ;;
     "answer 8 "*) why="the code table $table is not well formed; ./oskuramos table says where" ;;
+    "answer 12 "*) why="with it a total would pass 4,294,967,295; count it in another run" ;;
     *) why="the answer is none that this command knows" ;;
     esac
     say "$1 was refused: $why"
