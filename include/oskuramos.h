@@ -50,9 +50,9 @@ enum {
     OSKURAMOS_NO_ROOM_FOR_TEXT = 9, /* the buffer for text, a joined code table or a rewritten stream is too short */
     OSKURAMOS_NOT_A_GUID = 10,      /* the GUID value isn't 16 bytes */
     OSKURAMOS_BAD_ROWS = 11,        /* rows to pair: more counted than lent, a name mark above 2, or a name outside its stream */
+    OSKURAMOS_OVER_CEILING = 12,    /* a total would pass 4,294,967,295 */
     OSKURAMOS_NO_ROOM_FOR_SHEET = 13, /* what is written or read as comma-separated text doesn't fit the room lent */
     OSKURAMOS_NOT_A_SHEET = 14,     /* text read isn't comma-separated text with five fields in every record */
-    OSKURAMOS_OVER_CEILING = 12,    /* a total would pass 4,294,967,295 */
     OSKURAMOS_OTHER_LAYOUT = 15,    /* a reader for one layout is given a stream that speaks for the other */
     OSKURAMOS_OTHER_HEAD = 16,      /* two code tables differ in layout byte or header codes */
     OSKURAMOS_TWO_ROWS = 17,        /* two code tables have different rows for one scope and id */
@@ -177,7 +177,9 @@ enum {
    Answers 0 with the bytes and the fields, or 14, 13, tried in this order; 13 also for more than 4,294,967,295 bytes or fields. There are never more bytes
    than the text has, and never more fields than its bytes and one: such room is always enough. A field that is empty has a row with length 0. */
 oskuramos_answer oskuramos_read_csv(const uint8_t *text, size_t text_length, uint32_t *fields, size_t fields_length, uint8_t *out, size_t out_length);
-/* The rules of panels, by the numbers that oskuramos_check_panel gives. */
+
+/* ---- the rules of panels */
+/* The rules, by the numbers that oskuramos_check_panel gives. */
 enum {
     OSKURAMOS_PANEL_TYPE_NAME = 1, /* every type code has a type name (oskuramos_control_type_name) */
     OSKURAMOS_PANEL_NAME_MARK = 2, /* names with mark OSKURAMOS_NAME_UTF16 only */
@@ -193,6 +195,7 @@ enum {
    So a yes says of an Access 2000 Blob that the code table has the code of every box's source. The time of rule 3 grows with the square of the controls. */
 oskuramos_answer oskuramos_check_panel(const uint8_t *table, size_t table_length, const uint8_t *stream, size_t stream_length,
                                        uint32_t *controls, size_t controls_length, uint32_t *properties, size_t properties_length);
+
 /* ---- running totals over many streams */
 enum {
     OSKURAMOS_TOTALS_ANSWERS = 6,

@@ -2,8 +2,7 @@
 
 use crate::cases::Kind;
 use crate::form::{BlobProperty, ControlInfo, ControlProperties};
-use crate::{blob_texts, file::FileError, form, form2000, large, oracle, paired, pairs, panels, rewrites, sheets, speed};
-use crate::{file::FileError, form, form2000, large, oracle, paired, pairs, rewrites, speed, totals};
+use crate::{blob_texts, file::FileError, form, form2000, large, oracle, paired, pairs, panels, rewrites, sheets, speed, totals};
 
 /// A stream, as C sees it.
 #[repr(C)]

@@ -9,9 +9,8 @@ pub use crate::format::{
     CONTROL_WORDS, FIELD_WORDS, GUID_TEXT, LABEL_LONGEST, LONGEST, NAME_ROOM, NO_PARENT, NO_TYPE, PROPERTY_WORDS, RECORD_FIELDS, STACK,
     TABLE_LONGEST, TYPE_INFO_WORDS,
 };
-use crate::refused::{of_blob, of_blob_text, of_paired, of_sheet, of_type_info, of_written, Counts, Refused};
 use crate::panel::Panel;
-use crate::refused::{of_blob, of_paired, of_panel, of_type_info, of_written, Counts, Refused};
+use crate::refused::{of_blob, of_blob_text, of_paired, of_panel, of_sheet, of_type_info, of_written, Counts, Refused};
 
 /// Type code, name mark, name start, name length, first property row, property count, level, and the parent's row, [`NO_PARENT`] at level 0.
 pub type ControlRow = [u32; CONTROL_WORDS];

@@ -54,12 +54,12 @@ pub enum Refused {
     NotAGuid,
     /// 11: rows to pair are more than were lent, have a name mark above 2, or name bytes outside their stream.
     BadRows,
+    /// 12: a total would pass 4,294,967,295; the totals stay as they were.
+    OverCeiling,
     /// 13: what is written or read as comma-separated text doesn't fit the room lent.
     NoRoomForSheet,
     /// 14: text isn't comma-separated text with five fields in every record.
     NotASheet,
-    /// 12: a total would pass 4,294,967,295; the totals stay as they were.
-    OverCeiling,
     /// 15: the stream's first byte speaks for the other layout than the one that was asked for.
     OtherLayout,
     /// 16: two code tables differ in layout byte or header codes.

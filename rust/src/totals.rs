@@ -6,8 +6,8 @@ use crate::refused::{of_blob, Counts, Refused};
 use crate::{control_type_name, Name};
 use std::fmt::{self, Display, Formatter};
 
-/// The words for the marks of values, in their order.
-const MARKS: [&str; 9] = ["Bool", "NotDefault", "Short", "Long", "Double", "GUID", "Text", "binary", "loose text"];
+/// The words that listings have for the marks of values, in their order.
+const MARKS: [&str; 9] = ["bool", "notdefault", "short", "long", "double", "guid", "text", "binary", "loose"];
 
 /// Totals over many Blobs: how many got each answer, and over those that were read how many controls have each type name, how many properties the code
 /// table lacks, and how many values have each mark.
@@ -17,7 +17,9 @@ const MARKS: [&str; 9] = ["Bool", "NotDefault", "Short", "Long", "Double", "GUID
 ///
 /// let mut totals = Totals::default();
 /// for file in ["examples/form-2000.blob", "examples/later-tree.blob"] {
-///     totals.add(ACCESS_2000_CODES, &std::fs::read(file)?)?;
+///     if let Err(why) = totals.add(ACCESS_2000_CODES, &std::fs::read(file)?)? {
+///         eprintln!("{file} is counted as refused: {why}");
+///     }
 /// }
 /// assert_eq!(totals.streams(0), 2);
 /// println!("{totals}");
@@ -27,15 +29,24 @@ const MARKS: [&str; 9] = ["Bool", "NotDefault", "Short", "Long", "Double", "GUID
 pub struct Totals(archive::Totals);
 
 impl Totals {
-    /// Counts a Blob, whatever its answer is: one that is refused counts as that. The counts of the Blob, or why it was refused; with
-    /// [`Refused::OverCeiling`] nothing was counted.
-    pub fn add(&mut self, table: &[u8], stream: &[u8]) -> Result<Counts, Refused> {
+    /// Counts a Blob, and gives what its reading was answered: its counts, or why it couldn't be read. Either is counted.
+    /// The one error is [`Refused::OverCeiling`]: then nothing was counted.
+    pub fn add(&mut self, table: &[u8], stream: &[u8]) -> Result<Result<Counts, Refused>, Refused> {
         self.add_within(table, stream, u32::MAX, u32::MAX)
     }
 
     /// The same where there is room for so many rows of controls and of properties: a Blob that has more counts as answered 6 or 7.
-    pub fn add_within(&mut self, table: &[u8], stream: &[u8], control_room: u32, property_room: u32) -> Result<Counts, Refused> {
-        of_blob(archive::count_blob(&mut self.0, table, stream, control_room, property_room))
+    pub fn add_within(
+        &mut self,
+        table: &[u8],
+        stream: &[u8],
+        control_room: u32,
+        property_room: u32,
+    ) -> Result<Result<Counts, Refused>, Refused> {
+        match of_blob(archive::count_blob(&mut self.0, table, stream, control_room, property_room)) {
+            Err(Refused::OverCeiling) => Err(Refused::OverCeiling),
+            answered => Ok(answered),
+        }
     }
 
     /// How many streams got an answer: 0, 4, 5, 6, 7 or 8. Others get none.
