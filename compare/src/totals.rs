@@ -61,7 +61,11 @@ fn names() -> Vec<&'static str> {
 
 /// The record after a list, and whether one of it was refused by 12.
 fn listed(
-    library: Count, order: &[What], start: &BTreeMap<What, u64>, list: &[Stream], answers: &mut BTreeMap<u32, usize>,
+    library: Count,
+    order: &[What],
+    start: &BTreeMap<What, u64>,
+    list: &[Stream],
+    answers: &mut BTreeMap<u32, usize>,
 ) -> Result<(Vec<u32>, bool), String> {
     assert_eq!(order.len(), WORDS);
     let guard = |i: usize| 0xA5A5_0000 + i as u32;
