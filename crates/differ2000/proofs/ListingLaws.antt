@@ -25,10 +25,6 @@ module _ (older newer s : List ℕ) where
   unfolding listSites
   none-listed st = refl
 
-  pub one-listed : (x : Site) (xs : List Site) (st : Listing) → listSites older newer s (x ∷ xs) st ≡ listSites older newer s xs (listSite older newer s x st)
-  unfolding listSites
-  one-listed x xs st = refl
-
   pub sites-append : (a b : List Site) (st : Listing) → all (a ++ b) st ≡ all b (all a st)
   unfolding listSites
   sites-append [] b st = refl

@@ -2,22 +2,21 @@
 use Prim.Native.Nat.{ℕ, _+_, _≤_, _<_}
 use native.Mathlib.Omega.{arith}
 use mathlib.Core.Path.{_≡_, refl, sym, ap, _∙_}
-use mathlib.Core.Bool.{Bool, true, false, cond}
+use mathlib.Core.Bool.{false, cond}
 use mathlib.Core.List.{List, [], _∷_}
 use mathlib.Core.Option.{Option, none, some}
 use lib.Bits.{bitOr}
 use lib.Dec.{ltb}
-use lib.ListN.{length}
 use borrow.Author.Tests.{lt-ltb, le-ltb}
 use Rattle.rules.specs.Lists.{find}
 use Rattle.rules.specs.CodeTable.{Tie, isTied, rowOf}
 use Rattle.rules.specs.Access2000.{Prop}
 use Rattle.rules.specs.Read2000.{ScopeKey, tied, shown, propertyIn, spotIn}
-use Rattle.rules.specs.Differences.{siteIn, differs, differenceRow}
+use Rattle.rules.specs.Differences.{differs, differenceRow}
 use Rattle.rules.specs.declared.Property.{Property}
 use Rattle.rules.proofs.CodeTableLaws.{found-held, unmapped-large, target-small}
 use Rattle.differlaws.proofs.DifferencesLaws.{learned, differs-learned}
-use Rattle.coderows.specs.Look.{Sorted, Finds, bodyRows, asRow}
+use Rattle.coderows.specs.Look.{Sorted, bodyRows, asRow}
 use Rattle.coderows.specs.declared.Row.{Row}
 use Rattle.coderows.specs.declared.Row.the-variants.{Tied, Untied}
 use Rattle.run2000.specs.Runs.{prop, shownIn, Inside}
@@ -26,7 +25,7 @@ use Rattle.differ2000.specs.declared.Difference.{Difference}
 use Rattle.differ2000.specs.declared.Place.{Place}
 use Rattle.differ2000.specs.declared.Scope.{Scope}
 use Rattle.differ2000.specs.declared.Stored.{Stored}
-use Rattle.differ2000.specs.Listing.{listing, listingAt, words, putFit, listSite, Tables, keyOf, propOf, UntiedReady, untiedRow, UntiedDone, FoundScope, PropertyReady, siteOf, PropertyDone}
+use Rattle.differ2000.specs.Listing.{listing, words, putFit, listSite, Tables, keyOf, propOf, UntiedReady, untiedRow, UntiedDone, FoundScope, PropertyDone}
 
 -- ---- what differs
 module _ {older newer : List ℕ} (T : Tables older newer) (s : List ℕ) (key : ScopeKey) (q : Prop) where

@@ -1,5 +1,5 @@
 -- A run listed a property at a time, and an entry by its run.
-use Prim.Native.Nat.{ℕ, _+_, _≤_, _<_}
+use Prim.Native.Nat.{ℕ, _+_, _≤_}
 use native.Mathlib.Omega.{arith}
 use mathlib.Core.Path.{_≡_, refl, sym, ap, _∙_}
 use mathlib.Core.Bool.{true, false}
@@ -22,8 +22,8 @@ use Rattle.run2000.proofs.Sizes.{value-sized}
 use Rattle.differ2000.specs.declared.Place.{Place}
 use Rattle.differ2000.specs.declared.Scope.{Scope}
 use Rattle.differ2000.specs.declared.Stored.{Stored}
-use Rattle.differ2000.specs.Listing.{Listing, listing, listingAt, listSites, keyOf, siteOf, PropertyReady, PropertyDone, FewProps, RunReady, Stood, stood, runSites, runList, RunDone, NodeReady, NodeListed, NodeDone}
-use Rattle.differ2000.proofs.ListingLaws.{none-listed, one-listed, site-grows}
+use Rattle.differ2000.specs.Listing.{Listing, listingAt, listSites, keyOf, siteOf, PropertyReady, PropertyDone, FewProps, RunReady, Stood, stood, runSites, runList, RunDone, NodeReady, NodeListed, NodeDone}
+use Rattle.differ2000.proofs.ListingLaws.{none-listed, site-grows}
 
 -- what is left to list from here is what there was to list
 pub record Left (older newer : List ℕ) (scope : Scope) (s rows : List ℕ) (from : Place) (new : List ℕ) (p : Place) : Type 0 where

@@ -5,10 +5,9 @@ use mathlib.Core.Path.{_≡_, refl, sym, ap, _∙_}
 use mathlib.Core.List.{List, map}
 use mathlib.Core.Option.{Option, none, some}
 use lib.ListN.{length, length-map}
-use Rattle.rules.specs.Answer.{longest}
 use Rattle.rules.specs.Tree.{Entries, nodesOf, levels}
-use Rattle.rules.specs.Access2000.{Prop, runAt, headAt, entriesAt, streamOf}
-use Rattle.rules.specs.Read2000.{ScopeKey, objectKey, spotIn}
+use Rattle.rules.specs.Access2000.{Prop, headAt, entriesAt, streamOf}
+use Rattle.rules.specs.Read2000.{objectKey, spotIn}
 use Rattle.rules.specs.Rows.{differenceWidth, written}
 use Rattle.rules.specs.Differences.{Site, siteIn, noControl, nodeSites, sitesOf, sitesIn, sites, differencesFrom}
 use Rattle.rules.proofs.ListLaws.{none-some, every-at}

@@ -10,9 +10,8 @@ use lib.ListN.{length}
 use Rattle.rules.specs.Bytes.{u16}
 use Rattle.rules.specs.Answer.{longest}
 use Rattle.rules.specs.CodeTable.{wellFormed, Extends}
-use Rattle.rules.specs.Tree.{Node}
 use Rattle.rules.specs.Access2000.{Prop, runAt, streamOf}
-use Rattle.rules.specs.Read2000.{ScopeKey, entryKey, tied, propertyIn, Spot, spotIn, nodeSpots}
+use Rattle.rules.specs.Read2000.{ScopeKey, entryKey, propertyIn, spotIn}
 use Rattle.rules.specs.Rows.{differenceWidth}
 use Rattle.rules.specs.Differences.{Site, siteIn, nodeSites, sitesOf, differs, differenceRow}
 use Rattle.propvalue.specs.Sized.{Sized}

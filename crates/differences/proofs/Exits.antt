@@ -1,5 +1,5 @@
 -- What is answered, and what the rows are at exit: the refusals in their order, then the list.
-use Prim.Native.Nat.{ℕ, _*_, _/_, _≤_, _<_}
+use Prim.Native.Nat.{ℕ, _/_, _≤_, _<_}
 use native.Mathlib.Omega.{arith}
 use mathlib.Core.Path.{_≡_, refl, sym, ap, _∙_}
 use mathlib.Core.Bool.{Bool, true, false, cond, true≢false}
@@ -15,10 +15,9 @@ use Rattle.rules.specs.Join.{sameHead}
 use Rattle.rules.specs.Tree.{Entries}
 use Rattle.rules.specs.Access2000.{Prop, streamOf}
 use Rattle.rules.specs.Reading.{Reading, properties}
-use Rattle.rules.specs.ReadLater.{readLater}
 use Rattle.rules.specs.Rows.{controlWidth, propertyWidth, differenceWidth, room, written}
 use Rattle.rules.specs.Blob.{Exit, Outcome, is2000, readBy, readingOf, counted, fit, answerOf, outcome, exit}
-use Rattle.rules.specs.Differences.{hasScope, succeeds, sites, differencesFrom, differenceRows, differencesAnswer, DifferencesExit, differencesExit}
+use Rattle.rules.specs.Differences.{hasScope, succeeds, sites, differencesFrom, differenceRows, differencesAnswer, differencesExit}
 use Rattle.rules.specs.declared.Answer.{Answer}
 use Rattle.rules.proofs.ListLaws.{and-r, none-some}
 use Rattle.differlaws.proofs.DifferencesLaws.{has-extends}

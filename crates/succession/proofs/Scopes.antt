@@ -1,18 +1,20 @@
 -- Scopes gone through one after another for the first row that the newer table hasn't, and what is found: a successor has no such row.
 use Prim.Native.Nat.{ℕ, _+_, _*_, _-_, _≤_, _<_, _^_}
 use native.Mathlib.Omega.{arith}
-use mathlib.Core.Path.{_≡_, refl, sym, ap, _∙_}
+use mathlib.Core.Path.{_≡_, refl, sym, ap, subst, _∙_}
 use mathlib.Core.Bool.{Bool, true, false, not, cond, _&&_, true≢false}
-use mathlib.Core.List.{List, [], _∷_}
+use mathlib.Core.List.{List, [], _∷_, List·Memᴰ, List·Memᴰ·head, List·Memᴰ·tail}
 use mathlib.Core.Option.{Option, none, some}
 use Rattle.rules.specs.Lists.{all, find}
 use Rattle.rules.specs.CodeTable.{Tie, Scope, isTied, tiesAt, scopesAt, scopes, scopeRows, rowOf}
 use Rattle.rules.specs.Join.{sameHead}
 use Rattle.rules.specs.Differences.{foundSame, hasRow, hasScope, succeeds}
+use Rattle.rules.proofs.ListLaws.{none-some}
 use Rattle.joinlaws.proofs.TableBytesLaws.{no-scopes}
+use Rattle.joinlaws.proofs.JoinLaws.{row-itself}
 use Rattle.codetable.proofs.Steps.{ScopeRead, Counts, scopes-next}
 use Rattle.succession.specs.declared.Lack as told
-use Rattle.succession.specs.Lacks.{Lack, orElse, rowsLack, scopesLack}
+use Rattle.succession.specs.Lacks.{Lack, orElse, rowsLack, scopesLack, Lacks}
 use Rattle.succession.specs.Found.{asLack}
 
 -- so many scopes are left, and the newer table has all rows of those in front of them
@@ -94,3 +96,52 @@ module _ (older newer : List ℕ) where
       go : (o : Option Lack) → p ≡ asLack o → not (p .found) ≡ isNone o
       go none q = unfold asLack in ap (λ (z : told.Lack). not (z .found)) q
       go (some x) q = unfold asLack in ap (λ (z : told.Lack). not (z .found)) q
+
+-- ---- what is found is a row of the older table that the newer hasn't
+record InRows (kind code : ℕ) (rs′ rs : List Tie) (l : Lack) : Type 0 where
+  its-kind : l .kind ≡ kind
+  its-code : l .code ≡ code
+  row : List·Memᴰ (l .row) rs
+  other : l .other ≡ find (isTied (l .row .id)) rs′
+  not-held : foundSame (l .row) (l .other) ≡ false
+
+in-rows : (kind code : ℕ) (rs′ rs : List Tie) (l : Lack) → rowsLack kind code rs′ rs ≡ some l → InRows kind code rs′ rs l
+unfolding rowsLack
+in-rows kind code rs′ [] l e = absurd (none-some e)
+in-rows kind code rs′ (r ∷ rs) l e = go (foundSame r (find (isTied (r .id)) rs′)) refl e (in-rows kind code rs′ rs l)
+  where
+    this : Lack
+    this = record { kind = kind; code = code; row = r; other = find (isTied (r .id)) rs′ }
+
+    go : (b : Bool) → foundSame r (find (isTied (r .id)) rs′) ≡ b → cond b (rowsLack kind code rs′ rs) (some this) ≡ some l
+        → (rowsLack kind code rs′ rs ≡ some l → InRows kind code rs′ rs l) → InRows kind code rs′ (r ∷ rs) l
+    go true q h rec = let i = rec h in record { its-kind = i .its-kind; its-code = i .its-code; row = List·Memᴰ·tail (i .row); other = i .other; not-held = i .not-held }
+    go false q h rec =
+        let i : this ≡ l = cc in
+        subst (λ (x : Lack). InRows kind code rs′ (r ∷ rs) x) i (record { its-kind = refl; its-code = refl; row = List·Memᴰ·head refl; other = refl; not-held = q })
+
+record InScopes (newer : List ℕ) (ss : List Scope) (l : Lack) : Type 0 where
+  scope : Scope
+  listed : List·Memᴰ scope ss
+  found : InRows (scope .kind) (scope .code) (scopeRows newer (scope .kind) (scope .code)) (scope .rows) l
+
+in-scopes : (newer : List ℕ) (ss : List Scope) (l : Lack) → scopesLack newer ss ≡ some l → InScopes newer ss l
+unfolding scopesLack
+in-scopes newer [] l e = absurd (none-some e)
+in-scopes newer (s ∷ ss) l e = go (rowsLack (s .kind) (s .code) (scopeRows newer (s .kind) (s .code)) (s .rows)) refl e (in-scopes newer ss l)
+  where
+    go : (o : Option Lack) → rowsLack (s .kind) (s .code) (scopeRows newer (s .kind) (s .code)) (s .rows) ≡ o → orElse o (scopesLack newer ss) ≡ some l
+        → (scopesLack newer ss ≡ some l → InScopes newer ss l) → InScopes newer (s ∷ ss) l
+    go none q h rec = let i = rec h in record { scope = i .scope; listed = List·Memᴰ·tail (i .listed); found = i .found }
+    go (some x) q h rec = record { scope = s; listed = List·Memᴰ·head refl; found = in-rows (s .kind) (s .code) (scopeRows newer (s .kind) (s .code)) (s .rows) l (q ∙ h) }
+
+pub found-lacks : (older newer : List ℕ) (l : Lack) → scopesLack newer (scopes older) ≡ some l → Lacks older newer l
+unfolding rowOf
+found-lacks older newer l e =
+    let i = in-scopes newer (scopes older) l e in
+    let f = i .found in
+    record {
+      held = record { scope = i .scope; listed = i .listed; its-kind = sym (f .its-kind); its-code = sym (f .its-code); row = f .row };
+      looked-up = f .other ∙ (λ j. find (isTied (l .row .id)) (scopeRows newer (sym (f .its-kind) j) (sym (f .its-code) j)));
+      other-row = λ q. true≢false (sym (row-itself (l .row)) ∙ sym (ap (foundSame (l .row)) q) ∙ f .not-held);
+    }

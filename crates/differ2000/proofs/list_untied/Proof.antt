@@ -27,7 +27,7 @@ returns c =
     let start : tie.Start = search in
     let showed : tie.After-property = search in
     let large : tie.Then1 = search in
-    not-learnt (start .pre) (showed .property .ensures) _ (large .if1 .taken)
+    not-learnt (start .pre) (showed .property .ensures) _ (omega (arith, large .if1 .taken))
 
 cast-put-fit : tie.Need-cast-put-fit
 cast-put-fit c =

@@ -9,7 +9,7 @@ use denote.Ref.{now}
 use lib.ListN.{length}
 use Rattle.rules.specs.CodeTable.{wellFormed}
 use Rattle.rules.specs.Differences.{succeeds}
-use Rattle.differences.proofs.Exits.{Seen, seen-some, seen-none, five, eight-older, eight-newer, nineteen, four, stream-ready, by-2000, by-later}
+use Rattle.differences.proofs.Exits.{seen-some, seen-none, five, eight-older, eight-newer, nineteen, four, stream-ready, by-2000, by-later}
 use Rattle.differences.proofs.differences.Statement.{statement}
 use Rattle.differences.proofs.differences.Tie as tie
 
