@@ -44,9 +44,9 @@ END
 # `N` is a number of rows.
 rows_of() { # OPTION N
     case ${2-} in
-    '' | *[!0-9]* | 0?* | ???????????*) wrong_use "$1 wants a number of rows behind it, up to $most" ;;
+    '' | *[!0-9]* | 0?* | ???????????*) wrong_use "$1 wants a number of rows after it, up to $most" ;;
     esac
-    [ "$2" -le "$most" ] || wrong_use "$1 wants a number of rows behind it, up to $most"
+    [ "$2" -le "$most" ] || wrong_use "$1 wants a number of rows after it, up to $most"
 }
 
 verb_option() {
@@ -56,13 +56,13 @@ verb_option() {
         table=${2-}
         ;;
     --controls)
-        [ "$left" -ge 2 ] || wrong_use "--controls wants a number of rows behind it"
+        [ "$left" -ge 2 ] || wrong_use "--controls wants a number of rows after it"
         rows_of "$@"
         used=2
         controls=$2
         ;;
     --properties)
-        [ "$left" -ge 2 ] || wrong_use "--properties wants a number of rows behind it"
+        [ "$left" -ge 2 ] || wrong_use "--properties wants a number of rows after it"
         rows_of "$@"
         used=2
         properties=$2
