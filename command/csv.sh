@@ -18,7 +18,8 @@ verb_usage() {
 The text is that of RFC 4180: the header record control,type,property,word,value, then a record for each property, each with CR LF after it.
 control: the control's number, from 0; type: its type code in hex; both are empty for the object's own properties.
 property: its name, or its id in hex where that has no name; word: the kind of value, as ./oskuramos list says it; value: as listed, but a text
-whole, as UTF-8, and bytes in hex. A field with a comma, a quote, CR or LF stands in quotes, and may so go over several lines.
+whole, as UTF-8, and bytes in hex. Tell the spreadsheet that the text is UTF-8 and all columns are text: it would else take the type 0098 for
+the number 98, and the bytes 010203 for 10203. A field with a comma, a quote, CR or LF stands in quotes, and may so go over several lines.
 Several Blobs make one text with one header record; only with --file do the records say from which Blob they are. The numbers of controls
 begin anew with each. One that is refused is told, and doesn't stop the others; where all are, no text is written.
 A Blob has at most 4,194,304 bytes, 16,384 controls and 262,144 properties, and its text 33,554,432 bytes.
