@@ -27,6 +27,7 @@ use Rattle.rules.specs.Rewrite.{rewriteExit}
 use Rattle.rules.specs.Pairing.{PairExit, pairExit}
 use Rattle.rules.specs.Csv.{crlf, allFields, sheetOf, countable, spansFrom, CsvExit, csvExit, Fields, FieldsExit, fieldsOf, fieldsBy, fieldsExit}
 use Rattle.rules.specs.Panel.{panelExit}
+use Rattle.rules.specs.Differences.{DifferencesExit}
 use Rattle.rules.specs.NamePart.{partBytes}
 use Rattle.rules.specs.Totals.{Total}
 use Rattle.rules.specs.declared.Totals.{Totals}
@@ -65,6 +66,7 @@ use Rattle.pairing.proofs.pair.Met as pair-code
 use Rattle.csvread.proofs.read_csv.Met as read-csv-code
 use Rattle.csvwrite.proofs.write_csv.Met as write-csv-code
 use Rattle.panel.proofs.check_panel.Met as check-panel-code
+use Rattle.differences.proofs.differences.Met as differences-code
 use Rattle.blob.proofs.read_blob.Met as read-blob-code
 use Rattle.blob.proofs.read_2000.Met as read-2000-code
 use Rattle.blob.proofs.read_later.Met as read-later-code
@@ -79,6 +81,7 @@ use Rattle.oskuramos.proofs.oskuramos_write_csv.Met as exported-write-csv-code
 use Rattle.oskuramos.proofs.oskuramos_check_panel.Met as exported-check-panel-code
 use Rattle.oskuramos.proofs.oskuramos_well_formed.Met as exported-well-formed-code
 use Rattle.oskuramos.proofs.oskuramos_join.Met as exported-join-code
+use Rattle.oskuramos.proofs.oskuramos_differences.Met as exported-differences-code
 use Rattle.oskuramos.proofs.oskuramos_rewrite.Met as exported-rewrite-code
 use Rattle.oskuramos.proofs.oskuramos_room.Met as exported-room-code
 use Rattle.oskuramos.proofs.oskuramos_room_2000.Met as exported-room-2000-code
@@ -126,6 +129,7 @@ use Rattle.oskuramos.proofs.oskuramos_check_panel.Reads as exported-check-panel
 use Rattle.oskuramos.proofs.oskuramos_guid_text.Reads as exported-guid-text-clauses
 use Rattle.oskuramos.proofs.oskuramos_label_text.Reads as exported-label-text-clauses
 use Rattle.oskuramos.proofs.oskuramos_join.Reads as exported-join-clauses
+use Rattle.oskuramos.proofs.oskuramos_differences.Reads as exported-differences-clauses
 use Rattle.oskuramos.proofs.oskuramos_rewrite.Reads as exported-rewrite-clauses
 use Rattle.oskuramos.proofs.oskuramos_count_blob.Met as exported-count-blob-code
 use Rattle.calls.specs.Functions as f
@@ -139,6 +143,8 @@ use Rattle.claims.proofs.Demand3.{demand3}
 use Rattle.claims.proofs.Readers.{wish8}
 use Rattle.claims.proofs.Joining.{wish9, wish12}
 use Rattle.calls.proofs.JoiningCalls.{join-of, plans-carried}
+use Rattle.calls.specs.DifferingCalls.{ListDifferences}
+use Rattle.calls.proofs.DifferingCalls.{differences-of, differences-read}
 use Rattle.calls.specs.CountCalls.{streamOf, CountBlob}
 use Rattle.calls.proofs.CountCalls as counting
 use Rattle.calls.proofs.CountCalls.{count-of}
@@ -148,6 +154,7 @@ use Rattle.claims.proofs.CutNames.{wish6}
 use Rattle.claims.proofs.Pairing.{wish2}
 use Rattle.claims.proofs.Spreadsheet.{wish7}
 use Rattle.claims.proofs.Panels.{wish11, panel-unchanged}
+use Rattle.claims.proofs.Differing.{differences as all-differences}
 use Rattle.claims.proofs.RowChecks.{row-checks}
 use Rattle.claims.proofs.Nesting.{nesting}
 use Rattle.claims.proofs.Characters.{wish5}
@@ -772,6 +779,49 @@ crates-panel-one κs a r r′ x y p q = (ap (λ e. e .answer) (p ∙ sym q), λ 
 exported-panel-one : OneResult (f.exported .check-panel .function)
 exported-panel-one κs a r r′ x y p q = (p .0 ∙ sym (q .0), λ i. (tt, (tt, ((p .1 .0 ∙ sym (q .1 .0)) i, ((p .1 .1 ∙ sym (q .1 .1)) i, tt)))))
 
+-- ---- differences
+list-differences : (g : Fn f.Differ DifferencesExit) → Proved g differences-of → OneResult (g .function) → ((a : f.Differ) → (c : Call g) × (handed c ≡ a)) → ListDifferences g
+list-differences g p one allows = record {
+  met = p .met;
+  is-exit = every g differences-of p _ (λ a. refl);
+  answers = every g differences-of p _ (λ a. all-differences .answers (a .older) (a .newer) (a .stream) (a .rows));
+  rows-stay = every g differences-of p _ (λ a. all-differences .rows-stay (a .older) (a .newer) (a .stream) (a .rows));
+  after = every g differences-of p _ (λ a. all-differences .after (a .older) (a .newer) (a .stream) (a .rows));
+  later = every g differences-of p _ (λ a. all-differences .later (a .older) (a .newer) (a .stream) (a .rows));
+  one-result = one;
+  allows = allows;
+}
+
+crates-differences : Proved (f.crates .differences) differences-of
+crates-differences = record {
+  met = λ w. differences-code.met (w .𝓤) (w .H) (w .𝓜) (w .𝓖) (w .𝓡);
+  told = λ κs a r e q. q;
+}
+
+exported-differences : Proved (f.exported .differences) differences-of
+exported-differences = record {
+  met = told (f.exported .differences .function) (λ w κs a r e. exported-differences-clauses.ensures κs a tt r e w) _ (λ w κs a r e. both-facts (w .𝓤) _ _) (λ w. exported-differences-code.met (w .𝓤) (w .H) (w .𝓜) (w .𝓖) (w .𝓡));
+  told = λ κs a r e q i. record { answer = f.takenAnswer (q .0 i); rows = q .1 i };
+}
+
+abbrev differ-args : f.Differ → RefT (List ℕ) × (RefT (List ℕ) × (RefT (List ℕ) × (RefT (List ℕ) × Unit {0})))
+differ-args a = (somewhere (a .older), (somewhere (a .newer), (somewhere (a .stream), (somewhere (a .rows), tt))))
+
+abbrev differ-left : f.Differ → Unit {0} × (Unit {0} × (Unit {0} × (List ℕ × Unit {0})))
+differ-left a = (tt, (tt, (tt, (differences-of a .rows, tt))))
+
+crates-differ-allows : (a : f.Differ) → (c : Call (f.crates .differences)) × (handed c ≡ a)
+crates-differ-allows a = (record { κs = lifetimes; args = differ-args a; result = differences-of a .answer; left = differ-left a; allowed = refl }, refl)
+
+exported-differ-allows : (a : f.Differ) → (c : Call (f.exported .differences)) × (handed c ≡ a)
+exported-differ-allows a = (record { κs = lifetimes; args = differ-args a; result = handedAnswer (differences-of a .answer); left = differ-left a; allowed = (refl, refl) }, refl)
+
+crates-differ-one : OneResult (f.crates .differences .function)
+crates-differ-one κs a r r′ x y p q = (ap (λ e. e .answer) (p ∙ sym q), λ i. (tt, (tt, (tt, ((p ∙ sym q) i .rows, tt)))))
+
+exported-differ-one : OneResult (f.exported .differences .function)
+exported-differ-one κs a r r′ x y p q = (p .0 ∙ sym (q .0), λ i. (tt, (tt, (tt, ((p .1 ∙ sym (q .1)) i, tt)))))
+
 -- ---- count_blob
 count-blobs : (g : Fn f.Count Totalled) → Proved g count-of → OneResult (g .function) → ((a : f.Count) → (c : Call g) × (handed c ≡ a)) → CountBlob g
 count-blobs g p one allows = record {
@@ -828,6 +878,8 @@ of-crates = record {
   written-read-back = written-read-back (f.crates .write-csv) (f.crates .read-csv) crates-write-csv crates-read-csv;
   check-panel = check-panels (f.crates .check-panel) crates-check-panel crates-panel-one crates-panel-allows;
   panel-reads = panel-reads (f.crates .read-blob) (f.crates .check-panel) crates-read-blob crates-check-panel;
+  differences = list-differences (f.crates .differences) crates-differences crates-differ-one crates-differ-allows;
+  differences-read = differences-read (f.crates .read-blob) (call-told (f.crates .read-blob) exit-of crates-read-blob) crates-allows (f.crates .differences) (call-told (f.crates .differences) differences-of crates-differences);
   count-blob = count-blobs (f.crates .count-blob) crates-count-blob (λ κs a r r′ x y p q. (p .0 ∙ sym (q .0), λ i. ((p .1 ∙ sym (q .1)) i, (tt, (tt, (tt, (tt, tt))))))) crates-count-allows;
   counts-agree = counting.agree (f.crates .count-blob) (call-told (f.crates .count-blob) count-of crates-count-blob) (f.crates .read-blob) (call-told (f.crates .read-blob) exit-of crates-read-blob);
   guid-text = guid-texts (f.crates .guid-text) (record {
@@ -900,6 +952,8 @@ of-exported = record {
   written-read-back = written-read-back (f.exported .write-csv) (f.exported .read-csv) exported-write-csv exported-read-csv;
   check-panel = check-panels (f.exported .check-panel) exported-check-panel exported-panel-one exported-panel-allows;
   panel-reads = panel-reads (f.exported .read-blob) (f.exported .check-panel) exported-read-blob exported-check-panel;
+  differences = list-differences (f.exported .differences) exported-differences exported-differ-one exported-differ-allows;
+  differences-read = differences-read (f.exported .read-blob) (call-told (f.exported .read-blob) exit-of exported-read-blob) exported-allows (f.exported .differences) (call-told (f.exported .differences) differences-of exported-differences);
   count-blob = count-blobs (f.exported .count-blob) exported-count-blob (λ κs a r r′ x y p q. (p .0 ∙ sym (q .0), λ i. ((p .1 ∙ sym (q .1)) i, (tt, (tt, (tt, (tt, tt))))))) exported-count-allows;
   counts-agree = counting.agree (f.exported .count-blob) (call-told (f.exported .count-blob) count-of exported-count-blob) (f.exported .read-blob) (call-told (f.exported .read-blob) exit-of exported-read-blob);
   guid-text = guid-texts (f.exported .guid-text) (record {

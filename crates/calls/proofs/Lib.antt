@@ -4,4 +4,5 @@ pub mod Always
 pub mod LentBytes
 pub mod JoiningCalls
 pub mod CountCalls
+pub mod DifferingCalls
 pub mod Calls

@@ -63,6 +63,7 @@ use Rattle.claims.specs.Nesting.{Nested, Lists2000, ListsLater}
 use Rattle.claims.specs.Characters.{Formed}
 use Rattle.calls.specs.Always.{Always, OneResult, Fn, Every, Gives, Call, handed, seen}
 use Rattle.calls.specs.JoiningCalls.{PlansCarried}
+use Rattle.calls.specs.DifferingCalls.{ListDifferences, DifferencesRead}
 use Rattle.calls.specs.CountCalls.{CountBlob, CountsAgree}
 use Rattle.calls.specs.Functions.{
   Blob,
@@ -464,6 +465,9 @@ pub record Promised (i : Interface) : Type 2 where
   pub written-read-back : WrittenReadBack (i .write-csv) (i .read-csv)
   pub check-panel : CheckPanel (i .check-panel)
   pub panel-reads : PanelReads (i .read-blob) (i .check-panel)
+  -- what a newer table changes (DifferingCalls)
+  pub differences : ListDifferences (i .differences)
+  pub differences-read : DifferencesRead (i .read-blob) (i .differences)
   -- wish 4 (CountCalls)
   pub count-blob : CountBlob (i .count-blob)
   pub counts-agree : CountsAgree (i .read-blob) (i .count-blob)

@@ -15,6 +15,7 @@ use Rattle.rules.specs.TypeInfo.{TypeInfoExit}
 use Rattle.rules.specs.Blob.{Exit}
 use Rattle.rules.specs.Pairing.{PairExit}
 use Rattle.rules.specs.Csv.{CsvExit, FieldsExit}
+use Rattle.rules.specs.Differences.{DifferencesExit}
 use Rattle.rules.specs.Totals.{totalsExit}
 use Rattle.rules.specs.declared.Totals.{Totals}
 use Rattle.rules.specs.declared.Totalled.{Totalled}
@@ -46,6 +47,7 @@ use Rattle.pairing.proofs.pair as pair
 use Rattle.csvread.proofs.read_csv as read_csv
 use Rattle.csvwrite.proofs.write_csv as write_csv
 use Rattle.panel.proofs.check_panel as check_panel
+use Rattle.differences.proofs.differences as differences
 use Rattle.blob.proofs.read_blob as read_blob
 use Rattle.blob.proofs.read_2000 as «read_2000»
 use Rattle.blob.proofs.read_later as read_later
@@ -66,6 +68,7 @@ use Rattle.oskuramos.proofs.oskuramos_read_csv as oskuramos_read_csv
 use Rattle.oskuramos.proofs.oskuramos_write_csv as oskuramos_write_csv
 use Rattle.oskuramos.proofs.oskuramos_well_formed as oskuramos_well_formed
 use Rattle.oskuramos.proofs.oskuramos_join as oskuramos_join
+use Rattle.oskuramos.proofs.oskuramos_differences as oskuramos_differences
 use Rattle.oskuramos.proofs.oskuramos_rewrite as oskuramos_rewrite
 use Rattle.oskuramos.proofs.oskuramos_count_blob as oskuramos_count_blob
 use Rattle.oskuramos.proofs.oskuramos_room as oskuramos_room
@@ -165,6 +168,16 @@ blob-text a = record {
   properties = now (a .1 .1 .1 .0);
   out = now (a .1 .1 .1 .1 .0);
 }
+
+-- (older, newer, stream, rows)
+pub record Differ : Type 0 where
+  pub older : List ℕ
+  pub newer : List ℕ
+  pub stream : List ℕ
+  pub rows : List ℕ
+
+abbrev differ : Slice × (Slice × (Slice × (Slice × End))) → Differ
+differ a = record { older = now (a .0); newer = now (a .1 .0); stream = now (a .1 .1 .0); rows = now (a .1 .1 .1 .0) }
 
 -- (totals, table, stream, control_room, property_room)
 pub record Count : Type 0 where
@@ -305,6 +318,9 @@ fields-exit r e = record { answer = r; rows = sheet e .fields; out = sheet e .ou
 abbrev csv-exit : Answer → Slice × (Slice × (Slice × (Slice × (Slice × End)))) → CsvExit
 csv-exit r e = record { answer = r; controls = blob-text e .controls; properties = blob-text e .properties; out = blob-text e .out }
 
+abbrev differences-exit : Answer → Slice × (Slice × (Slice × (Slice × End))) → DifferencesExit
+differences-exit r e = record { answer = r; rows = differ e .rows }
+
 abbrev count-exit : Answer → RefT Totals × (Slice × (Slice × (ℕ × (ℕ × End)))) → Totalled
 count-exit r e = record { answer = r; totals = counting e .totals }
 
@@ -346,6 +362,7 @@ pub record Interface : Type 2 where
   pub read-csv : Fn Sheet FieldsExit
   pub write-csv : Fn BlobText CsvExit
   pub check-panel : Fn Blob Exit
+  pub differences : Fn Differ DifferencesExit
   pub count-blob : Fn Count Totalled
   pub well-formed : Fn (List ℕ) Bool
   pub room : Fn ℕ Room
@@ -408,6 +425,11 @@ crates = record {
     function = record { ended = check_panel.ended; routine = check_panel.Symbol.routine; says = check_panel.Reads.Learnt };
     handed = λ κs a. blob a;
     seen = λ κs r e. blob-exit r e;
+  };
+  differences = record {
+    function = record { ended = differences.ended; routine = differences.Symbol.routine; says = differences.Reads.Learnt };
+    handed = λ κs a. differ a;
+    seen = λ κs r e. differences-exit r e;
   };
   count-blob = record {
     function = record { ended = count_blob.ended; routine = count_blob.Symbol.routine; says = λ κs a r e. (r ≡ counted-by (counting a) .answer) × (now (e .0) ≡ counted-by (counting a) .totals) };
@@ -548,6 +570,11 @@ exported = record {
     function = record { ended = oskuramos_check_panel.ended; routine = oskuramos_check_panel.Symbol.routine; says = oskuramos_check_panel.Reads.Learnt };
     handed = λ κs a. blob a;
     seen = λ κs r e. blob-exit (takenAnswer r) e;
+  };
+  differences = record {
+    function = record { ended = oskuramos_differences.ended; routine = oskuramos_differences.Symbol.routine; says = oskuramos_differences.Reads.Learnt };
+    handed = λ κs a. differ a;
+    seen = λ κs r e. differences-exit (takenAnswer r) e;
   };
   count-blob = record {
     function = record { ended = oskuramos_count_blob.ended; routine = oskuramos_count_blob.Symbol.routine; says = λ κs a r e. (r ≡ handedAnswer (counted-by (counting a) .answer)) × (now (e .0) ≡ counted-by (counting a) .totals) };

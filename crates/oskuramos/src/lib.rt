@@ -4,6 +4,7 @@ use totals::totalled;
 ghost use mathlib.Core.Path.{_≡_};
 ghost use Rattle.rules.specs.Blob.{exit, exit2000, exitLater};
 ghost use Rattle.rules.specs.CodeTable.{wellFormed};
+ghost use Rattle.rules.specs.Differences.{differencesExit};
 ghost use Rattle.rules.specs.Join.{joinExit};
 ghost use Rattle.rules.specs.NamePart.{namePart};
 ghost use Rattle.rules.specs.NameTables.{textNames, numberNames, bytesNames, controlTypeNames};
@@ -322,6 +323,20 @@ pub extern "C" fn oskuramos_join(one: &[u8], other: &[u8], out: &mut [u8]) -> An
     ensures { λ _. ⌜ now (out .exit) ≡ joinExit (now (one .entry)) (now (other .entry)) (now (out .entry)) .out ⌝ }
 {
     handed_answer(join::join(one, other, out))
+}
+
+// ---- what a newer code table changes
+#[no_mangle]
+pub extern "C" fn oskuramos_differences(
+    older: &[u8],
+    newer: &[u8],
+    stream: &[u8],
+    rows: &mut [u32],
+) -> Answer
+    ensures { λ r. ⌜ r ≡ handedAnswer (differencesExit (now (older .entry)) (now (newer .entry)) (now (stream .entry)) (now (rows .entry)) .answer) ⌝ }
+    ensures { λ _. ⌜ now (rows .exit) ≡ differencesExit (now (older .entry)) (now (newer .entry)) (now (stream .entry)) (now (rows .entry)) .rows ⌝ }
+{
+    handed_answer(differences::differences(older, newer, stream, rows))
 }
 
 // ---- an Access 2000 stream in its short spelling
