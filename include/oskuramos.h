@@ -44,7 +44,7 @@ enum {
     OSKURAMOS_TOO_MANY_ENTRIES = 3, /* its count at 12 is above (length - 32) / 8 */
     OSKURAMOS_NO_READING = 4,       /* an Access 2000 stream fits no reading */
     OSKURAMOS_TOO_LONG = 5,         /* a stream over OSKURAMOS_LONGEST bytes */
-    OSKURAMOS_MORE_CONTROLS = 6,    /* more control rows needed than lent (TypeInfo: more rows) */
+    OSKURAMOS_MORE_CONTROLS = 6,    /* more control rows needed than lent (TypeInfo, differences: more rows) */
     OSKURAMOS_MORE_PROPERTIES = 7,  /* more property rows needed than lent */
     OSKURAMOS_BAD_TABLE = 8,        /* the code table isn't well formed */
     OSKURAMOS_NO_ROOM_FOR_TEXT = 9, /* the buffer for text, a joined code table or a rewritten stream is too short */
@@ -56,7 +56,8 @@ enum {
     OSKURAMOS_OTHER_LAYOUT = 15,    /* a reader for one layout is given a stream that speaks for the other */
     OSKURAMOS_OTHER_HEAD = 16,      /* two code tables differ in layout byte or header codes */
     OSKURAMOS_TWO_ROWS = 17,        /* two code tables have different rows for one scope and id */
-    OSKURAMOS_TOO_MANY_SCOPES = 18  /* two code tables have more than 64 scopes together */
+    OSKURAMOS_TOO_MANY_SCOPES = 18, /* two code tables have more than 64 scopes together */
+    OSKURAMOS_NO_SUCCESSOR = 19     /* the newer code table hasn't the older's layout byte and header codes and every row of it */
 };
 
 /* The number and three counts. Every refusal but 6 and 7 has counts 0; these two say how many rows are needed. */
@@ -261,6 +262,29 @@ bool oskuramos_well_formed(const uint8_t *table, size_t table_length);
    A buffer of both lengths together is enough, and one of OSKURAMOS_TABLE_LONGEST for any two. It may not be one of the tables. */
 oskuramos_answer oskuramos_join(const uint8_t *one, size_t one_length, const uint8_t *other, size_t other_length, uint8_t *out,
                                 size_t out_length);
+
+/* The words of a row of differences. */
+enum {
+    OSKURAMOS_DIFFERENCE_PROPERTY = 0, /* the number of the property row */
+    OSKURAMOS_DIFFERENCE_CONTROL = 1,  /* of the control row, OSKURAMOS_NO_CONTROL for the object's own */
+    OSKURAMOS_DIFFERENCE_CODE = 2,     /* the raw code */
+    OSKURAMOS_DIFFERENCE_SCOPE_KIND = 3, /* 0 form, 1 report, 2 entries of a type */
+    OSKURAMOS_DIFFERENCE_SCOPE_CODE = 4, /* that type, else 0 */
+    OSKURAMOS_DIFFERENCE_OLDER_ID = 5,
+    OSKURAMOS_DIFFERENCE_NEWER_ID = 6,
+    OSKURAMOS_DIFFERENCE_NEWER_MARK = 7,
+    OSKURAMOS_DIFFERENCE_START = 8,
+    OSKURAMOS_DIFFERENCE_LENGTH = 9,
+    OSKURAMOS_DIFFERENCE_WORDS = 10
+};
+
+#define OSKURAMOS_NO_CONTROL UINT32_C(0xFFFFFFFF)
+
+/* Lists the properties of a Blob whose rows under the newer code table differ from those under the older, in row order. Answers 0 with how many they are and how
+   many properties the Blob has, or 5, 8 where either table isn't well formed, 19, 4, 6, tried in this order; 6 has the same two counts. Where none is
+   listed the two readings are word for word the same. A Blob of the later layout has none. Words after the list keep their values. */
+oskuramos_answer oskuramos_differences(const uint8_t *older, size_t older_length, const uint8_t *newer, size_t newer_length,
+                                       const uint8_t *stream, size_t stream_length, uint32_t *rows, size_t rows_length);
 
 /* ---- one spelling for an archive */
 /* Writes an Access 2000 stream anew in its shortest spelling: each length up to 254 in one byte, and 0xFE for a list of one entry. All else is kept:

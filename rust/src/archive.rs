@@ -80,6 +80,10 @@ extern "C" {
     fn oskuramos_join(
         one: *const u8, one_length: usize, other: *const u8, other_length: usize, out: *mut u8, out_length: usize,
     ) -> Answer;
+    fn oskuramos_differences(
+        older: *const u8, older_length: usize, newer: *const u8, newer_length: usize, stream: *const u8, stream_length: usize,
+        rows: *mut u32, rows_length: usize,
+    ) -> Answer;
     fn oskuramos_write_csv(
         table: *const u8, table_length: usize, stream: *const u8, stream_length: usize,
         controls: *mut u32, controls_length: usize, properties: *mut u32, properties_length: usize, out: *mut u8, out_length: usize,
@@ -150,6 +154,11 @@ pub fn well_formed(table: &[u8]) -> bool {
 
 pub fn join(one: &[u8], other: &[u8], out: &mut [u8]) -> Answer {
     unsafe { oskuramos_join(one.as_ptr(), one.len(), other.as_ptr(), other.len(), out.as_mut_ptr(), out.len()) }
+}
+
+pub fn differences(older: &[u8], newer: &[u8], stream: &[u8], rows: &mut [u32]) -> Answer {
+    let (o, n, s) = ((older.as_ptr(), older.len()), (newer.as_ptr(), newer.len()), (stream.as_ptr(), stream.len()));
+    unsafe { oskuramos_differences(o.0, o.1, n.0, n.1, s.0, s.1, rows.as_mut_ptr(), rows.len()) }
 }
 
 pub fn write_csv(table: &[u8], stream: &[u8], controls: &mut [u32], properties: &mut [u32], out: &mut [u8]) -> Answer {

@@ -181,10 +181,14 @@ pub enum Scope {
 
 impl Scope {
     fn of(head: &[u8]) -> Scope {
-        match head[scope::KIND] {
+        Scope::new(head[scope::KIND], u16_at(head, scope::CODE))
+    }
+
+    pub(crate) fn new(kind: u8, code: u16) -> Scope {
+        match kind {
             scope::FORM => Scope::Form,
             scope::REPORT => Scope::Report,
-            _ => Scope::Entry(u16_at(head, scope::CODE)),
+            _ => Scope::Entry(code),
         }
     }
 }

@@ -12,6 +12,10 @@ pub const NO_TYPE: u32 = 0xFFFF_FFFF;
 pub const PROPERTY_WORDS: usize = 6;
 /// Words of a row of TypeInfo.
 pub const TYPE_INFO_WORDS: usize = 5;
+/// Words of a row of differences.
+pub const DIFFERENCE_WORDS: usize = 10;
+/// The control row of a difference among the object's own properties.
+pub const NO_CONTROL: u32 = 0xFFFF_FFFF;
 /// Shorter TypeInfo is refused.
 pub const TYPE_INFO_SHORTEST: usize = 32;
 /// A longer stream is refused.
@@ -64,6 +68,7 @@ pub mod answer {
     pub const OTHER_HEAD: u32 = 16;
     pub const TWO_ROWS: u32 = 17;
     pub const TOO_MANY_SCOPES: u32 = 18;
+    pub const NO_SUCCESSOR: u32 = 19;
 }
 
 /// Rules of panels.

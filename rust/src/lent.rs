@@ -6,11 +6,11 @@
 use crate::archive;
 use crate::format::OF_STREAM;
 pub use crate::format::{
-    CONTROL_WORDS, FIELD_WORDS, GUID_TEXT, LABEL_LONGEST, LONGEST, NAME_ROOM, NO_PARENT, NO_TYPE, PROPERTY_WORDS, RECORD_FIELDS, STACK,
-    TABLE_LONGEST, TYPE_INFO_WORDS,
+    CONTROL_WORDS, DIFFERENCE_WORDS, FIELD_WORDS, GUID_TEXT, LABEL_LONGEST, LONGEST, NAME_ROOM, NO_CONTROL, NO_PARENT, NO_TYPE,
+    PROPERTY_WORDS, RECORD_FIELDS, STACK, TABLE_LONGEST, TYPE_INFO_WORDS,
 };
 use crate::panel::Panel;
-use crate::refused::{of_blob, of_blob_text, of_paired, of_panel, of_sheet, of_type_info, of_written, Counts, Refused};
+use crate::refused::{of_blob, of_blob_text, of_differences, of_paired, of_panel, of_sheet, of_type_info, of_written, Counts, Refused};
 
 /// Type code, name mark, name start, name length, first property row, property count, level, and the parent's row, [`NO_PARENT`] at level 0.
 pub type ControlRow = [u32; CONTROL_WORDS];
@@ -18,6 +18,9 @@ pub type ControlRow = [u32; CONTROL_WORDS];
 pub type PropertyRow = [u32; PROPERTY_WORDS];
 /// Type code, index, name start, name length, and 1 where the stream's end cut the name.
 pub type TypeInfoRow = [u32; TYPE_INFO_WORDS];
+
+/// Property row, control row ([`NO_CONTROL`] for the object's own), raw code, scope kind, scope code, older id, newer id, newer mark, start, length.
+pub type DifferenceRow = [u32; DIFFERENCE_WORDS];
 
 /// Where a field's bytes start, and how many they are.
 pub type FieldRow = [u32; FIELD_WORDS];
@@ -107,6 +110,12 @@ pub fn label_text(n: u32, out: &mut [u8]) -> Result<usize, Refused> {
 /// Bytes after it keep their values. [`CodeTable::join`](crate::CodeTable::join) does the same with room of its own.
 pub fn join(one: &[u8], other: &[u8], out: &mut [u8]) -> Result<usize, Refused> {
     of_written(archive::join(one, other, out))
+}
+
+/// Lists the properties whose rows under the newer code table differ from those under the older. Returns how many they are, and how many properties the Blob
+/// has. Rows after them keep their words. [`differences`](crate::differences()) does the same with room of its own.
+pub fn differences(older: &[u8], newer: &[u8], stream: &[u8], rows: &mut [DifferenceRow]) -> Result<(usize, usize), Refused> {
+    of_differences(archive::differences(older, newer, stream, rows.as_flattened_mut()))
 }
 
 /// Reads a Blob by a code table into rows, and writes its properties as comma-separated text; says how many bytes that has. A refusal, also

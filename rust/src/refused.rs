@@ -42,7 +42,7 @@ pub enum Refused {
     TooLong,
     /// 6: more control rows are needed than were lent; the counts needed.
     MoreControls(Counts),
-    /// 6: more rows of TypeInfo are needed than were lent; how many.
+    /// 6: more rows of TypeInfo, or of differences, are needed than were lent; how many.
     MoreRows(usize),
     /// 7: more property rows are needed than were lent; the counts needed.
     MoreProperties(Counts),
@@ -68,6 +68,8 @@ pub enum Refused {
     TwoRows,
     /// 18: two code tables have more than 64 scopes together.
     TooManyScopes,
+    /// 19: the newer code table hasn't the older's layout byte and header codes and every row of it.
+    NoSuccessor,
     /// The archive answered what that of this version never does: it is of another version than this crate. The number that it gave.
     OtherArchive(u32),
 }
@@ -94,6 +96,7 @@ impl Refused {
             Refused::OtherHead => answer::OTHER_HEAD,
             Refused::TwoRows => answer::TWO_ROWS,
             Refused::TooManyScopes => answer::TOO_MANY_SCOPES,
+            Refused::NoSuccessor => answer::NO_SUCCESSOR,
             Refused::OtherArchive(number) => number,
         }
     }
@@ -164,6 +167,9 @@ impl Display for Refused {
             Refused::TooManyScopes => {
                 write!(f, "the code tables have more than {} scopes together: no table holds so many", table::MOST_SCOPES)
             }
+            Refused::NoSuccessor => {
+                write!(f, "the newer code table doesn't hold every row of the older: see which rows were changed or taken back")
+            }
             Refused::OtherArchive(_) => write!(f, "the archive isn't of this crate's version, {}: build both from one", crate::VERSION),
         }
     }
@@ -192,6 +198,14 @@ pub(crate) fn of_type_info(a: archive::Answer) -> Result<usize, Refused> {
     match a.number {
         answer::MORE_CONTROLS => Err(Refused::MoreRows(a.first as usize)),
         number => of_others(number, a.first as usize),
+    }
+}
+
+/// How many differences there are, and properties, or why none are listed.
+pub(crate) fn of_differences(a: archive::Answer) -> Result<(usize, usize), Refused> {
+    match a.number {
+        answer::MORE_CONTROLS => Err(Refused::MoreRows(a.first as usize)),
+        number => of_others(number, (a.first as usize, a.second as usize)),
     }
 }
 
@@ -237,6 +251,7 @@ fn of_others<T>(number: u32, read: T) -> Result<T, Refused> {
         answer::OTHER_HEAD => Refused::OtherHead,
         answer::TWO_ROWS => Refused::TwoRows,
         answer::TOO_MANY_SCOPES => Refused::TooManyScopes,
+        answer::NO_SUCCESSOR => Refused::NoSuccessor,
         other => Refused::OtherArchive(other),
     })
 }

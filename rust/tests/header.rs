@@ -24,6 +24,7 @@ fn numbers_are_the_headers() {
         ("PROPERTY_WORDS", lent::PROPERTY_WORDS),
         ("TYPE_INFO_WORDS", lent::TYPE_INFO_WORDS),
         ("FIELD_WORDS", lent::FIELD_WORDS),
+        ("DIFFERENCE_WORDS", lent::DIFFERENCE_WORDS),
         ("RECORD_FIELDS", lent::RECORD_FIELDS),
         ("LONGEST", lent::LONGEST),
         ("GUID_LENGTH", lent::GUID_TEXT),
@@ -48,6 +49,7 @@ fn numbers_are_the_headers() {
     // an enum of C holds no number of 32 bits with the highest set
     assert!(header.contains(&format!("#define OSKURAMOS_NO_PARENT UINT32_C(0x{:08X})", lent::NO_PARENT)));
     assert!(header.contains(&format!("#define OSKURAMOS_NO_TYPE UINT32_C(0x{:08X})", lent::NO_TYPE)));
+    assert!(header.contains(&format!("#define OSKURAMOS_NO_CONTROL UINT32_C(0x{:08X})", lent::NO_CONTROL)));
     let refusals = [
         ("TOO_SHORT", Refused::TooShort),
         ("OTHER_MAGIC", Refused::OtherMagic),
@@ -68,6 +70,7 @@ fn numbers_are_the_headers() {
         ("OTHER_HEAD", Refused::OtherHead),
         ("TWO_ROWS", Refused::TwoRows),
         ("TOO_MANY_SCOPES", Refused::TooManyScopes),
+        ("NO_SUCCESSOR", Refused::NoSuccessor),
     ];
     for (name, refused) in refusals {
         assert_eq!(numbers[name], u64::from(refused.number()), "{name}");

@@ -681,6 +681,38 @@ static void values(void) {
     check(valued(oskuramos_value_as(1, 0xDC, letter, 1), OSKURAMOS_BINARY, 0, 0), "but not where they aren't UTF-16");
 }
 
+/* ---- what a newer code table changes: K1's table against one without its rows for 0x60, and against one without any */
+static const code_table no_rows = {4, {0x2A, 0, 0, 0}}, own_row = {13, {0x2A, 0, 1, 0, 0, 0, 0, 1, 0, 0x31, 0x94, 0, 0}};
+static const uint32_t learnt[20] = {1, 1, 0x60, 2, 0x64, 0x8060, 0x36, 2, 19, 2, 2, 1, 0xDC, 2, 0x64, 0x80DC, 0x14, 6, 23, 2};
+static const uint32_t own_learnt[10] = {0, OSKURAMOS_NO_CONTROL, 0x31, 0, 0, 0x8031, 0x94, 2, 11, 1};
+
+static bool differ(const code_table *older, const uint8_t *t, size_t t_length, size_t room, oskuramos_answer due, const uint32_t *rows, size_t size) {
+    words w;
+    oskuramos_answer a = oskuramos_differences(older->byte, older->length, t, t_length, blob, sizeof blob, lend_words(&w), room);
+    return is(a, due.number, due.first, due.second, due.third) && memcmp(w.word + GUARD, rows, size * sizeof *rows) == 0 && words_kept(&w, size);
+}
+
+static bool differ_refused(const code_table *older, const code_table *newer, const uint8_t *s, size_t s_length, uint32_t number) {
+    words w;
+    oskuramos_answer a = oskuramos_differences(older->byte, older->length, newer->byte, newer->length, s, s_length, lend_words(&w), ROOM);
+    return is(a, number, 0, 0, 0) && words_kept(&w, 0);
+}
+
+static void differing(const uint8_t *large) {
+    oskuramos_answer none = {0, 0, 3, 0}, one = {0, 1, 3, 0}, two = {0, 2, 3, 0}, needed = {6, 2, 3, 0};
+    code_table k1 = {sizeof table, {0}}, cut = {names_of_64.length - 1, {0}};
+    memcpy(k1.byte, table, sizeof table), memcpy(cut.byte, names_of_64.byte, cut.length);
+    check(differ(&names_of_64, table, sizeof table, 10, one, learnt, 10), "a code that the older table lacks: each word, with room to the word");
+    check(differ(&no_rows, table, sizeof table, ROOM, two, learnt, 20), "two codes, with much room: words beyond stay");
+    check(differ(&no_rows, own_row.byte, own_row.length, ROOM, one, own_learnt, 10), "a property of the form itself has no control");
+    check(differ(&k1, table, sizeof table, 0, none, learnt, 0), "no difference to the same table, and no room for one");
+    check(differ(&no_rows, table, sizeof table, 19, needed, learnt, 0), "6 with the rows needed for a word too few");
+    check(differ_refused(&k1, &names_of_64, blob, sizeof blob - 1, 19), "19 for a table that lacks a row of the older, before 4");
+    check(differ_refused(&names_of_64, &k1, blob, sizeof blob - 1, 4), "4 for a stream whose last byte is missing, with two tables");
+    check(differ_refused(&k1, &cut, blob, sizeof blob, 8) && differ_refused(&cut, &k1, blob, sizeof blob, 8), "8 for either table, before 19");
+    check(differ_refused(&cut, &k1, large, OSKURAMOS_LONGEST + 1, 5), "5 for 16,777,217 bytes, before 8, with two tables");
+}
+
 /* ---- empty slices by null */
 static void nulls(void) {
     check(oskuramos_read_blob(NULL, 0, NULL, 0, NULL, 0, NULL, 0).number == 8, "null for all that read_blob is lent");
@@ -694,6 +726,7 @@ static void nulls(void) {
     check(!oskuramos_well_formed(NULL, 0) && oskuramos_well_formed(table, sizeof table), "null for a code table");
     check(is(oskuramos_join(NULL, 0, NULL, 0, NULL, 0), 8, 0, 0, 0), "null for two tables, and no room");
     check(is(oskuramos_join(table, sizeof table, table, sizeof table, NULL, 0), 9, 0, 0, 0), "null for the joined table");
+    check(oskuramos_differences(NULL, 0, NULL, 0, NULL, 0, NULL, 0).number == 8, "null for all that differences is lent");
     check(oskuramos_write_csv(NULL, 0, NULL, 0, NULL, 0, NULL, 0, NULL, 0).number == 8, "null for all that write_csv is lent");
     check(is(oskuramos_rewrite(NULL, 0, NULL, 0), 4, 0, 0, 0), "null for a stream that is rewritten, and no room");
     check(oskuramos_guid_text(NULL, 0, NULL, 0).number == 10, "null for a GUID and its text");
@@ -718,6 +751,7 @@ int main(void) {
     totals(large);
     rooms();
     joinings();
+    differing(large);
     blob_texts(large);
     rewriting(large);
     texts();

@@ -79,6 +79,15 @@ static void well_formed(void) { answer.number = !oskuramos_well_formed(table, ta
 /* The longest table of its halves. */
 static void join(void) { answer = oskuramos_join(half[0], half_length, half[1], half_length, joined, sizeof joined); }
 
+/* A table without rows, and one with all: every property differs that the second ties. */
+static void differences(void) {
+    uint8_t none[64] = {0};
+    size_t head = 4 + 2 * (size_t)table[1];
+    memcpy(none, table, head < sizeof none ? head : sizeof none), none[2] = none[3] = 0;
+    answer = oskuramos_differences(none, head, table, table_length, stream, length, properties, 10 * 1000);
+    if (answer.number == OSKURAMOS_MORE_CONTROLS) answer.number = 0;
+}
+
 static void small_calls(void) {
     static uint8_t guid[16], out[OSKURAMOS_GUID_LENGTH];
     oskuramos_guid_text(guid, sizeof guid, out, sizeof out);
@@ -215,6 +224,8 @@ static void deepest_2000(void) {
             if (bytes > largest_alone) largest_alone = bytes;
             bytes = told(count_blob, NULL);
             expect(0, "a tree of Access 2000, counted");
+            told(differences, NULL);
+            expect(0, "differences of a tree of Access 2000");
             if (bytes > largest_counted) largest_counted = bytes;
         }
     told(count_csv, "write_csv without room, Access 2000, 256 levels");
@@ -236,6 +247,8 @@ int main(int argc, char **argv) {
     tree_later(false);
     told(read_blob, "read_blob, later layout, 256 levels");
     expect(0, "a tree of the later layout");
+    told(differences, "differences, later layout, 256 levels");
+    expect(0, "differences of a tree of the later layout");
     told(check_panel, "check_panel, later layout, 256 levels");
     expect(0, "a tree of the later layout, judged");
     told(count_blob, "count_blob, later layout, 256 levels");
