@@ -58,6 +58,10 @@ bool compare_rewrite(oskuramos_answer (*rewrite)(const uint8_t *, size_t, uint8_
 
 /* Reads so many random comma-separated texts of a seed by the library, and writes those that are read to a file; false where one differs. */
 bool compare_csv(oskuramos_answer (*read_csv)(const uint8_t *, size_t, uint32_t *, size_t, uint8_t *, size_t), size_t count, uint64_t seed, const char *file);
+/* Lists the differences of so many random triples of a seed, two code tables and a stream, by the library; false where one differs. */
+bool compare_differ(oskuramos_answer (*differences)(const uint8_t *, size_t, const uint8_t *, size_t, const uint8_t *, size_t, uint32_t *, size_t),
+                    size_t count, uint64_t seed);
+
 /* Judges so many random streams of a seed by the library's panel rules; false where one differs. */
 bool compare_panel(compare_read_blob_t *check, size_t count, uint64_t seed);
 

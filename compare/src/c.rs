@@ -2,7 +2,7 @@
 
 use crate::cases::Kind;
 use crate::form::{BlobProperty, ControlInfo, ControlProperties};
-use crate::{blob_texts, file::FileError, form, form2000, large, oracle, paired, pairs, panels, rewrites, sheets, speed, totals};
+use crate::{blob_texts, differ, file::FileError, form, form2000, large, oracle, paired, pairs, panels, rewrites, sheets, speed, totals};
 
 /// A stream, as C sees it.
 #[repr(C)]
@@ -137,6 +137,12 @@ pub unsafe extern "C" fn compare_csv(read_csv: sheets::ReadCsv, count: usize, se
         false
     })
 }
+/// Lists the differences of random triples of two tables and a stream by the library; false where one differs.
+#[no_mangle]
+pub extern "C" fn compare_differ(differences: differ::Differences, count: usize, seed: u64) -> bool {
+    differ::compare(differences, count, seed)
+}
+
 /// Judges random streams by the library's panel rules; false where one differs.
 #[no_mangle]
 pub extern "C" fn compare_panel(check: large::ReadBlob, count: usize, seed: u64) -> bool {

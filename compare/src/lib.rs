@@ -7,6 +7,7 @@ mod batch;
 mod blob_texts;
 pub mod c;
 mod cases;
+mod differ;
 mod expect;
 mod judge;
 mod large;

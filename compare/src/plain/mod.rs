@@ -5,6 +5,7 @@ pub mod access2000;
 pub mod blob_text;
 pub mod codes;
 pub mod csv;
+pub mod differences;
 pub mod join;
 pub mod later;
 pub mod pairing;
