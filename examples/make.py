@@ -133,11 +133,12 @@ def named_2000(type_code, name, inside=None):
     return entry(type_code, [sized(0xDC, text(name))], inside)
 
 
-def panel_2000():
+def panel_2000(bound=True):
+    bus_b = text_box_2000("txtVoltB", "VoltB", 900, 120) if bound else named_2000(TEXT_BOX, "txtVoltB")
     feeders = named_2000(OPTION_GROUP, "grpFeeder", [named_2000(OPTION_BUTTON, "optNorth"), named_2000(OPTION_BUTTON, "optSouth")])
     buses = named_2000(TAB_CONTROL, "tabBus", [
         named_2000(PAGE, "pagBusA", [label_2000("lblVoltA", "Bus A", 60, 120), text_box_2000("txtVoltA", "VoltA", 900, 120)]),
-        named_2000(PAGE, "pagBusB", [text_box_2000("txtVoltB", "VoltB", 900, 120)]),
+        named_2000(PAGE, "pagBusB", [bus_b]),
     ])
     top = [
         entry(LABEL, []),  # not reported
@@ -261,6 +262,7 @@ def main():
         (folder / f"{title}.blob").write_bytes(blob)
         (folder / f"{title}.input").write_bytes(u32(len(table)) + table + blob)
     (folder / "panel-2000.long").write_bytes(spelled_long(panel_2000))  # ./oskuramos rewrite makes panel-2000.blob of it
+    (folder / "panel-2000.unbound").write_bytes(panel_2000(bound=False))  # ./oskuramos check says no
     (folder / "form.typeinfo").write_bytes(type_info())
     (folder / "later-scan.typeinfo").write_bytes(later_type_info())
     (folder / "cut.typeinfo").write_bytes(type_info()[:-4])  # a copy that lost its tail, within the last name
