@@ -18,7 +18,7 @@ use node2000::type_code;
 use numbers::u16_at;
 use rules::LAST_ID;
 use rules::SCOPE_ENTRY;
-use run2000::property;
+use shown2000::property;
 use walk2000::Extent;
 use walk2000::Opens;
 use walk2000::head;
@@ -56,7 +56,7 @@ fn run_left(
         let Extent::At { start, size } = value(s, p) else {
             return Left { at: p, left };
         };
-        let shown = property(table, hints, body, s, id, start, size);
+        let shown = property(table, body, s, id, start, size);
         left = record_left(left, owner, index, letters, s, shown);
         p = start + size;
     }

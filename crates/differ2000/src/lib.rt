@@ -1,6 +1,5 @@
 // The properties of an Access 2000 stream that a newer code table shows otherwise than the older that it succeeds: one walk, two look-ups for each property. No row of a reading is kept.
 use codehints::HINTS;
-use codehints::find_row;
 use codehints::find_scope;
 use coderows::Body;
 use coderows::Row;
@@ -17,7 +16,8 @@ use rules::LAST_ID;
 use rules::SCOPE_ENTRY;
 use rules::UNMAPPED;
 use run2000::bit_or;
-use run2000::property;
+use shown2000::find_row;
+use shown2000::property;
 use walk2000::Extent;
 use walk2000::Opens;
 use walk2000::head;
@@ -115,7 +115,7 @@ fn list_untied(
     ensures { λ r. ⌜ l.UntiedDone (now (newer .entry)) scope (now (s .entry)) (now (rows .entry)) from p (now (rows .exit)) r ⌝ }
 {
     let body = scope.newer;
-    let shown = property(newer, hints, body, s, p.id, p.start, p.size);
+    let shown = property(newer, body, s, p.id, p.start, p.size);
     if UNMAPPED <= shown.id {
         return from.listed;
     }
@@ -151,7 +151,7 @@ fn list_property(
     ensures { λ r. ⌜ l.PropertyDone (now (older .entry)) (now (newer .entry)) scope (now (s .entry)) (now (rows .entry)) from p (now (rows .exit)) r ⌝ }
 {
     let body = scope.older;
-    match find_row(older, hints, body, p.id) {
+    match find_row(older, body, p.id) {
         Row::Tied { target: _, kind: _ } => from.listed,
         Row::Untied => list_untied(newer, hints, scope, s, rows, from, p),
     }

@@ -80,7 +80,7 @@ fn value_by_kind(s: &[u8], kind: u8, id: u8, start: usize, size: usize) -> Value
 }
 
 // A property with this id and value, by the rows of its scope.
-pub fn property(
+fn property(
     table: &[u8],
     hints: &mut [u8; HINTS],
     body: Body,

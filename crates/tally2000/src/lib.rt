@@ -23,7 +23,7 @@ use rules::Answer;
 use rules::LAST_ID;
 use rules::NO_READING;
 use rules::SCOPE_ENTRY;
-use run2000::property;
+use shown2000::property;
 use tally::count_property;
 use tally::count_type;
 use walk2000::Extent;
@@ -54,7 +54,7 @@ fn count_run(
         let Extent::At { start, size } = value(s, p) else {
             return p;
         };
-        let shown = property(table, hints, body, s, id, start, size);
+        let shown = property(table, body, s, id, start, size);
         count_property(words, true, shown);
         p = start + size;
     }
