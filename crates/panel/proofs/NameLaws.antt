@@ -4,13 +4,12 @@ use native.Mathlib.Omega.{arith}
 use mathlib.Core.Path.{_≡_, refl, sym, ap, ap₂, _∙_}
 use mathlib.Core.Bool.{Bool, true, false, not, _&&_}
 use mathlib.Core.List.{List, [], _∷_, _++_}
-use borrow.Author.Tests.{eqb-true, eq-eqb, ne-eqb}
+use borrow.Author.Tests.{eq-eqb, ne-eqb}
 use lib.Dec.{eqb}
 use lib.ListN.{length, getD, take, drop, length-drop}
-use lib.Seq.{take-suc, getD-take, getD-drop, length-take-le}
+use lib.Seq.{take-suc, getD-drop, length-take-le}
 use Rattle.rules.specs.Lists.{all, same}
 use Rattle.rules.specs.Bytes.{byte, part}
-use Rattle.rules.proofs.ListLaws.{and-l, and-r}
 use Rattle.rules.specs.Rows.{controlWidth}
 use Rattle.rules.specs.Panel.{isNewName}
 use Rattle.rows.proofs.GetLaws.{word-in}
@@ -90,31 +89,6 @@ module _ {s : List ℕ} {p q size k : ℕ} (c : Comparing s p q size k) (hp : p 
       let e : k ≡ 0 = omega arith in
       sym (c .decides ∙ ap (λ (j : ℕ). same (part s p j) (part s q j)) e)
 
--- a byte that differs tells
-byte-there : (s : List ℕ) (p size k : ℕ) → k < size → getD (part s p size) k 0 ≡ byte s (p + k)
-byte-there s p size k h = getD-take size (drop p s) k 0 h ∙ getD-drop p s k 0
-
-same-at : (a b : List ℕ) → same a b ≡ true → (k : ℕ) → getD a k 0 ≡ getD b k 0
-unfolding same
-same-at [] [] e k = refl
-same-at [] (y ∷ b) e k = let z : _≡_ {A = ℕ} 0 1 = cc in absurd (omega arith)
-same-at (x ∷ a) [] e k = let z : _≡_ {A = ℕ} 0 1 = cc in absurd (omega arith)
-same-at (x ∷ a) (y ∷ b) e zero = eqb-true x y (and-l (eqb x y) (same a b) e)
-same-at (x ∷ a) (y ∷ b) e (suc k) = same-at a b (and-r (eqb x y) (same a b) e) k
-
-pub byte-tells : (s : List ℕ) (p q size k : ℕ) → k < size → (byte s (p + k) ≡ byte s (q + k) → ⊥) → same (part s p size) (part s q size) ≡ false
-byte-tells s p q size k h n = go (same (part s p size) (part s q size)) refl
-  where
-    go : (b : Bool) → same (part s p size) (part s q size) ≡ b → b ≡ false
-    go false e = refl
-    go true e = absurd (n (sym (byte-there s p size k h) ∙ same-at (part s p size) (part s q size) e k ∙ byte-there s q size k h))
-
-pub first-tells : (s : List ℕ) (p q size : ℕ) → 0 < size → (byte s p ≡ byte s q → ⊥) → same (part s p size) (part s q size) ≡ false
-first-tells s p q size h n =
-    let a : p + 0 ≡ p = omega arith in
-    let b : q + 0 ≡ q = omega arith in
-    byte-tells s p q size 0 h (λ z. n (ap (byte s) (sym a) ∙ z ∙ ap (byte s) b))
-
 -- ---- a row's name, by the words of the slice
 module _ (s cs : List ℕ) (n start size : ℕ) where
   pub start-is : getD cs (n * 8 + 2) 0 ≡ startOf cs n
@@ -129,10 +103,6 @@ module _ (s cs : List ℕ) (n start size : ℕ) where
       let a = part-long s (startOf cs n) (sizeOf cs n) h in
       let b = part-long s start size k in
       sym (other-length (bytesAt s cs n) (part s start size) (λ e. o (size-is ∙ sym a ∙ e ∙ b)))
-
-  pub ends-other : startOf cs n + sizeOf cs n ≤ length s → getD cs (n * 8 + 3) 0 ≡ size → same (part s (getD cs (n * 8 + 2) 0) size) (part s start size) ≡ false
-      → false ≡ same (bytesAt s cs n) (part s start size)
-  ends-other i e h = sym h ∙ ap₂ (λ (p k : ℕ). same (part s p k) (part s start size)) start-is (sym e ∙ size-is)
 
   pub size-same : (r : Bool) → getD cs (n * 8 + 3) 0 ≡ size → r ≡ same (part s (getD cs (n * 8 + 2) 0) size) (part s start size)
       → r ≡ same (bytesAt s cs n) (part s start size)

@@ -1,12 +1,12 @@
 -- Controls by their rows, and the names of the rows before one.
 use Prim.Native.Nat.{ℕ, zero, suc, _+_, _*_, _-_, _≤_, _<_}
 use mathlib.Core.Path.{_≡_}
-use mathlib.Core.Bool.{Bool, false, cond}
+use mathlib.Core.Bool.{cond}
 use mathlib.Core.List.{List, [], _∷_}
 use mathlib.Core.Option.{Option, none, some}
 use lib.Dec.{eqb, ltb}
 use lib.ListN.{length}
-use Rattle.rules.specs.Lists.{keep, same}
+use Rattle.rules.specs.Lists.{keep}
 use Rattle.rules.specs.Bytes.{part}
 use Rattle.rules.specs.Rows.{controlWidth, propertyWidth, rowAt}
 use Rattle.rules.specs.Listing.{word}
@@ -61,10 +61,6 @@ bytesAt s cs i = part s (startOf cs i) (sizeOf cs i)
 unfoldable pub namesBefore : List ℕ → List ℕ → ℕ → List (List ℕ)
 namesBefore s cs zero = []
 namesBefore s cs (suc n) = bytesAt s cs n ∷ namesBefore s cs n
-
--- parts of one length that don't end or begin alike aren't the same
-abbrev pub Ends : List ℕ → ℕ → ℕ → ℕ → Bool → Type 0
-Ends s one other size alike = alike ≡ false → same (part s one size) (part s other size) ≡ false
 
 -- ---- properties from one row to another
 abbrev pub between : List ℕ → ℕ → ℕ → List Property

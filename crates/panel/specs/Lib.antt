@@ -1,1 +1,2 @@
 pub mod ByRows  -- controls by their rows, and what is asked of rows that are judged
+pub mod Marks  -- marks of names

@@ -1,4 +1,5 @@
 // The rules of panels: a Blob is read, and its control rows are judged one by one.
+use numbers::number_of;
 use rows::CONTROL_WIDTH;
 use rows::get_control;
 use rows::get_id;
@@ -17,7 +18,9 @@ ghost use Rattle.rules.specs.Answer.{answer};
 ghost use Rattle.rules.specs.Panel.{hasTypeName, isNewName, isBox, isSource, isOneText, isFilled, isPlacing, isPlaced, broken, verdict, panelExit};
 ghost use Rattle.names.specs.Lookup.{Lent};
 ghost use Rattle.blob.specs.Exit.{exited};
-ghost use Rattle.panel.specs.ByRows.{controlsFrom, bytesAt, namesBefore, between, NextSource, Ends, Rows, Before, ruleOf};
+ghost use Rattle.panel.specs.ByRows.{controlsFrom, bytesAt, namesBefore, between, NextSource, Rows, Before};
+ghost use Rattle.panel.specs.Marks as marked;
+ghost use Rattle.panel.specs.Marks.{spread, placeBy, tagBy, Marked, Noted, Tried};
 
 // The rules by their numbers: what a row breaks. 0 is none.
 const NO_TYPE_NAME: u32 = 1;
@@ -64,13 +67,24 @@ const WIDTH: u32 = 0x0096;
 // A number below 0 has this or more in its low word.
 const NEGATIVE: u32 = 0x80000000;
 
-// Bytes of a letter.
-const LETTER: usize = 2;
-
 // The words of a control row that a name has.
 const NAME_START: usize = 2;
 
 const NAME_SIZE: usize = 3;
+
+// Names leave marks in so many places: a mark is the tag of all names of its place, or that they have several. 754 names are hardly ever taken for one another.
+const PLACES: usize = 16384;
+
+const TAGS: u32 = 254;
+
+const SEVERAL: u8 = 255;
+
+// How bytes are spread: multiplied, kept to 32 bits; the place is the middle of the square.
+const SPREAD: usize = 16777619;
+
+const WORD: usize = 0x100000000;
+
+const MIDDLE: usize = 0x2000000;
 
 // ---- rule 1
 fn has_type_name(index: &[u32], letters: &[u8], type_code: u32) -> bool
@@ -99,22 +113,7 @@ fn same_bytes(s: &[u8], one: usize, other: usize, size: usize) -> bool
     true
 }
 
-// Whether the last letters are the same, and the first ones: two bytes make a letter, and its low byte stands first. Asked before all bytes are compared.
-fn ends_alike(s: &[u8], one: usize, other: usize, size: usize) -> bool
-    requires { ⌜ (one + size ≤ length (now s)) × (other + size ≤ length (now s)) ⌝ }
-    ensures { λ r. ⌜ Ends (now (s .entry)) one other size r ⌝ }
-{
-    if size < LETTER {
-        return true;
-    }
-    let last = size - LETTER;
-    if s[one + last] != s[other + last] {
-        return false;
-    }
-    s[one] == s[other]
-}
-
-// Row `n` names the bytes that these are. The lengths are compared first, then the ends.
+// Row `n` names the bytes that these are. The lengths are compared first.
 fn has_name(s: &[u8], controls: &[u32], n: u32, start: u32, size: u32) -> bool
     requires { ⌜ Before (now s) (now controls) (n + 1) ⌝ }
     requires { ⌜ start + size ≤ length (now s) ⌝ }
@@ -125,9 +124,6 @@ fn has_name(s: &[u8], controls: &[u32], n: u32, start: u32, size: u32) -> bool
         return false;
     }
     let from = controls[at + NAME_START] as usize;
-    if !ends_alike(s, from, start as usize, size as usize) {
-        return false;
-    }
     same_bytes(s, from, start as usize, size as usize)
 }
 
@@ -143,6 +139,72 @@ fn is_new(s: &[u8], controls: &[u32], n: u32, start: u32, size: u32) -> bool
         if has_name(s, controls, j, start, size) {
             return false;
         }
+    }
+    true
+}
+
+// These bytes as a number.
+fn spread_of(s: &[u8], start: u32, size: u32) -> u32
+    requires { ⌜ start + size ≤ length (now s) ⌝ }
+    ensures { λ r. ⌜ r ≡ spread (part (now (s .entry)) start size) ⌝ }
+{
+    let from = start as usize;
+    let mut n = 0;
+    let mut k = size as usize;
+    while 0 < k {
+        k -= 1;
+        n = (n * SPREAD + number_of(s[from + k])) % WORD;
+    }
+    n as u32
+}
+
+fn place_of(number: u32) -> usize
+    ensures { λ r. ⌜ r ≡ placeBy number ⌝ }
+{
+    let n = number as usize;
+    n * n / MIDDLE % PLACES
+}
+
+fn tag_of(number: u32) -> u8
+    ensures { λ r. ⌜ r ≡ tagBy number ⌝ }
+{
+    (number % TAGS + 1) as u8
+}
+
+// What a mark is after one more name.
+fn changed(mark: u8, tag: u8) -> u8
+    ensures { λ r. ⌜ r ≡ marked.changed mark tag ⌝ }
+{
+    if mark == 0 {
+        return tag;
+    }
+    if mark == tag {
+        return tag;
+    }
+    SEVERAL
+}
+
+// Whether no row before row `n` names these bytes, which are marked. They are compared only where that doesn't change the mark.
+fn note_name(
+    s: &[u8],
+    controls: &[u32],
+    marks: &mut [u8; PLACES],
+    n: u32,
+    start: u32,
+    size: u32,
+) -> bool
+    requires { ⌜ Before (now s) (now controls) n ⌝ }
+    requires { ⌜ start + size ≤ length (now s) ⌝ }
+    requires { ⌜ Marked (now s) (now controls) n (now marks) ⌝ }
+    ensures { λ r. ⌜ Noted (now (s .entry)) (now (controls .entry)) n (part (now (s .entry)) start size) (now (marks .exit)) r ⌝ }
+{
+    let number = spread_of(s, start, size);
+    let place = place_of(number);
+    let mark = marks[place];
+    let next = changed(mark, tag_of(number));
+    marks[place] = next;
+    if mark == next {
+        return is_new(s, controls, n, start, size);
     }
     true
 }
@@ -235,7 +297,7 @@ fn is_placed(properties: &[u32], from: u32, to: u32) -> bool
 }
 
 // ---- all of them
-// The first rule that row `i` breaks, or 0.
+// The first rule that row `i` breaks, or 0 and its name is marked.
 fn rule_of(
     stream: &[u8],
     controls: &[u32],
@@ -244,11 +306,13 @@ fn rule_of(
     i: u32,
     index: &[u32],
     letters: &[u8],
+    marks: &mut [u8; PLACES],
 ) -> u32
     requires { ⌜ (Rows (now stream) (now controls) count) × (i < count) ⌝ }
     requires { ⌜ Before (now stream) (now controls) i ⌝ }
     requires { ⌜ Lent (now index) (now letters) ⌝ }
-    ensures { λ r. ⌜ r ≡ ruleOf (now (stream .entry)) (now (controls .entry)) (now (properties .entry)) i ⌝ }
+    requires { ⌜ Marked (now stream) (now controls) i (now marks) ⌝ }
+    ensures { λ r. ⌜ Tried (now (stream .entry)) (now (controls .entry)) (now (properties .entry)) i (now (marks .exit)) r ⌝ }
 {
     let row = get_control(controls, i);
     if !has_type_name(index, letters, row.type_code) {
@@ -257,7 +321,7 @@ fn rule_of(
     if row.mark != NAME_TEXT {
         return OTHER_NAME;
     }
-    if !is_new(stream, controls, i, row.start, row.size) {
+    if !note_name(stream, controls, marks, i, row.start, row.size) {
         return SAME_NAME;
     }
     let from = row.first;
@@ -298,9 +362,19 @@ fn judge(
     requires { ⌜ Lent (now index) (now letters) ⌝ }
     ensures { λ r. ⌜ r ≡ verdict (broken (now (stream .entry)) (controlsFrom (now (controls .entry)) (now (properties .entry)) 0 count)) ⌝ }
 {
+    let mut marks = [0; PLACES];
     let mut i = 0;
     while i < count {
-        let rule = rule_of(stream, controls, properties, count, i, index, letters);
+        let rule = rule_of(
+            stream,
+            controls,
+            properties,
+            count,
+            i,
+            index,
+            letters,
+            &mut marks,
+        );
         if rule != 0 {
             return judged(0, i, rule);
         }

@@ -2,8 +2,7 @@ use Prim.Native.Nat.{_+_, _*_}
 use native.Mathlib.Omega.{arith}
 use mathlib.Core.Path.{_≡_}
 use borrow.Author.Needs.{needs}
-use borrow.Author.Tests.{not-true}
-use Rattle.panel.proofs.NameLaws.{start-is, size-is, size-other, ends-other, size-same}
+use Rattle.panel.proofs.NameLaws.{start-is, size-is, size-other, size-same}
 use Rattle.panel.proofs.has_name.Statement.{statement}
 use Rattle.panel.proofs.has_name.Tie as tie
 
@@ -14,15 +13,6 @@ returns c =
     size-other (a .s .now) (a .controls .now) (a .n) (a .start) (a .size) (start .pre .0 .inside (a .n) (omega arith)) (start .pre .1) (λ e. omega (arith, e))
 
 -- both names stand in the stream
-ends-alike-requires : tie.Need-ends-alike-requires
-ends-alike-requires c κs =
-    let start : tie.Start = search in
-    let a = start .args in
-    let i = start .pre .0 .inside (a .n) (omega arith) in
-    let f = start-is (a .s .now) (a .controls .now) (a .n) (a .start) (a .size) in
-    let z = size-is (a .s .now) (a .controls .now) (a .n) (a .start) (a .size) in
-    (omega arith, omega (arith, start .pre .1))
-
 same-bytes-requires : tie.Need-same-bytes-requires
 same-bytes-requires c κs =
     let start : tie.Start = search in
@@ -34,13 +24,6 @@ same-bytes-requires c κs =
 
 returns-2 : tie.Need-returns-2
 returns-2 c =
-    let start : tie.Start = search in
-    let asked : tie.After-ends-alike = search in
-    let a = start .args in
-    ends-other (a .s .now) (a .controls .now) (a .n) (a .start) (a .size) (start .pre .0 .inside (a .n) (omega arith)) (omega arith) (asked .ends-alike .ensures (not-true _ (c .if2 .taken)))
-
-returns-3 : tie.Need-returns-3
-returns-3 c =
     let start : tie.Start = search in
     let a = start .args in
     size-same (a .s .now) (a .controls .now) (a .n) (a .start) (a .size) _ (omega arith) (c .same-bytes .ensures)
@@ -58,7 +41,5 @@ has-name-spec =
     (λ c. search needs)
     (λ c. let start : tie.Start = search in let l = start .pre .0 .lent in omega arith)
     (λ c. let start : tie.Start = search in omega (arith, c .shared-slice-known4 .given (start .args .n * 8 + 2)))
-    ends-alike-requires
-    returns-2
     same-bytes-requires
-    returns-3)
+    returns-2)
