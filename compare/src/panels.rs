@@ -21,9 +21,14 @@ fn type_name(code: u32) -> Option<&'static str> {
 pub fn compare(library: ReadBlob, count: usize, seed: u64) -> bool {
     let mut rng = Rng::new(seed);
     let mut told = BTreeMap::new();
+    let together = [one_place(MOST_TOGETHER), one_number(MOST_TOGETHER)];
     for n in 0..count {
         let table = codes(&mut rng).bytes();
-        let mut stream = if rng.one_in(2) { form2000(&mut rng) } else { later(&mut rng) };
+        let mut stream = match rng.below(400) {
+            0 => crowd(&mut rng, &together),
+            1..200 => form2000(&mut rng, &together),
+            _ => later(&mut rng, &together),
+        };
         if rng.one_in(40) {
             stream.truncate(rng.below(stream.len() + 1));
         }
@@ -106,6 +111,72 @@ fn codes(rng: &mut Rng) -> Codes {
     Codes { layout: 0x13, header: vec![0x99, 0x9A], scopes: [0x64, 0x6B, 0x6D, 0x6F, 0x7B, 0x7C, 0x98, 0x99].map(scope).to_vec() }
 }
 
+/// The number by which rule 3 of the library marks a name, so that names can be made which get in each other's way. No answer rests on it.
+fn number(name: &str) -> u64 {
+    utf16(name).iter().rev().fold(0, |n, &b| (n * 16_777_619 + u64::from(b)) % (1 << 32))
+}
+
+/// So many names whose marks stand in one place.
+fn one_place(count: usize) -> Vec<String> {
+    let place = |name: &String| number(name).pow(2) / (1 << 25) % 16_384;
+    (0..).map(|n| format!("c{n}")).filter(|name| place(name) == 7).take(count).collect()
+}
+
+/// Two texts of six letters that leave the number of any name as it is, where one stands for the other.
+fn twins() -> [String; 2] {
+    let mut rng = Rng::new(1);
+    let mut seen = BTreeMap::new();
+    loop {
+        let text: String = (0..6).map(|_| char::from(b'@' + rng.below(63) as u8)).collect();
+        match seen.insert(number(&text), text.clone()) {
+            Some(other) if other != text => return [other, text],
+            _ => {}
+        }
+    }
+}
+
+/// So many names of one length that have one number: the digits of 0, 1, .. to the base 2, with twins as digits.
+fn one_number(count: usize) -> Vec<String> {
+    let twins = twins();
+    let digits = count.next_power_of_two().trailing_zeros();
+    (0..count).map(|n| (0..digits).map(|k| twins[n >> k & 1].as_str()).collect()).collect()
+}
+
+/// So many names of each such kind are used.
+const MOST_TOGETHER: usize = 200;
+
+/// What is left to make of a form: how many controls, whether in a chain, and with names that get in each other's way or any.
+struct Making<'a> {
+    left: usize,
+    deep: bool,
+    made: usize,
+    together: Option<&'a [String]>,
+}
+
+impl<'a> Making<'a> {
+    fn new(rng: &mut Rng, together: &'a [Vec<String>]) -> Making<'a> {
+        let named = rng.below(8);
+        Making { left: 14, deep: rng.one_in(6), made: 0, together: together.get(named).map(Vec::as_slice) }
+    }
+
+    /// A name that no control before has.
+    fn name(&mut self) -> Vec<u8> {
+        self.left = self.left.saturating_sub(1);
+        self.made += 1;
+        utf16(&self.together.map_or_else(|| format!("c{}", self.made), |names| names[self.made].clone()))
+    }
+
+    /// How many controls stand in the one that was made: chains go to level 8 and deeper once in a while.
+    fn below(&self, rng: &mut Rng, level: usize) -> usize {
+        match level {
+            _ if self.deep && level < 9 && self.left > 0 => 1,
+            0 => rng.below(self.left.min(5) + 1),
+            _ if rng.one_in(4) => rng.below(self.left.min(3) + 1).max(usize::from(self.left > 0 && rng.one_in(2))),
+            _ => 0,
+        }
+    }
+}
+
 /// A control: its type, its name, and properties by the id that they are shown with and one of several spellings.
 struct Wanted {
     type_code: u16,
@@ -117,18 +188,20 @@ struct Wanted {
     odd: Option<u8>,
 }
 
-fn wanted(rng: &mut Rng, n: usize, section: bool) -> Wanted {
+fn wanted(rng: &mut Rng, making: &mut Making, section: bool) -> Wanted {
     let slip = |rng: &mut Rng| rng.one_in(SLIP);
     let type_code = match (section, slip(rng)) {
         (true, _) => 0x98,
         (false, true) => 0x71,
         (false, false) => rng.pick(&TYPES[..6]),
     };
+    let first = making.together.map_or_else(|| "c1".to_string(), |names| names[1].clone());
+    let new = making.name();
     let name = match rng.below(SLIP) {
-        0 => utf16("c0"),
+        0 => utf16(&first),
         1 => vec![0x00, 0xD8],
         2 => Vec::new(),
-        _ => utf16(&format!("c{n}")),
+        _ => new,
     };
     let boxed = type_code == 0x6D || type_code == 0x6F;
     let sources = if slip(rng) { rng.below(3) } else { usize::from(boxed) };
@@ -143,30 +216,19 @@ fn wanted(rng: &mut Rng, n: usize, section: bool) -> Wanted {
     Wanted { type_code, name, sources, empty: slip(rng), bytes: slip(rng), places, odd }
 }
 
-/// A control and how many stand in it: chains go to level 8 and deeper once in a while.
-fn below(rng: &mut Rng, level: usize, left: usize) -> usize {
-    match level {
-        0 => rng.below(left.min(5) + 1),
-        _ if rng.one_in(4) => rng.below(left.min(3) + 1).max(usize::from(left > 0 && rng.one_in(2))),
-        _ => 0,
-    }
-}
-
-fn form2000(rng: &mut Rng) -> Vec<u8> {
+fn form2000(rng: &mut Rng, together: &[Vec<String>]) -> Vec<u8> {
     let mut out = head2000(rng.pick(&[0x96, 0x97]));
     let tops = 1 + rng.below(3);
     out.extend(list2000(tops as u16, rng.one_in(2)));
-    let mut left = 14;
-    let deep = rng.one_in(6);
+    let mut making = Making::new(rng, together);
     for _ in 0..tops {
-        put2000(rng, &mut out, 0, &mut left, deep);
+        put2000(rng, &mut out, 0, &mut making);
     }
     out
 }
 
-fn put2000(rng: &mut Rng, out: &mut Vec<u8>, level: usize, left: &mut usize, deep: bool) {
-    let c = wanted(rng, *left + 100 * out.len(), level == 0);
-    *left = left.saturating_sub(1);
+fn put2000(rng: &mut Rng, out: &mut Vec<u8>, level: usize, making: &mut Making) {
+    let c = wanted(rng, making, level == 0);
     out.extend(c.type_code.to_le_bytes());
     out.extend(bytes2000(if level == 0 { 0xDF } else { 0xDC }, &c.name));
     for n in 0..c.sources {
@@ -188,34 +250,32 @@ fn put2000(rng: &mut Rng, out: &mut Vec<u8>, level: usize, left: &mut usize, dee
         Some(id) => out.extend([id, 1, 0, 0, 0]),
         None => {}
     }
-    let children = if deep && level < 9 && *left > 0 { 1 } else { below(rng, level, *left) };
+    let children = making.below(rng, level);
     if children == 0 {
         out.push(0xFD);
         return;
     }
     out.extend(list2000(children as u16, rng.one_in(2)));
     for _ in 0..children {
-        put2000(rng, out, level + 1, left, deep);
+        put2000(rng, out, level + 1, making);
     }
 }
 
 /// A later tree: each property has a trailer, and the last of a group says what comes after it.
-fn later(rng: &mut Rng) -> Vec<u8> {
+fn later(rng: &mut Rng, together: &[Vec<String>]) -> Vec<u8> {
     let mut out = head_later();
     let tops = 1 + rng.below(3);
     out.extend(property_later(0x05, 0x01, &[], 255));
     out.extend((tops as u16).to_le_bytes());
-    let mut left = 14;
-    let deep = rng.one_in(6);
+    let mut making = Making::new(rng, together);
     for _ in 0..tops {
-        put_later(rng, &mut out, 0, &mut left, deep);
+        put_later(rng, &mut out, 0, &mut making);
     }
     out
 }
 
-fn put_later(rng: &mut Rng, out: &mut Vec<u8>, level: usize, left: &mut usize, deep: bool) {
-    let c = wanted(rng, *left + 100 * out.len(), level == 0);
-    *left = left.saturating_sub(1);
+fn put_later(rng: &mut Rng, out: &mut Vec<u8>, level: usize, making: &mut Making) {
+    let c = wanted(rng, making, level == 0);
     let mut properties = vec![(0x14, 0x0A, c.name)];
     for _ in 0..c.sources {
         properties.push((0x1B, if c.bytes { 0x09 } else { 0x0A }, if c.empty { Vec::new() } else { b"B\0".to_vec() }));
@@ -229,7 +289,7 @@ fn put_later(rng: &mut Rng, out: &mut Vec<u8>, level: usize, left: &mut usize, d
         Some(_) => properties.push((0x96, 0x04, vec![1, 0, 0, 0])),
         None => {}
     }
-    let children = if deep && level < 9 && *left > 0 { 1 } else { below(rng, level, *left) };
+    let children = making.below(rng, level);
     let last = properties.len() - 1;
     out.extend(node_later(c.type_code));
     for (n, (id, kind, value)) in properties.into_iter().enumerate() {
@@ -243,30 +303,52 @@ fn put_later(rng: &mut Rng, out: &mut Vec<u8>, level: usize, left: &mut usize, d
     if children > 0 {
         out.extend((children as u16).to_le_bytes());
         for _ in 0..children {
-            put_later(rng, out, level + 1, left, deep);
+            put_later(rng, out, level + 1, making);
         }
     }
 }
 
-// ---- speed
+// ---- forms of many controls
 
-/// Names as Access gives them, and names of one length that differ in their last letters alone, or in their first.
-const NAMINGS: [(&str, fn(usize) -> String); 3] = [
-    ("as Access names them", |n| format!("{}{n}", ["Label", "Text", "Command", "Combo", "Check", "Option", "Frame", "Box"][n % 8])),
-    ("of one length and beginning", |n| format!("txtFeeder{n:04}")),
-    ("of one length and end", |n| format!("{n:04}FeederVoltage")),
+/// Names as Access gives them; names of one length that differ in their last letters alone, or in their first, of 17 letters or as long as Access allows; names of one number.
+const NAMINGS: [(&str, fn(usize) -> Vec<String>); 5] = [
+    ("as Access names them", |n| (0..n).map(access_name).collect()),
+    ("of one length and beginning", |n| (0..n).map(|n| format!("txtFeeder{n:04}")).collect()),
+    ("of one length and end", |n| (0..n).map(|n| format!("{n:04}FeederVoltage")).collect()),
+    ("of 64 letters and one end", |n| (0..n).map(|n| format!("{n:04}{}", "FeederVoltage12".repeat(4))).collect()),
+    ("of one length and number", one_number),
 ];
 
-/// A form of so many controls that keeps all rules: labels and text boxes in turn, each with its name, its place and six properties more.
-fn large(controls: usize, name: fn(usize) -> String) -> Vec<u8> {
+fn access_name(n: usize) -> String {
+    format!("{}{n}", ["Label", "Text", "Command", "Combo", "Check", "Option", "Frame", "Box"][n % 8])
+}
+
+/// A large form that keeps all rules, but for a name that comes again, near or far, in two of three.
+fn crowd(rng: &mut Rng, together: &[Vec<String>]) -> Vec<u8> {
+    let count = 2 + rng.below(754);
+    let (_, naming) = rng.pick(&NAMINGS[..4]);
+    let mut names = match together.get(rng.below(8)) {
+        Some(names) => names[..count.min(MOST_TOGETHER)].to_vec(),
+        None => naming(count),
+    };
+    if !rng.one_in(3) {
+        let again = 1 + rng.below(names.len() - 1);
+        names[again] = names[rng.below(again)].clone();
+    }
+    large(&names)
+}
+
+/// A form of controls with these names that keeps all rules where no name comes again: labels and text boxes in turn, each with its name, its place and six properties more.
+fn large(names: &[String]) -> Vec<u8> {
     let mut out = head2000(0x96);
     out.extend(
-        [list2000(1, false), 0x98u16.to_le_bytes().to_vec(), bytes2000(0xDF, &utf16("Detail")), list2000(controls as u16, true)].concat(),
+        [list2000(1, false), 0x98u16.to_le_bytes().to_vec(), bytes2000(0xDF, &utf16("Detail")), list2000(names.len() as u16, true)]
+            .concat(),
     );
-    for n in 0..controls {
+    for (n, name) in names.iter().enumerate() {
         let boxed = n % 2 == 1;
         out.extend((if boxed { 0x6Du16 } else { 0x64 }).to_le_bytes());
-        out.extend(bytes2000(0xDC, &utf16(&name(n))));
+        out.extend(bytes2000(0xDC, &utf16(name)));
         if boxed {
             out.extend(bytes2000(0xE0, &utf16("Voltage")));
         }
@@ -277,6 +359,8 @@ fn large(controls: usize, name: fn(usize) -> String) -> Vec<u8> {
     out
 }
 
+// ---- speed
+
 fn least(runs: usize, mut run: impl FnMut() -> f64) -> f64 {
     (0..runs).map(|_| run()).fold(f64::INFINITY, f64::min)
 }
@@ -285,7 +369,7 @@ fn least(runs: usize, mut run: impl FnMut() -> f64) -> f64 {
 pub fn bench(read: ReadBlob, library: ReadBlob) {
     let table = codes(&mut Rng::new(3)).bytes();
     for (naming, controls) in NAMINGS.iter().flat_map(|naming| [10, 100, 200, 400, 754, 3000].map(|n| (naming, n))) {
-        let stream = large(controls, naming.1);
+        let stream = large(&naming.1(controls));
         let whole = plain::read_blob(&table, &stream, 1 << 24, 1 << 24);
         let words = [whole.controls.len() * CONTROL_WORDS, whole.properties.len() * PROPERTY_WORDS];
         let mut slices = words.map(|n| vec![0; n + 2 * GUARD]);
@@ -344,6 +428,9 @@ mod tests {
     library!(deeper, |rows| if rows.answer.counts[2] == 6 {
         rows.answer.counts = [1, 0, 0]
     });
+    library!(forgetful, |rows| if rows.answer.counts[2] == 3 && rows.answer.counts[1] > 200 {
+        rows.answer.counts = [1, 0, 0]
+    });
     library!(no_rows, |rows| if rows.answer.counts[0] == 0 && rows.answer.number == 0 {
         rows.controls.clear()
     });
@@ -353,6 +440,7 @@ mod tests {
         assert!(compare(right, 2_000, 3));
         assert!(!compare(always_yes, 2_000, 3));
         assert!(!compare(deeper, 2_000, 3));
+        assert!(!compare(forgetful, 2_000, 3));
         assert!(!compare(no_rows, 2_000, 3));
     }
 }
