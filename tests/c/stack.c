@@ -232,6 +232,8 @@ static void deepest_2000(void) {
     expect(13, "text without room");
     told(write_csv, "write_csv, Access 2000, 256 levels");
     expect(0, "text of a tree of Access 2000");
+    told(check_panel, "check_panel, Access 2000, 256 levels");
+    expect(0, "a tree of Access 2000, judged");
     printf("%6zu read_blob, Access 2000, 256 levels\n", largest);
     printf("%6zu read_2000, 256 levels\n", largest_alone);
     printf("%6zu count_blob, Access 2000, 256 levels\n", largest_counted);
