@@ -193,7 +193,8 @@ enum {
 /* Reads a Blob as oskuramos_read_blob does, into the same rows, and judges what was read by the rules of panels.
    Answers 0 with 1, 0, 0 where all controls keep all rules; else 0 with 0, the first control row that breaks a rule, and the first rule that it breaks;
    the rows stay written for yes and for no. Or 5, 8, 4, 6, 7, as oskuramos_read_blob does, which change nothing.
-   So a yes says of an Access 2000 Blob that the code table has the code of every box's source. The time of rule 3 grows with the square of the controls. */
+   So a yes says of an Access 2000 Blob that the code table has the code of every box's source.
+   Rule 3 goes by a hash of each name: only names that share one are compared with those before them. */
 oskuramos_answer oskuramos_check_panel(const uint8_t *table, size_t table_length, const uint8_t *stream, size_t stream_length,
                                        uint32_t *controls, size_t controls_length, uint32_t *properties, size_t properties_length);
 

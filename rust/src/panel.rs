@@ -62,7 +62,8 @@ pub enum Panel {
 
 impl Panel {
     /// Reads a Blob as [`Blob::read`](crate::Blob::read) does, and judges it. On `Yes` the code table has the code of every box's ControlSource, so that no panel keeps
-    /// its template's binding because of a code that the table lacks. The time of one rule, that of new names, grows with the square of the controls.
+    /// its template's binding because of a code that the table lacks. The rule of new names goes by a hash of each name: only names that share one are
+    /// compared with those before them.
     ///
     /// ```
     /// use oskuramos::{Blob, Panel, PanelRule, ACCESS_2000_CODES};
