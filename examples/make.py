@@ -254,6 +254,77 @@ OFFICES = {
 }
 
 
+# ---- the auditor's case: a text box whose ControlSource code the older code table lacks
+
+COMMAND_BUTTON, IMAGE = 0x68, 0x67
+
+
+def placed(type_code, left, top, width, height, *texts):
+    return entry(type_code, [short(0x60, left), short(0x61, top), short(0x62, width), short(0x63, height)] + [sized(id, text(s)) for id, s in texts])
+
+
+def caption_2000(name, caption, left, top, width=2400):
+    return placed(LABEL, left, top, width, 300, (0xDC, name), (0xDD, caption))
+
+
+def button_2000(name, caption, left, top):
+    return placed(COMMAND_BUTTON, left, top, 1800, 420, (0xDC, name), (0xDD, caption))
+
+
+def section_2000(type_code, name, height, inside):
+    return entry(type_code, [short(0x60, height), sized(0xDF, text(name))], inside)
+
+
+def screen_2000(title, source, controls):
+    top = [
+        section_2000(HEADER, "FormHeader", 600, [caption_2000("lblTitle", title, 180, 150, 6000)]),
+        section_2000(DETAIL, "Detail", 3000, controls),
+        section_2000(FOOTER, "FormFooter", 720, [button_2000("cmdAck", "Acknowledge", 180, 150), button_2000("cmdTest", "Lamp test", 2160, 150)]),
+    ]
+    return stream_2000(FORM, [short(0x63, 7800), sized(0xDC, text(source)), sized(0xDD, text(title))], top)
+
+
+def rectifiers_2000():
+    return screen_2000("Rectifier hall, bus B", "Rectifiers", [
+        placed(IMAGE, 180, 180, 2400, 2400, (0xDC, "imgMimic")),
+        caption_2000("lblVolts", "Voltage of bus B", 2880, 240),
+        placed(TEXT_BOX, 5400, 240, 1800, 300, (0xDC, "txtVolts"), (0xDD, "BusB_Volts")),
+        caption_2000("lblCharge", "Battery charging", 2880, 720),
+        caption_2000("lblFault", "Rectifier fault", 2880, 1200),
+        button_2000("cmdTrend", "Trend", 2880, 1800),
+    ])
+
+
+def feeders_2000():
+    return screen_2000("Feeders", "Feeders", [
+        caption_2000("lblNorth", "Feeder north", 180, 240),
+        caption_2000("lblSouth", "Feeder south", 180, 720),
+        button_2000("cmdNorth", "Open north", 2880, 180),
+        button_2000("cmdSouth", "Open south", 2880, 660),
+    ])
+
+
+def rows_of(table):
+    """The scopes of a code table: kind, code, rows."""
+    headers, count = table[1], struct.unpack_from("<H", table, 2)[0]
+    at = 4 + 2 * headers
+    body, scopes = at + 5 * count, []
+    for n in range(count):
+        kind, code, rows = struct.unpack_from("<BHH", table, at + 5 * n)
+        scopes.append((kind, code, [struct.unpack_from("<BHB", table, body + 4 * k) for k in range(rows)]))
+        body += 4 * rows
+    return scopes
+
+
+def auditor(table):
+    """The files of examples/auditor: the newer table is data/access2000.codes, the older one lacks DD of a text box."""
+    older = [(kind, code, [row for row in rows if (code, row[0]) != (TEXT_BOX, 0xDD)]) for kind, code, rows in rows_of(table)]
+    return {
+        "older.codes": codes(older), "newer.codes": table,
+        "rectifiers.blob": rectifiers_2000(), "feeders.blob": feeders_2000(), "signals.blob": later(),
+    }
+
+
 def main():
     folder = pathlib.Path(sys.argv[1]) if len(sys.argv) > 1 else HERE
     table = (HERE.parent / "data" / "access2000.codes").read_bytes()
@@ -266,6 +337,9 @@ def main():
     (folder / "form.typeinfo").write_bytes(type_info())
     (folder / "later-scan.typeinfo").write_bytes(later_type_info())
     (folder / "cut.typeinfo").write_bytes(type_info()[:-4])  # a copy that lost its tail, within the last name
+    (folder / "auditor").mkdir(exist_ok=True)
+    for title, data in auditor(table).items():
+        (folder / "auditor" / title).write_bytes(data)
     for office, table in OFFICES.items():
         (folder / f"{office}.codes").write_bytes(table)
 

@@ -127,4 +127,5 @@ def main():
         sizes[0], got["files by answer", "0 read"], sizes[1], sizes[2], codes, sizes[3]))
 
 
-main()
+if __name__ == "__main__":
+    main()
