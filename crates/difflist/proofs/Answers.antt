@@ -1,5 +1,5 @@
 -- The answer by its cases, and what is said after each: how long it is, and that it is what is written.
-use Prim.Native.Nat.{ℕ, _+_, _*_, _/_, _≤_, _<_}
+use Prim.Native.Nat.{ℕ, _+_, _≤_}
 use native.Mathlib.Omega.{arith}
 use native.Mathlib.Nat.{mul-le-mul}
 use mathlib.Core.Path.{_≡_, refl, sym, ap, _∙_}
@@ -7,14 +7,14 @@ use mathlib.Core.Bool.{Bool, true, false, cond, not, _&&_}
 use mathlib.Core.List.{List, [], _++_}
 use mathlib.Core.Option.{Option, none, some}
 use borrow.Author.Tests.{ltb-false, eq-eqb, ne-eqb, not-false}
-use lib.Dec.{ltb, eqb}
+use lib.Dec.{ltb}
 use lib.ListN.{length, getD, length-append}
 use Rattle.rules.specs.Lists.{text}
 use Rattle.rules.specs.Answer.{answer, refusal, longest, otherHead}
 use Rattle.rules.specs.CodeTable.{wellFormed, scopes}
 use Rattle.rules.specs.Join.{sameHead}
 use Rattle.rules.specs.Rows.{differenceWidth, room}
-use Rattle.rules.specs.Reading.{Reading, properties}
+use Rattle.rules.specs.Reading.{Reading}
 use Rattle.rules.specs.Blob.{Exit, exit, readingOf}
 use Rattle.rules.specs.Differences.{DifferencesExit, succeeds, differenceRows, differencesFit, differencesAnswer, differencesExit}
 use Rattle.rules.specs.Listing.{answerLine}
@@ -35,7 +35,7 @@ use Rattle.joinwhy.proofs.Longest.{why-short}
 use Rattle.text.specs.Writer.{Wrote}
 use Rattle.text.proofs.Chain.{nothing, _⨟_}
 use Rattle.listing.specs.Shown.{linesTo}
-use Rattle.listing.proofs.Longest.{Word32, answer-short, lines-short}
+use Rattle.listing.proofs.Longest.{Word32, lines-short}
 use Rattle.difflist.specs.Lines.{tie, differenceLine, otherLine, lackText, whyNot}
 use Rattle.difflist.specs.Listed.{named, saidBy, said, mostSaid, Written}
 use Rattle.difflist.proofs.Words.{line-short}

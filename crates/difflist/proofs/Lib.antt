@@ -2,3 +2,4 @@
 mod Words
 mod Answers
 mod Printing
+mod Worked

@@ -8,7 +8,7 @@
 --     DD 001B text  # ControlSource
 --     none
 use Prim.Native.Nat.{ℕ, _*_}
-use mathlib.Core.Bool.{true, false, cond}
+use mathlib.Core.Bool.{cond}
 use mathlib.Core.List.{List, [], _∷_, _++_}
 use Rattle.rules.specs.Lists.{text}
 use Rattle.rules.specs.Answer.{otherHead}

@@ -2,7 +2,6 @@ use borrow.Author.Needs.{needs}
 use mathlib.Core.Path.{sym, _∙_}
 use borrow.Author.Tests.{not-true, not-false}
 use denote.Ref.{now}
-use Rattle.difflist.specs.Lines.{lackText}
 use Rattle.difflist.proofs.Answers.{same-why, other-why}
 use Rattle.difflist.proofs.put_why_not.Statement.{statement}
 use Rattle.difflist.proofs.put_why_not.Tie as tie

@@ -5,7 +5,6 @@ use denote.Ref.{now}
 use lib.ListN.{length}
 use Rattle.rules.specs.Listing.{answerLine}
 use Rattle.listing.proofs.Longest.{answer-short}
-use Rattle.text.proofs.Chain.{same}
 use Rattle.difflist.proofs.Answers.{newer-formed, written-why, written-refused, written-full, written-lines}
 use Rattle.difflist.proofs.write_said.Statement.{statement}
 use Rattle.difflist.proofs.write_said.Tie as tie
@@ -103,7 +102,8 @@ same-length-9 : tie.Need-same-length-9
 unfolding differ-of read-of line-of
 same-length-9 c =
     let second : tie.After-answer-line2 = search in
-    differ-of (line-of (read-of second)) .differences .kept .1 .1 .1 .0
+    let told = differ-of (line-of (read-of second)) .differences in
+    search
 
 pub write-said-spec : {M : Type 1} → statement M
 write-said-spec =
