@@ -340,6 +340,8 @@ def records(forms):
     writer = csv.writer(out)
     writer.writerow(FIELDS)
     for form in forms:
+        if form.remark:
+            writer.writerow([form.name] + [""] * 4 + ["the whole form"] + [""] * 8 + [form.remark])
         for d in form.differences:
             own = d.control is None
             type_words = ["", ""] if own else [f"{d.type:04X}", type_name(d.type)]
