@@ -7,6 +7,7 @@ Exit status: 0 no form differs, 10 some do.
 import csv
 import hashlib
 import io
+import os
 import pathlib
 import struct
 import sys
@@ -16,6 +17,7 @@ import diffpage  # noqa: E402  (beside this file)
 
 ROOT, SCRATCH = pathlib.Path(sys.argv[1]), pathlib.Path(sys.argv[2])
 SOME_DIFFER = 10
+PROPERTIES, ROWS = ("property", "properties"), ("row", "rows")
 MOST_BYTES = 32  # of a value's bytes no more are shown in words
 
 
@@ -138,8 +140,8 @@ def value_words(kind, shown):
         return "set (not at its default)"
     if kind == "text":
         return f"text {quoted(shown)}"
-    if kind == "binary" and not shown:
-        return "no bytes"
+    if kind == "binary":
+        return f"bytes {hex_bytes(bytes.fromhex(shown))}" if shown else "no bytes"
     return f"{kind} {shown}"
 
 
@@ -157,7 +159,8 @@ class Form:
         self.number = number
         self.name = said(f"name.{number}")
         self.data = pathlib.Path(said(f"taken.{number}")).read_bytes()
-        self.differences, self.properties, self.remark = [], 0, ""
+        self.differences, self.remark = [], ""
+        self.rows, self.what = 0, PROPERTIES  # how many there are to differ, and of what
 
 
 def said(file):
@@ -188,7 +191,7 @@ def difference(data, words):
 
 def by_program(form):
     lines = said(f"differ.{form.number}").split("\n")
-    form.properties = int(lines[0].split()[3])
+    form.rows = int(lines[0].split()[3])
     form.differences = [difference(form.data, [int(w) for w in line.split()[1:]]) for line in lines if line.startswith("D ")]
 
 
@@ -233,7 +236,7 @@ def name_in(control, records, first, count):
 def by_listings(form):
     old_controls, old_rows, old_records = listed(form, "older")
     new_controls, new_rows, new_records = listed(form, "newer")
-    form.properties = len(new_rows)
+    form.rows, form.what = len(new_controls) + len(new_rows), ROWS
     if len(old_controls) != len(new_controls) or len(old_rows) != len(new_rows):
         form.remark = (f"read otherwise as a whole: {len(old_controls)} controls and {len(old_rows)} properties under the older table,"
                        f" {len(new_controls)} and {len(new_rows)} under the newer")
@@ -266,7 +269,8 @@ def many(count, one, more):
 
 def verdict(forms, unread):
     differing = sum(1 for form in forms if form.differences or form.remark)
-    counts = f"in {sum(len(form.differences) for form in forms):,} of {many(sum(form.properties for form in forms), 'property', 'properties')}"
+    what = forms[0].what if forms else PROPERTIES
+    counts = f"in {sum(len(form.differences) for form in forms):,} of {many(sum(form.rows for form in forms), *what)}"
     if not forms:
         out = "No form was read"
     elif not differing:
@@ -307,7 +311,7 @@ def form_lines(form):
     if form.remark:
         yield f"{form.name}: {form.remark}"
         return
-    yield f"{form.name}: {len(form.differences):,} of {many(form.properties, 'property differs', 'properties differ' if len(form.differences) != 1 else 'properties differs')}"
+    yield f"{form.name}: {len(form.differences):,} of {many(form.rows, *form.what)} {'differs' if len(form.differences) == 1 else 'differ'}"
     for d in form.differences:
         yield f"  {where(d)}: {d.property}"
         yield f"    older: {d.older}"
@@ -360,6 +364,15 @@ def unread_files(blobs, numbers):
     return out
 
 
+def print_all(printed):
+    """A reader that has seen enough, such as head(1), is no error."""
+    try:
+        sys.stdout.buffer.write(printed)
+        sys.stdout.buffer.flush()
+    except BrokenPipeError:
+        os.dup2(os.open(os.devnull, os.O_WRONLY), sys.stdout.fileno())
+
+
 def main():
     form_of, by_two, page, older, older_file, newer, newer_file, blobs = sys.argv[3:]
     older = Table(older, older_file, said("older.text"))
@@ -375,7 +388,7 @@ def main():
         printed = records(forms)
     elif form_of == "text":
         printed = "".join(line + "\n" for line in words(older, newer, successor, forms, unread))
-    sys.stdout.buffer.write(printed.encode("utf-8", "surrogateescape"))
+    print_all(printed.encode("utf-8", "surrogateescape"))
     if page:
         made = diffpage.page(older, newer, verdict(forms, unread), table_lines(older, newer, successor), not by_two, forms, unread, lambda form: listed(form, "newer"), where)
         pathlib.Path(page).write_text(made, encoding="utf-8")

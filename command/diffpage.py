@@ -260,7 +260,7 @@ def form_rows(forms):
         name = f'<a href="#form-{form.number}">{safe(form.name)}</a>' if differs else safe(form.name)
         count = "as a whole" if form.remark else f"{len(form.differences):,}"
         sha = hashlib.sha256(form.data).hexdigest()
-        yield f"<tr class='{'differs' if differs else 'same'}'><td>{name}</td><td class='count'>{count}</td><td class='count'>{form.properties:,}</td><td><code>{sha}</code></td></tr>"
+        yield f"<tr class='{'differs' if differs else 'same'}'><td>{name}</td><td class='count'>{count}</td><td class='count'>{form.rows:,}</td><td><code>{sha}</code></td></tr>"
 
 
 def unread_rows(unread):
@@ -315,7 +315,7 @@ def page(older, newer, sentence, lines, proved, forms, unread, listed, where):
 <table><tr><th></th><th>file</th><th class="count">rows</th><th>SHA-256</th></tr>{''.join(table_rows((("older", older), ("newer", newer))))}</table>
 {told}
 <h2>The forms</h2>
-<table class="forms"><tr><th>file</th><th class="count">differ</th><th class="count">properties</th><th>SHA-256</th></tr>{''.join(form_rows(forms))}{''.join(unread_rows(unread))}</table>
+<table class="forms"><tr><th>file</th><th class="count">differ</th><th class="count">{"properties" if proved else "rows"}</th><th>SHA-256</th></tr>{''.join(form_rows(forms))}{''.join(unread_rows(unread))}</table>
 <div class="sign"><div>Name</div><div>Date</div><div>Signature</div></div>
 <p class="note">{PROVED if proved else COMPARED} This page, its sentences and its pictures are made by plain code, which is not proved.</p>
 {parts}{rest}
