@@ -142,10 +142,11 @@ def written(box, x, y, w, h):
 
 
 def mark(number, x, y, w, h, large, kind="frame"):
-    """A frame around a control that differs, and its number."""
+    """A frame around a control that differs, and its number, which goes over all frames."""
     r = 9 * large
-    return (f'<rect class="{kind}" x="{x - 2}" y="{y - 2}" width="{w + 4}" height="{h + 4}" stroke-width="{2.5 * large:g}"/>'
-            f'<circle class="badge" cx="{x + w + 2}" cy="{y - 2}" r="{r:g}"/>'
+    half = r * max(1, 0.4 + 0.35 * len(str(number)))
+    return (f'<rect class="{kind}" x="{x - 2}" y="{y - 2}" width="{w + 4}" height="{h + 4}" stroke-width="{2.5 * large:g}"/>',
+            f'<rect class="badge" x="{x + w + 2 - half:g}" y="{y - 2 - r:g}" width="{2 * half:g}" height="{2 * r:g}" rx="{r:g}"/>'
             f'<text class="number" x="{x + w + 2}" y="{y - 2 + r * 0.4:g}" font-size="{r * 1.15:g}">{number}</text>')
 
 
@@ -200,7 +201,8 @@ def picture(controls, records, numbers):
         marks.append(mark(numbers[None], 4, edge, width + 2 * edge - 8, y - edge, large, "outline"))
     whole = width + 2 * edge + round(12 * large)
     head = f'<svg class="panel" viewBox="0 0 {whole} {y + 4}" style="max-width:{whole}px" role="img" aria-label="the panel, with the controls that differ marked">'
-    return head + "".join(drawn + marks) + "</svg>", whole > FIT
+    frames, badges = [frame for frame, _ in marks], [badge for _, badge in marks]
+    return head + "".join(drawn + frames + badges) + "</svg>", whole > FIT
 
 
 # ---- the page
@@ -220,10 +222,10 @@ svg.panel { width: 100%; height: auto; max-height: 235mm; border: 1px solid #bbb
 svg text { font-family: system-ui, "DejaVu Sans", Arial, sans-serif; } svg .title { font-size: 11px; fill: #444; }
 svg .ground { fill: #e6e6df; stroke: #a9a99f; } svg .label { fill: none; stroke: none; } svg .field { fill: #fff; stroke: #8a8a8a; } svg .button { fill: #d3d3cc; stroke: #777; }
 svg .holder { fill: none; stroke: #9a9a92; } svg .line { stroke: #666; } svg .guessed { stroke: #9a9a92; stroke-dasharray: 3 2; } svg .source { fill: #555; font-style: italic; }
-svg .frame { fill: #ffd54f; fill-opacity: .28; stroke: #b3261e; } svg .outline { fill: none; stroke: #b3261e; } svg .badge { fill: #b3261e; stroke: #fff; stroke-width: 1.5; }
+svg .frame, svg .outline, svg .badge, svg .number { pointer-events: none; } svg .frame { fill: #ffd54f; fill-opacity: .28; stroke: #b3261e; } svg .outline { fill: none; stroke: #b3261e; } svg .badge { fill: #b3261e; stroke: #fff; stroke-width: 1.5; }
 svg .number { fill: #fff; font-weight: 700; text-anchor: middle; }
-ol.marks { list-style: none; margin: 0; padding: 0; } ol.marks > li { position: relative; padding-left: 2.1rem; margin-bottom: .9rem; break-inside: avoid; overflow-wrap: anywhere; }
-ol.marks .no { position: absolute; left: 0; top: .05rem; min-width: 1.5rem; height: 1.5rem; border-radius: .75rem; background: #b3261e; color: #fff; font-weight: 700; text-align: center; }
+ol.marks { list-style: none; margin: 0; padding: 0; } ol.marks > li { position: relative; padding-left: 2.4rem; margin-bottom: .9rem; break-inside: avoid; overflow-wrap: anywhere; }
+ol.marks .no { position: absolute; left: 0; top: .05rem; min-width: 1.5rem; padding: 0 .25rem; height: 1.5rem; line-height: 1.5rem; border-radius: .75rem; background: #b3261e; color: #fff; font-weight: 700; text-align: center; }
 dl { margin: .15rem 0 .4rem; } dt { font-weight: 600; } dd { display: grid; grid-template-columns: 3.6rem minmax(0, 1fr); margin: 0; } dd span { color: #555; }
 ul.rows { columns: 2; font-size: .85rem; } .note { color: #444; font-size: .88rem; } .sign { display: flex; gap: 2rem; margin: 2.5rem 0 1rem; break-inside: avoid; } .sign div { flex: 1; border-top: 1px solid #333; padding-top: .2rem; font-size: .85rem; }
 @media print { body { font-size: 10pt; margin: 0; padding: 0; max-width: none; } code { font-size: .72em; } h1 { font-size: 1.35rem; } .verdict { font-size: 1.1rem; } .marks, .note { font-size: 9pt; } .sign { margin: 1.8rem 0 .6rem; } * { -webkit-print-color-adjust: exact; print-color-adjust: exact; } }
