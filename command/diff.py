@@ -19,6 +19,7 @@ ROOT, SCRATCH = pathlib.Path(sys.argv[1]), pathlib.Path(sys.argv[2])
 SOME_DIFFER = 10
 PROPERTIES, ROWS = ("property", "properties"), ("row", "rows")
 MOST_BYTES = 32  # of a value's bytes no more are shown in words
+csv.field_size_limit(1 << 28)  # a value may be as long as a Blob, in hex
 
 
 # ---- names
@@ -45,23 +46,18 @@ def type_name(code):
 # ---- code tables, by their text
 
 class Table:
-    """A code table: its head, and what each scope and id is tied to."""
+    """A code table: what each scope and id is tied to."""
 
     def __init__(self, name, file, text):
         self.name = name
         self.sha = hashlib.sha256(pathlib.Path(file).read_bytes()).hexdigest()
-        self.head, self.rows, scope = [], {}, None
+        self.rows, scope = {}, None
         for line in text.split("\n"):
-            said, _, remark = line.partition("  # ")
-            words = said.split()
-            if not words:
-                continue
-            if words[0] in ("layout", "header"):
-                self.head.append(said)
-            elif words[0] in ("form", "report", "entry"):
+            word = line.partition(" ")[0]
+            if word in ("form", "report", "entry"):
                 scope = scope_words(line)
-            else:
-                self.rows[scope, words[0]] = row_in(line)
+            elif word not in ("", "layout", "header"):
+                self.rows[scope, word] = row_in(line)
 
 
 def scope_words(line):
