@@ -104,7 +104,6 @@ fn put_fit(rows: &mut [u32], at: usize, row: Difference)
 // Lists a property whose id the older table doesn't tie, where the newer does, and gives the row after.
 fn list_untied(
     newer: &[u8],
-    hints: &mut [u8; HINTS],
     scope: Scope,
     s: &[u8],
     rows: &mut [u32],
@@ -140,7 +139,6 @@ fn list_untied(
 fn list_property(
     older: &[u8],
     newer: &[u8],
-    hints: &mut [u8; HINTS],
     scope: Scope,
     s: &[u8],
     rows: &mut [u32],
@@ -153,7 +151,7 @@ fn list_property(
     let body = scope.older;
     match find_row(older, body, p.id) {
         Row::Tied { target: _, kind: _ } => from.listed,
-        Row::Untied => list_untied(newer, hints, scope, s, rows, from, p),
+        Row::Untied => list_untied(newer, scope, s, rows, from, p),
     }
 }
 
@@ -161,7 +159,6 @@ fn list_property(
 fn list_run(
     older: &[u8],
     newer: &[u8],
-    hints: &mut [u8; HINTS],
     scope: Scope,
     s: &[u8],
     rows: &mut [u32],
@@ -199,7 +196,7 @@ fn list_run(
             property,
             listed,
         };
-        listed = list_property(older, newer, hints, scope, s, rows, here, stored);
+        listed = list_property(older, newer, scope, s, rows, here, stored);
         p = start + size;
         property = property + 1;
     }
@@ -240,7 +237,7 @@ fn list_node(
         property: from.property,
         listed: from.listed,
     };
-    list_run(older, newer, hints, scope, s, rows, run)
+    list_run(older, newer, scope, s, rows, run)
 }
 
 // Lists what is reported of the top list, which has `n` entries from a place on, and gives the row after.
@@ -304,7 +301,7 @@ pub fn list_stream(older: &[u8], newer: &[u8], s: &[u8], rows: &mut [u32]) -> u3
         property: 0,
         listed: 0,
     };
-    let own = list_run(older, newer, &mut hints, scope, s, rows, from);
+    let own = list_run(older, newer, scope, s, rows, from);
     match head(s, own.at) {
         Opens::Listed { count, next } => {
             let start = Place {

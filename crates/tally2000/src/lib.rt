@@ -34,14 +34,7 @@ ghost use Rattle.form2000.specs.Acts.{ReadReady};
 ghost use Rattle.tally2000.specs.Counting as counting;
 
 // Counts the properties of the run at `at`, and gives the place after it.
-fn count_run(
-    table: &[u8],
-    hints: &mut [u8; HINTS],
-    body: Body,
-    s: &[u8],
-    at: usize,
-    words: &mut [u32],
-) -> usize
+fn count_run(table: &[u8], body: Body, s: &[u8], at: usize, words: &mut [u32]) -> usize
     requires { ⌜ counting.RunReady (now table) body (now s) at ⌝ }
     ensures { λ r. ⌜ counting.RunDone (now (table .entry)) body (now (s .entry)) at (now (words .entry)) (now (words .exit)) r ⌝ }
 {
@@ -75,7 +68,7 @@ fn count_node(
 {
     let entry_type = u16_at(s, at);
     let body = find_scope(table, hints, scopes, SCOPE_ENTRY, entry_type);
-    let end = count_run(table, hints, body, s, at + 2, words);
+    let end = count_run(table, body, s, at + 2, words);
     count_type(words, type_code(table, is_report(s), entry_type));
     end
 }
@@ -112,7 +105,7 @@ fn count_stream(table: &[u8], s: &[u8], words: &mut [u32])
     let mut scopes = [0; SCOPE_LIST_WORDS];
     list_scopes(table, &mut scopes);
     let body = find_scope(table, &mut hints, &scopes, object_scope(s), 0);
-    let end = count_run(table, &mut hints, body, s, OBJECT_RUN, words);
+    let end = count_run(table, body, s, OBJECT_RUN, words);
     match head(s, end) {
         Opens::Listed { count, next } => {
             count_top(table, &mut hints, &scopes, s, count as u32, next, words);

@@ -13,11 +13,11 @@ use Rattle.differ2000.proofs.list_run.Statement.{statement}
 use Rattle.differ2000.proofs.list_run.Tie as tie
 
 abbrev Inv-loop : tie.InvT-loop
-Inv-loop older newer hints₀ scope s rows₀ control p₀ property₀ listed₀ hints rows p property listed =
+Inv-loop older newer scope s rows₀ control p₀ property₀ listed₀ rows p property listed =
     Left older newer scope s rows₀ (record { at = p₀; control = control; property = property₀; listed = listed₀ }) rows (record { at = p; control = control; property = property; listed = listed })
 
 abbrev μ-loop : tie.MeasureT-loop
-μ-loop older newer hints₀ scope s rows₀ control p₀ property₀ listed₀ hints rows p property listed = length s - p
+μ-loop older newer scope s rows₀ control p₀ property₀ listed₀ rows p property listed = length s - p
 
 -- a property starts here, in the stream that is lent at the start
 abbrev start-of : tie.Else1 Inv-loop μ-loop → tie.Start Inv-loop μ-loop

@@ -16,10 +16,10 @@ use Rattle.tally2000.proofs.count_run.Statement.{statement}
 use Rattle.tally2000.proofs.count_run.Tie as tie
 
 abbrev Inv-loop : tie.InvT-loop
-Inv-loop table hints₀ body s at words₀ p₀ words p = Left (shownIn (bodyRows table body) s) s at words₀ words p
+Inv-loop table body s at words₀ p₀ words p = Left (shownIn (bodyRows table body) s) s at words₀ words p
 
 abbrev μ-loop : tie.MeasureT-loop
-μ-loop table hints₀ body s at words₀ p₀ words p = length s - p
+μ-loop table body s at words₀ p₀ words p = length s - p
 
 -- a property starts here, in the stream that is lent at the start
 abbrev start-of : tie.Else1 Inv-loop μ-loop → tie.Start Inv-loop μ-loop
