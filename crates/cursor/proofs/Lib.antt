@@ -2,3 +2,5 @@ pub mod WalkLaws
 pub mod StackLaws
 pub mod CursorLaws
 pub mod RowLaws
+pub mod WorkLaws
+pub mod VisitLaws

@@ -1,3 +1,4 @@
 pub mod Walk
 pub mod Stack
 pub mod Cursors
+pub mod Work
