@@ -1,3 +1,5 @@
 -- What the proofs of several functions use.
+pub mod Visits
 pub mod Walking
 pub mod Whole
+pub mod Writes

@@ -1,17 +1,14 @@
 -- The rows of the entries of an Access 2000 stream that a walk visits, from what the code answers.
-use Prim.Native.Nat.{ℕ, _+_, _≤_, _<_}
+use Prim.Native.Nat.{ℕ, _≤_, _<_}
 use native.Mathlib.Omega.{arith}
-use mathlib.Core.Path.{_≡_, refl, sym, ap, _∙_}
+use mathlib.Core.Path.{_≡_, sym, ap, _∙_}
 use mathlib.Core.List.{List, [], _∷_}
-use mathlib.Core.Option.{Option, none, some}
+use mathlib.Core.Option.{some}
 use lib.ListN.{length}
-use Rattle.rules.specs.Lists.{_>>=_}
-use Rattle.rules.specs.Bytes.{halfAt}
 use Rattle.rules.specs.Answer.{longest}
-use Rattle.rules.specs.Tree.{Node, noParent, nodeIn, levels, isReported}
-use Rattle.rules.specs.Access2000.{Prop, runAt, headAt}
+use Rattle.rules.specs.Tree.{Node, noParent, levels, isReported}
+use Rattle.rules.specs.Access2000.{Prop}
 use Rattle.rules.specs.Read2000.{controlOf}
-use Rattle.rules.proofs.ListLaws.{none-some}
 use Rattle.rows.specs.Writing.{State, writeControls}
 use Rattle.rows.specs.Acts.{topNodes, Stood, stateAt, stoodAt}
 use Rattle.rows.specs.declared.Next.{Next}
@@ -25,40 +22,14 @@ use Rattle.cursor.specs.declared.Cursor.{Cursor}
 use Rattle.cursor.proofs.RowLaws as laws
 use Rattle.cursor.proofs.RowLaws.{left, howMany}
 use Rattle.cursor2000.specs.Steps.{stepAt, listAt}
-use Rattle.cursor2000.proofs.StepLaws.{entries-same, list-some}
+use Rattle.cursor2000.proofs.StepLaws.{entries-same}
 use Rattle.form2000.specs.Acts.{topAt, TopReady, TopDone}
+use Rattle.form2000.proofs.Visits.{Parts, parts}
 
--- ---- an entry as the code reads it: its run ends at `end`, and the head of its list stands there
-pub record Parts (at : Nesting) (s : List ℕ) (p : ℕ) (x : Step Prop) : Type 0 where
-  pub end : ℕ
-  pub node-is : nodeAt at s p ≡ some (nodeOf (at .level) (at .parent) x ∷ [], end)
-  pub list-is : listAt s end ≡ some (countOf (x .children), x .next)
-
-pub parts : (at : Nesting) (s : List ℕ) (p : ℕ) (x : Step Prop) → stepAt s p ≡ some x → Parts at s p x
-unfolding stepAt nodeAt
-parts at s p x e = go (halfAt s p) (runAt s (p + 2)) refl e
-  where
-    stepIn : ℕ → List Prop → Option ℕ × ℕ → Option (Step Prop)
-    stepIn t ps h = some (record { type = t; props = ps; children = h .0; next = h .1 })
-
-    nodeHere : ℕ → List Prop → Node Prop
-    nodeHere t ps = nodeIn (at .level) (at .parent) t ps
-
-    heads : (t : ℕ) (ps : List Prop) (q : ℕ) → nodeAt at s p ≡ some (nodeHere t ps ∷ [], q) → (h : Option (Option ℕ × ℕ)) → headAt s q ≡ h → (h >>= stepIn t ps) ≡ some x → Parts at s p x
-    heads t ps q n none k e = absurd (none-some e)
-    heads t ps q n (some h) k e =
-        let w : record { type = t; props = ps; children = h .0; next = h .1 } ≡ x = cc in
-        record {
-          end = q;
-          node-is = n ∙ ap (λ (y : Step Prop). some (nodeOf (at .level) (at .parent) y ∷ [], q)) w;
-          list-is = list-some s q (h .0) (h .1) k ∙ ap (λ (y : Step Prop). some (countOf (y .children), y .next)) w;
-        }
-
-    go : (a : Option ℕ) (b : Option (List Prop × ℕ)) → nodeAt at s p ≡ (a >>= λ t. b >>= λ z. some (nodeHere t (z .0) ∷ [], z .1))
-        → (a >>= λ t. b >>= λ z. headAt s (z .1) >>= stepIn t (z .0)) ≡ some x → Parts at s p x
-    go none b n e = absurd (none-some e)
-    go (some t) none n e = absurd (none-some e)
-    go (some t) (some z) n e = heads t (z .0) (z .1) n (headAt s (z .1)) refl e
+-- ---- an entry as the code reads it
+node-is : (at : Nesting) (s : List ℕ) (p : ℕ) (x : Step Prop) (k : Parts s p x) → nodeAt at s p ≡ some (nodeOf (at .level) (at .parent) x ∷ [], k .end)
+unfolding nodeAt
+node-is at s p x k = rw (k .half, k .run-is)
 
 -- ---- the loop
 pub record Going (t scopes s : List ℕ) (n : ℕ) (controls rows : List ℕ) (start : Next) (a : List ℕ) (c : Cursor) (controls′ rows′ : List ℕ) (next : Next) : Type 0 where
@@ -90,11 +61,14 @@ module _ {t scopes s : List ℕ} {n : ℕ} {controls rows : List ℕ} {start : N
     abbrev node : Node Prop
     node = laws.node (g .goes) l
 
-    its : Parts (nesting c) s (c .at) entry
-    its = parts (nesting c) s (c .at) entry (laws.entry-read (g .goes) l)
+    its : Parts s (c .at) entry
+    its = parts s (c .at) entry (laws.entry-read (g .goes) l)
+
+    its-node : nodeAt (nesting c) s (c .at) ≡ some (node ∷ [], its .end)
+    its-node = node-is (nesting c) s (c .at) entry its
 
     pub going-ready : NodeReady t scopes s controls′ rows′ here (nesting c)
-    going-ready = record { ready = rw (its .node-is) (laws.going-ready (g .goes) l (its .end)) }
+    going-ready = record { ready = rw its-node (laws.going-ready (g .goes) l (its .end)) }
 
     pub going-small : next .control ≤ longest
     going-small = omega (arith, laws.going-ready (g .goes) l 0 .fits .few)
@@ -105,7 +79,7 @@ module _ {t scopes s : List ℕ} {n : ℕ} {controls rows : List ℕ} {start : N
     -- the entry is written, and its run ends at e
     module _ {controls″ rows″ : List ℕ} {e : Next} (w : NodeDone t s controls′ rows′ here (nesting c) controls″ rows″ e) where
       wrote : stoodAt controls″ rows″ e ≡ at-place (writeControls (controlOf t s node ∷ []) now) (its .end)
-      wrote = let z : some (stoodAt controls″ rows″ e) ≡ act t s (some (node ∷ [], its .end)) now = rw (its .node-is) at w in cc
+      wrote = let z : some (stoodAt controls″ rows″ e) ≡ act t s (some (node ∷ [], its .end)) now = rw its-node at w in cc
 
       list-there : listAt s (e .at) ≡ some (countOf (entry .children), entry .next)
       list-there = ap (λ (y : Stood). listAt s (y .next)) wrote ∙ its .list-is

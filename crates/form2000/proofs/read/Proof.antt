@@ -1,5 +1,6 @@
 use borrow.Author.Needs.{needs}
-use Rattle.form2000.proofs.Whole.{read-bad, read-small, read-refused, read-ready, read-done}
+use Rattle.form2000.proofs.Whole.{counts-small}
+use Rattle.form2000.proofs.Writes.{read-bad, read-refused, read-ready, read-done}
 use Rattle.form2000.proofs.read.Statement.{statement}
 use Rattle.form2000.proofs.read.Tie as tie
 
@@ -18,7 +19,7 @@ judge-requires c κs =
     let all : tie.After-all = search in
     let start = start-of all in
     let a = start .args in
-    read-small (a .table .now) _ (a .controls .now) (a .properties .now) (all .before .before .count .ensures) (all .all .given .1) (start .pre .small)
+    counts-small (a .table .now) _ (all .before .before .count .ensures) (all .all .given .1) (start .pre .small)
 
 returns-2 : tie.Need-returns-2
 returns-2 c =
