@@ -66,30 +66,53 @@ later-is s h = rw (le-ltb (length s) 14 h)
 pub same-many : (s : List ℕ) (n : Node Prop) → length (control s n .properties) ≡ length (n .props)
 same-many s = own-many s (nameIn s (treeOf s))
 
-module _ {s : List ℕ} {tree : Bool} {cs ps : List ℕ} (h : BlobReady s tree cs ps) where
-  pub own-ready : GroupReady s (length s) 14 (length ps) 0
-  own-ready = record { inside = omega arith; small = h .small; fits = omega (arith, h .own) }
-
-  -- a control of the tree where there is one, and of the scan where there is none
+-- ---- the tree where there is one, and the scan where there is none
+module _ (s : List ℕ) {tree : Bool} (is : tree ≡ isTree (treeOf s)) where
   no-tree : {b : Bool} → treeOf s ≡ none → tree ≡ b → b ≡ false
-  no-tree e t = sym t ∙ h .is ∙ ap isTree e
+  no-tree e t = sym t ∙ is ∙ ap isTree e
 
   a-tree : {b : Bool} {es : Entries Prop} → treeOf s ≡ some es → tree ≡ b → b ≡ true
-  a-tree e t = sym t ∙ h .is ∙ ap isTree e
+  a-tree e t = sym t ∙ is ∙ ap isTree e
 
-  in-tree : tree ≡ true → control s ≡ treeControl s
+  pub in-tree : tree ≡ true → control s ≡ treeControl s
   in-tree b = go (treeOf s) refl
     where
       go : (o : Option (Entries Prop)) → treeOf s ≡ o → controlOf s (nameIn s o) ≡ treeControl s
       go none e = absurd (let k = no-tree e b in let z : _≡_ {A = ℕ} 0 1 = cc in omega arith)
       go (some es) e = refl
 
-  in-scan : tree ≡ false → control s ≡ scannedControl s
+  pub in-scan : tree ≡ false → control s ≡ scannedControl s
   in-scan b = go (treeOf s) refl
     where
       go : (o : Option (Entries Prop)) → treeOf s ≡ o → controlOf s (nameIn s o) ≡ scannedControl s
       go none e = refl
       go (some es) e = absurd (let k = a-tree e b in let z : _≡_ {A = ℕ} 0 1 = cc in omega arith)
+
+  -- the object's group ended at `stop` by `trailer`
+  module _ {stop trailer : ℕ} (se : stop ≡ objectGroup s .stop) (te : trailer ≡ trailerOr0 (objectGroup s .trailer)) where
+    pub tree-is : tree ≡ true → (e : ℕ) × (topNodes (wholeTree s trailer stop) ≡ some (nodesBy s (treeOf s), e))
+    tree-is b = go (objectGroup s .trailer) refl
+      where
+        last : (t : ℕ) (o : Option (Entries Prop × ℕ)) → wholeTree s t (objectGroup s .stop) ≡ o → treeOf s ≡ entriesIn o → (e : ℕ) × (topNodes (wholeTree s t (objectGroup s .stop)) ≡ some (nodesBy s (treeOf s), e))
+        last t none f g = absurd (let k = no-tree g b in let z : _≡_ {A = ℕ} 0 1 = cc in omega arith)
+        last t (some x) f g = (x .1, ap topNodes f ∙ sym (ap (λ o. some (nodesBy s o, x .1)) g))
+
+        go : (o : Option ℕ) → objectGroup s .trailer ≡ o → (e : ℕ) × (topNodes (wholeTree s trailer stop) ≡ some (nodesBy s (treeOf s), e))
+        go none e = absurd (let k = no-tree (tree-open s e) b in let z : _≡_ {A = ℕ} 0 1 = cc in omega arith)
+        go (some t) e =
+            let x = last t (wholeTree s t (objectGroup s .stop)) refl (tree-by s t e) in
+            (x .0, ap₂ (λ a b. topNodes (wholeTree s a b)) (te ∙ ap trailerOr0 e) se ∙ x .1)
+
+    pub scan-is : tree ≡ false → nodesBy s (treeOf s) ≡ scanFrom s stop
+    scan-is b = go (treeOf s) refl
+      where
+        go : (o : Option (Entries Prop)) → treeOf s ≡ o → nodesBy s (treeOf s) ≡ scanFrom s stop
+        go none e = ap (nodesBy s) e ∙ ap (scanFrom s) (sym se)
+        go (some es) e = absurd (let k = a-tree e b in let z : _≡_ {A = ℕ} 0 1 = cc in omega arith)
+
+module _ {s : List ℕ} {tree : Bool} {cs ps : List ℕ} (h : BlobReady s tree cs ps) where
+  pub own-ready : GroupReady s (length s) 14 (length ps) 0
+  own-ready = record { inside = omega arith; small = h .small; fits = omega (arith, h .own) }
 
   module _ {w : WrittenGroup} {ps′ : List ℕ} (d : GroupDone s (length s) 14 ps 0 ps′ w) where
     -- the object's rows are written, and the nodes' are next
@@ -108,40 +131,20 @@ module _ {s : List ℕ} {tree : Bool} {cs ps : List ℕ} (h : BlobReady s tree c
         let x = n ∙ ap₂ (λ f st. actBy f o st) (sym k) (sym started-is) in
         rw (later-is s (h .long)) (made-written (propertyOf s) (control s) (same-many s) (objectGroup s .props) (nodesBy s (treeOf s)) cs ps cs′ ps″ (r .control) (r .property) (r .at) e x)
 
-    tree-is : tree ≡ true → (e : ℕ) × (topNodes (wholeTree s (w .trailer) (w .stop)) ≡ some (nodesBy s (treeOf s), e))
-    tree-is b = go (objectGroup s .trailer) refl
-      where
-        last : (t : ℕ) (o : Option (Entries Prop × ℕ)) → wholeTree s t (objectGroup s .stop) ≡ o → treeOf s ≡ entriesIn o → (e : ℕ) × (topNodes (wholeTree s t (objectGroup s .stop)) ≡ some (nodesBy s (treeOf s), e))
-        last t none f g = absurd (let k = no-tree g b in let z : _≡_ {A = ℕ} 0 1 = cc in omega arith)
-        last t (some x) f g = (x .1, ap topNodes f ∙ sym (ap (λ o. some (nodesBy s o, x .1)) g))
-
-        go : (o : Option ℕ) → objectGroup s .trailer ≡ o → (e : ℕ) × (topNodes (wholeTree s (w .trailer) (w .stop)) ≡ some (nodesBy s (treeOf s), e))
-        go none e = absurd (let k = no-tree (tree-open s e) b in let z : _≡_ {A = ℕ} 0 1 = cc in omega arith)
-        go (some t) e =
-            let x = last t (wholeTree s t (objectGroup s .stop)) refl (tree-by s t e) in
-            (x .0, ap₂ (λ a b. topNodes (wholeTree s a b)) (d .trailer ∙ ap trailerOr0 e) (d .stop) ∙ x .1)
-
     pub blob-tree-ready : tree ≡ true → NodesReady s (topNodes (wholeTree s (w .trailer) (w .stop))) st
-    blob-tree-ready b = rw (tree-is b .1) (record { known = h .small; fits = subst (λ f. Fit (map f (nodesBy s (treeOf s))) st) (in-tree b) all-fit })
+    blob-tree-ready b = rw (tree-is s (h .is) (d .stop) (d .trailer) b .1) (record { known = h .small; fits = subst (λ f. Fit (map f (nodesBy s (treeOf s))) st) (in-tree s (h .is) b) all-fit })
 
     pub blob-tree-done : tree ≡ true → {cs′ ps″ : List ℕ} {r : Next} → NodesDone s (topNodes (wholeTree s (w .trailer) (w .stop))) st cs′ ps″ r → Written (readLater s) cs ps cs′ ps″
-    blob-tree-done b n = let x = tree-is b in done-by (treeControl s) (in-tree b) (x .0) (n ∙ ap (λ o. actBy (treeControl s) o st) (x .1))
-
-    scan-is : tree ≡ false → nodesBy s (treeOf s) ≡ scanFrom s (w .stop)
-    scan-is b = go (treeOf s) refl
-      where
-        go : (o : Option (Entries Prop)) → treeOf s ≡ o → nodesBy s (treeOf s) ≡ scanFrom s (w .stop)
-        go none e = ap (nodesBy s) e ∙ ap (scanFrom s) (sym (d .stop))
-        go (some es) e = absurd (let k = a-tree e b in let z : _≡_ {A = ℕ} 0 1 = cc in omega arith)
+    blob-tree-done b n = let x = tree-is s (h .is) (d .stop) (d .trailer) b in done-by (treeControl s) (in-tree s (h .is) b) (x .0) (n ∙ ap (λ o. actBy (treeControl s) o st) (x .1))
 
     pub blob-scan-ready : tree ≡ false → ScanReady s (w .stop) st
     blob-scan-ready b = record {
       within = omega (arith, d .stop, object-within s (h .long));
-      ready = record { known = h .small; fits = subst (λ f. Fit (map f (scanFrom s (w .stop))) st) (in-scan b) (rw (sym (scan-is b)) all-fit) };
+      ready = record { known = h .small; fits = subst (λ f. Fit (map f (scanFrom s (w .stop))) st) (in-scan s (h .is) b) (rw (sym (scan-is s (h .is) (d .stop) (d .trailer) b)) all-fit) };
     }
 
     pub blob-scan-done : tree ≡ false → {cs′ ps″ : List ℕ} {r : Next} → ScanDone s (w .stop) st cs′ ps″ r → Written (readLater s) cs ps cs′ ps″
-    blob-scan-done b n = done-by (scannedControl s) (in-scan b) (length s) (n ∙ ap (λ ns. actBy (scannedControl s) (some (ns, length s)) st) (sym (scan-is b)))
+    blob-scan-done b n = done-by (scannedControl s) (in-scan s (h .is) b) (length s) (n ∙ ap (λ ns. actBy (scannedControl s) (some (ns, length s)) st) (sym (scan-is s (h .is) (d .stop) (d .trailer) b)))
 
 -- ---- what a caller sees
 pub read-short : (s cs ps : List ℕ) → length s < 14 → (a : Answer) → a ≡ answer 0 0 0 0 → Exits (some (readLater s)) cs ps a cs ps
