@@ -4,23 +4,19 @@ use native.Mathlib.Omega.{arith}
 use mathlib.Core.Path.{_≡_, refl, sym, ap, ap₂, _∙_}
 use mathlib.Core.Bool.{Bool, true, false, not, cond, _&&_}
 use mathlib.Core.List.{List, [], _∷_, _++_, map}
-use mathlib.Core.Option.{Option, none, some}
-use lib.Dec.{ltb, leb, eqb}
+use mathlib.Core.Option.{some}
+use lib.Dec.{ltb, leb}
 use lib.ListN.{length, getD, set, length-set}
-use lib.Seq.{getD-set-same, getD-set-other}
 use borrow.Author.Tests.{lt-ltb, le-ltb, le-leb, lt-leb, not-true, not-false}
-use Rattle.rules.specs.Lists.{concat, howMany}
-use Rattle.rules.specs.Tree.{Node}
+use Rattle.rules.specs.Lists.{concat}
 use Rattle.rules.specs.Answer.{moreControls, moreProperties, longest}
 use Rattle.rules.specs.Rows.{controlWidth, propertyWidth}
 use Rattle.rules.specs.Reading.{Control, Reading, properties}
-use Rattle.rules.specs.Blob.{Outcome, refused, read, counted, fit, answerOf}
+use Rattle.rules.specs.Blob.{refused, read, counted, fit, answerOf}
 use Rattle.rules.specs.declared.Answer.{Answer}
 use Rattle.rules.specs.Totals.{ceiling}
 use Rattle.rules.specs.declared.Property.{Property}
-use Rattle.rules.proofs.ListLaws.{map-append, concat-append}
-use Rattle.rows.specs.Acts.{Nodes, Held}
-use Rattle.tally.specs.Places.{up, bump, bumps, marksAt, answerPlace, propertyPlaces, propertiesPlaces, controlPlaces, controlsPlaces, readingPlaces, Stood, stood, tallyBy, Tallied}
+use Rattle.tally.specs.Places.{bump, bumps, marksAt, answerPlace, propertyPlaces, propertiesPlaces, controlPlaces, controlsPlaces, readingPlaces, Tallied}
 
 pub bump-more : (words : List ℕ) (i n : ℕ) → n ≡ getD words i 0 → n < ceiling → set words i (n + 1) ≡ bump words i
 unfolding bump
@@ -131,12 +127,3 @@ module _ (in2000 : Bool) (cr pr : ℕ) (r : Reading) (words : List ℕ) {a : Ans
       go true d e = absurd (omega (arith, z, ap (λ (x : Answer). x .number) e))
       go false true e = absurd (omega (arith, z, ap (λ (x : Answer). x .number) e))
       go false false e = record { answer-is = e; words-are = w; few = f }
-
--- ---- of nodes
-module _ {P : Type 0} (in2000 : Bool) (f : Node P → Control) where
-  -- what was counted, where something was read
-  pub tallied-words : (o : Nodes P) (old now : List ℕ) (e : ℕ) → some (stood now e) ≡ tallyBy in2000 f o old → Held (λ x. now ≡ bumps old (controlsPlaces in2000 (map f (x .0)))) o
-  tallied-words none old now e h = absurd (let z : _≡_ {A = ℕ} 0 1 = cc in omega arith)
-  tallied-words (some x) old now e h =
-      let z : stood now e ≡ stood (bumps old (controlsPlaces in2000 (map f (x .0)))) (x .1) = cc in
-      ap (λ (s : Stood). s .words) z

@@ -3,7 +3,6 @@ use Prim.Native.Nat.{ℕ, _+_, _-_, _≤_}
 use mathlib.Core.Path.{_≡_}
 use mathlib.Core.Bool.{Bool, cond, _&&_}
 use mathlib.Core.List.{List, [], _∷_, _++_, map}
-use mathlib.Core.Option.{Option, none, some}
 use lib.Dec.{ltb, leb}
 use lib.ListN.{length, getD, set}
 use Rattle.rules.specs.Lists.{concat}
@@ -15,7 +14,6 @@ use Rattle.rules.specs.Totals.{ceiling}
 use Rattle.rules.specs.declared.Answer.{Answer}
 use Rattle.rules.specs.declared.Property.{Property}
 use Rattle.totallaws.proofs.TotalsLaws.{typePlace}
-use Rattle.rows.specs.Acts.{Nodes}
 
 -- one more, as far as the ceiling
 abbrev pub up : ℕ → ℕ
@@ -60,18 +58,13 @@ outcomePlaces in2000 (refused a) = []
 outcomePlaces in2000 (read r) = readingPlaces in2000 r
 
 -- ---- what counting leaves
--- the words, and the place after what was counted
-pub record Stood : Type 0 where
-  pub words : List ℕ
-  pub next : ℕ
+-- of things, of which f makes properties
+abbrev pub propertiesTally : {X : Type 0} → Bool → (X → Property) → List X → List ℕ → List ℕ
+propertiesTally in2000 f xs words = bumps words (propertiesPlaces in2000 (map f xs))
 
-abbrev pub stood : List ℕ → ℕ → Stood
-stood words next = record { words = words; next = next }
-
--- nodes, of which f makes controls
-abbrev pub tallyBy : {P : Type 0} → Bool → (Node P → Control) → Nodes P → List ℕ → Option Stood
-tallyBy in2000 f none words = none
-tallyBy in2000 f (some x) words = some (stood (bumps words (controlsPlaces in2000 (map f (x .0)))) (x .1))
+-- of nodes, of which f makes controls
+abbrev pub controlsTally : {P : Type 0} → Bool → (Node P → Control) → List (Node P) → List ℕ → List ℕ
+controlsTally in2000 f xs words = bumps words (controlsPlaces in2000 (map f xs))
 
 -- few enough that no number comes to the ceiling
 abbrev pub Few : Outcome → Type 0

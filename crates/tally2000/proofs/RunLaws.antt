@@ -1,88 +1,52 @@
--- A run counted a property at a time, and an entry by its run and its type.
-use Prim.Native.Nat.{ℕ, _+_, _<_}
+-- A run and an entry, counted: what a walk needs to know of it.
+use Prim.Native.Nat.{ℕ, _+_, _≤_}
 use native.Mathlib.Omega.{arith}
-use mathlib.Core.Path.{_≡_, refl, sym, ap, ap₂, _∙_}
-use mathlib.Core.Bool.{Bool, true, false}
+use mathlib.Core.Path.{_≡_, refl, sym, ap, ap₂, subst, _∙_}
+use mathlib.Core.Bool.{Bool, true}
 use mathlib.Core.List.{List, [], _∷_, _++_, map}
-use mathlib.Core.Option.{Option, none, some}
 use lib.ListN.{length}
-use Rattle.rules.specs.Lists.{_>>=_}
-use Rattle.rules.specs.Bytes.{byte, u16}
+use Rattle.rules.specs.Bytes.{u16}
 use Rattle.rules.specs.CodeTable.{header}
-use Rattle.rules.specs.Tree.{nodeIn}
-use Rattle.rules.specs.Access2000.{Prop, propertyAt, goesOn, runAt}
+use Rattle.rules.specs.Tree.{Node, noParent, isReported}
+use Rattle.rules.specs.Answer.{longest}
+use Rattle.rules.specs.Access2000.{Prop, runAt}
 use Rattle.rules.specs.Read2000.{isReport, typeCode, propertyIn, controlOf}
 use Rattle.rules.specs.declared.Property.{Property}
 use Rattle.totallaws.proofs.TotalsLaws.{typePlace}
-use Rattle.rows.specs.Acts.{Held}
 use Rattle.coderows.specs.Look.{Finds, bodyRows}
 use Rattle.coderows.specs.declared.Body.{Body}
-use Rattle.walk2000.specs.Told as told
-use Rattle.walk2000.specs.declared.Extent.{Extent}
-use Rattle.run2000.specs.Runs.{prop, shownIn}
-use Rattle.run2000.proofs.RunSteps.{Rest, with-first, run-more, run-stop, run-bad}
+use Rattle.run2000.specs.Runs.{shownIn}
 use Rattle.run2000.proofs.Written.{shown-same}
-use Rattle.tally.specs.Places.{bump, bumps, typesAt, propertyPlaces, propertiesPlaces, controlPlaces, Stood, stood}
-use Rattle.tally.proofs.BumpLaws.{bumps-append, properties-none, properties-more}
-use Rattle.tally2000.specs.Counting.{runTally, NodeReady, RunReady, RunDone, nodePlaces, NodeTallied, NodeDone}
+use Rattle.cursor.proofs.WorkLaws.{held-as, ran-as}
+use Rattle.cursor.proofs.VisitLaws.{Visit, EntryWork}
+use Rattle.form2000.proofs.Visits.{Running, run-start, Visiting, top-start}
+use Rattle.tally.specs.Places.{bump, bumps, typesAt, propertyPlaces, propertiesPlaces, controlPlaces}
+use Rattle.tally.proofs.BumpLaws.{bumps-append}
+use Rattle.tally.proofs.Walk.{Same, FewLeft, properties-work, controls-work}
+use Rattle.form2000.specs.Acts.{topAt}
+use Rattle.cursor.specs.Work.{Ran}
+use Rattle.cursor.specs.Cursors.{cursor, Passed}
+use Rattle.cursor.specs.declared.Cursor.{Cursor}
+use Rattle.cursor2000.specs.Steps.{stepAt}
+use Rattle.tally2000.specs.Counting.{runTally, NodeReady, RunReady, RunDone, nodePlaces, nodeTally, NodeDone, topTally, TopReady}
 
--- what is left to count from here is what there was to count
-pub record Left (f : Prop → Property) (s : List ℕ) (at : ℕ) (old new : List ℕ) (p : ℕ) : Type 0 where
-  pub there : Held (λ _. Unit {0}) (runAt s p)
-  pub is : runTally f (runAt s p) new ≡ runTally f (runAt s at) old
-  pub same : length new ≡ length old
+-- ---- a run
+abbrev pub oneTally : List ℕ → Body → List ℕ → Prop → List ℕ → List ℕ
+oneTally t body s q words = bumps words (propertyPlaces true (shownIn (bodyRows t body) s q))
 
-pub left-start : {f : Prop → Property} {s : List ℕ} {at : ℕ} {old : List ℕ} → Held (λ _. Unit {0}) (runAt s at) → Left f s at old old at
-left-start h = record { there = h; is = refl; same = refl }
+-- what the loop keeps
+abbrev pub Counting : List ℕ → Body → List ℕ → ℕ → List ℕ → ℕ → List ℕ → Type 0
+Counting t body s at old p words = Running (Ran (runTally t body s) (runAt s at) old) (oneTally t body s) (runTally t body s) (Same old) s p words
 
-there-more : (q : Prop) (o : Rest) → Held (λ _. Unit {0}) (with-first q o) → Held (λ _. Unit {0}) o
-there-more q none h = h
-there-more q (some x) h = tt
-
-tally-more : (f : Prop → Property) (q : Prop) (new : List ℕ) (o : Rest) → runTally f o (bumps new (propertyPlaces true (f q))) ≡ runTally f (with-first q o) new
-tally-more f q new none = refl
-tally-more f q new (some x) = ap (λ (w : List ℕ). some (stood w (x .1))) (sym (properties-more true (f q) (map f (x .0)) new))
-
-module _ {f : Prop → Property} {s : List ℕ} {at : ℕ} {old new : List ℕ} {p : ℕ} (known : Left f s at old new p) where
-  left-end : goesOn s p ≡ false → some (stood new p) ≡ runTally f (runAt s at) old
-  left-end t =
-      let e : some (stood new p) ≡ runTally f (some ([], p)) new = ap (λ (w : List ℕ). some (stood w p)) (sym (properties-none true new)) in
-      e ∙ ap (λ o. runTally f o new) (sym (run-stop s p t)) ∙ known .is
-
-  module _ {r : Extent} (goes : goesOn s p ≡ true) (re : r ≡ told.value (propertyAt s p)) where
-    pub left-bad : r ≡ Extent.Bad → ⊥
-    left-bad k = rw (run-bad s p r goes re k) at (known .there)
-
-    pub left-more : {st sz : ℕ} → r ≡ Extent.At st sz → {q : Property} {new′ : List ℕ} → q ≡ f (prop (byte s p) st sz) → new′ ≡ bumps new (propertyPlaces true q) → length new′ ≡ length new
-        → Left f s at old new′ (st + sz)
-    left-more {st = st} {sz = sz} k {q = q} {new′ = new′} qe ne l =
-        let m = run-more s p r st sz goes re k in
-        let e : new′ ≡ bumps new (propertyPlaces true (f (prop (byte s p) st sz))) = ne ∙ ap (λ (x : Property). bumps new (propertyPlaces true x)) qe in
-        record {
-          there = there-more (prop (byte s p) st sz) (runAt s (st + sz)) (rw m at (known .there));
-          is = ap (λ (w : List ℕ). runTally f (runAt s (st + sz)) w) e ∙ tally-more f (prop (byte s p) st sz) new (runAt s (st + sz)) ∙ ap (λ o. runTally f o new) (sym m) ∙ known .is;
-          same = l ∙ known .same;
-        }
-
-pub left-stop : {t : List ℕ} {body : Body} {s : List ℕ} {at : ℕ} {old new : List ℕ} {p : ℕ} → Left (shownIn (bodyRows t body) s) s at old new p → goesOn s p ≡ false → RunDone t body s at old new p
-left-stop known e = record { is = left-end known e }
-
--- a run that was counted
-pub record RunOf (f : Prop → Property) (x : List Prop × ℕ) (old new : List ℕ) (next : ℕ) : Type 0 where
-  pub words-are : new ≡ bumps old (propertiesPlaces true (map f (x .0)))
-  pub next-is : next ≡ x .1
-
-pub run-counted : {f : Prop → Property} {o : Option (List Prop × ℕ)} {x : List Prop × ℕ} {old new : List ℕ} {next : ℕ} → o ≡ some x → some (stood new next) ≡ runTally f o old → RunOf f x old new next
-run-counted {f = f} {x = x} {old = old} {new = new} {next = next} oe e =
-    let k : some (stood new next) ≡ some (stood (bumps old (propertiesPlaces true (map f (x .0)))) (x .1)) = e ∙ ap (λ z. runTally f z old) oe in
-    let z : stood new next ≡ stood (bumps old (propertiesPlaces true (map f (x .0)))) (x .1) = cc in
-    record { words-are = ap (λ (w : Stood). w .words) z; next-is = ap (λ (w : Stood). w .next) z }
+pub counting-start : {t : List ℕ} {body : Body} {s : List ℕ} {at : ℕ} {words : List ℕ} → RunReady t body s at → Counting t body s at words at words
+counting-start {t = t} {body = body} {s = s} {at = at} {words = words} h =
+    run-start (properties-work true (shownIn (bodyRows t body) s) words) (held-as (λ _. Unit {0}) (λ (y : List Prop × ℕ). Same words (y .0) words) (runAt s at) (h .there) (λ _ _. refl))
 
 -- ---- an entry
 -- what is counted of an entry doesn't depend on where it stands in the tree
-pub places-same : (t s : List ℕ) (level up type : ℕ) (props : List Prop) → controlPlaces true (controlOf t s (nodeIn level up type props)) ≡ nodePlaces t s type props
+places-same : (t s : List ℕ) (x : Node Prop) → controlPlaces true (controlOf t s x) ≡ nodePlaces t s (x .type) (x .props)
 unfolding nodePlaces controlPlaces controlOf
-places-same t s level up type props = refl
+places-same t s x = refl
 
 places-are : (t s : List ℕ) (type : ℕ) (props : List Prop)
     → nodePlaces t s type props ≡ propertiesPlaces true (map (propertyIn t s (record { kind = 2; code = type })) props) ++ ((typesAt + typePlace (typeCode (header t) (isReport s) type)) ∷ [])
@@ -95,24 +59,36 @@ module _ {t scopes s : List ℕ} {at : ℕ} (h : NodeReady t scopes s at) {type 
 
   module _ {words now next : List ℕ} {end : ℕ} (d : RunDone t body s (at + 2) words now end) {report : Bool} {code : ℕ} (re : report ≡ isReport s) (ce : code ≡ typeCode (header t) report type)
       (ne : next ≡ bump now (typesAt + typePlace code)) where
-    pub node-done : NodeDone t s at words next end
-    node-done = record { is = go (runAt s (at + 2)) refl (h .there) }
-      where
-        one : (w : List ℕ) (i : ℕ) → bump w i ≡ bumps w (i ∷ [])
-        one w i = unfold bumps in refl
+    abbrev shows : Prop → Property
+    shows = propertyIn t s (record { kind = 2; code = u16 s at })
 
-        go : (o : Option (List Prop × ℕ)) → runAt s (at + 2) ≡ o → Held {A = List Prop × ℕ} (λ _. Unit {0}) o → Held (NodeTallied t s at words next end) o
-        go none e k = absurd k
-        go (some x) e k =
-            let ran = run-counted e (d .is) in
-            let f : shownIn (bodyRows t body) s ≡ propertyIn t s (record { kind = 2; code = u16 s at }) = shown-same t s 2 type body (h .known .formed) be ∙ ap (λ (k : ℕ). propertyIn t s (record { kind = 2; code = k })) te in
-            let c : code ≡ typeCode (header t) (isReport s) (u16 s at) = ce ∙ ap₂ (λ (b : Bool) (k : ℕ). typeCode (header t) b k) re te in
-            let w : now ≡ bumps words (propertiesPlaces true (map (propertyIn t s (record { kind = 2; code = u16 s at })) (x .0))) = ran .words-are ∙ ap (λ g. bumps words (propertiesPlaces true (map g (x .0)))) f in
-            record {
-              words-are =
-                  ne ∙ one now (typesAt + typePlace code)
-                  ∙ ap₂ (λ (v : List ℕ) (k : ℕ). bumps v ((typesAt + typePlace k) ∷ [])) w c
-                  ∙ sym (bumps-append words (propertiesPlaces true (map (propertyIn t s (record { kind = 2; code = u16 s at })) (x .0))) ((typesAt + typePlace (typeCode (header t) (isReport s) (u16 s at))) ∷ []))
-                  ∙ ap (bumps words) (sym (places-are t s (u16 s at) (x .0)));
-              next-is = ran .next-is;
-            }
+    shown : shownIn (bodyRows t body) s ≡ shows
+    shown = shown-same t s 2 type body (h .known .formed) be ∙ ap (λ (k : ℕ). propertyIn t s (record { kind = 2; code = k })) te
+
+    coded : code ≡ typeCode (header t) (isReport s) (u16 s at)
+    coded = ce ∙ ap₂ (λ (b : Bool) (k : ℕ). typeCode (header t) b k) re te
+
+    one : (w : List ℕ) (i : ℕ) → bump w i ≡ bumps w (i ∷ [])
+    unfolding bumps
+    one w i = refl
+
+    pub node-done : NodeDone t s at words next end
+    node-done = ran-as d λ ps w.
+        ne ∙ one now (typesAt + typePlace code)
+        ∙ ap₂ (λ (v : List ℕ) (k : ℕ). bumps v ((typesAt + typePlace k) ∷ [])) (w ∙ ap (λ f. bumps words (propertiesPlaces true (map f ps))) shown) coded
+        ∙ sym (bumps-append words (propertiesPlaces true (map shows ps)) ((typesAt + typePlace (typeCode (header t) (isReport s) (u16 s at))) ∷ []))
+        ∙ ap (bumps words) (sym (places-are t s (u16 s at) ps))
+
+-- ---- the entries that are reported of the top list
+pub top-work : (t s old : List ℕ) → EntryWork (λ _. nodeTally t s) (λ _. topTally t s) (FewLeft old)
+top-work t s old =
+    let same : _≡_ {A = ℕ → Node Prop → List ℕ → List ℕ} (λ _ x words. bumps words (controlPlaces true (controlOf t s x))) (λ _ x. nodeTally t s (x .type) (x .props)) = λ i _ x words. bumps words (places-same t s x i) in
+    record { visit = subst (λ one. Visit one (λ _. topTally t s) (FewLeft old)) same (controls-work true (controlOf t s) old) }
+
+-- what the loop keeps
+abbrev pub Going : (t s : List ℕ) → ℕ → ℕ → (old a : List ℕ) → Cursor → ℕ → List ℕ → Type 0
+Going t s n at old a c i words = Visiting (Ran (topTally t s) (topAt s n at) old) (λ _. nodeTally t s) (λ _. topTally t s) (FewLeft old) s a c i words
+
+pub going-start : {t scopes s : List ℕ} {n at : ℕ} {words : List ℕ} (a : List ℕ) {b r : Cursor} → length a ≡ 512 → TopReady t scopes s n at → b ≡ cursor at 0 n noParent → Passed (stepAt s) isReported b r → Going t s n at words a r 0 words
+going-start {t = t} {s = s} {n = n} {at = at} {words = words} a l h e p =
+    top-start words a (top-work t s words) l (held-as (λ x. length (x .0) ≤ longest) (λ (y : List (Node Prop) × ℕ). FewLeft words 0 (y .0) words) (topAt s n at) (h .few) (λ x f. record { few = omega (arith, f); same = refl })) e p

@@ -2,26 +2,24 @@
 use Prim.Native.Nat.{ℕ, _+_, _≤_, _<_}
 use mathlib.Core.Path.{_≡_}
 use mathlib.Core.Bool.{true}
-use mathlib.Core.List.{List, map}
-use mathlib.Core.Option.{Option, none, some}
+use mathlib.Core.List.{List}
 use lib.ListN.{length}
 use Rattle.rules.specs.Bytes.{u16}
 use Rattle.rules.specs.Answer.{longest}
 use Rattle.rules.specs.CodeTable.{wellFormed}
-use Rattle.rules.specs.Tree.{nodeIn, noParent}
+use Rattle.rules.specs.Tree.{Node, nodeIn, noParent}
 use Rattle.rules.specs.Access2000.{Prop, runAt, streamOf}
 use Rattle.rules.specs.Read2000.{controlOf, read2000}
 use Rattle.rules.specs.Blob.{fit, readBy}
 use Rattle.rules.specs.declared.Answer.{Answer}
-use Rattle.rules.specs.declared.Property.{Property}
 use Rattle.rows.specs.Acts.{Held}
 use Rattle.coderows.specs.Look.{Sorted, bodyRows}
 use Rattle.coderows.specs.declared.Body.{Body}
 use Rattle.run2000.specs.Runs.{shownIn}
 use Rattle.node2000.specs.Nodes.{Given}
 use Rattle.form2000.specs.Acts.{topAt}
-use Rattle.tally.specs.Places.{bumps, propertiesPlaces, controlPlaces, controlsPlaces, readingPlaces, Stood, stood, Tallied}
-use Rattle.tally.proofs.Walk.{FewLeft}
+use Rattle.tally.specs.Places.{bumps, controlPlaces, readingPlaces, propertiesTally, controlsTally, Tallied}
+use Rattle.cursor.specs.Work.{Ran}
 
 -- ---- a run: it could be read, and the rows of its scope ascend
 pub record RunReady (t : List ℕ) (body : Body) (s : List ℕ) (at : ℕ) : Type 0 where
@@ -29,12 +27,11 @@ pub record RunReady (t : List ℕ) (body : Body) (s : List ℕ) (at : ℕ) : Typ
   pub sorted : Sorted (bodyRows t body)
   pub there : Held (λ _. Unit {0}) (runAt s at)
 
-abbrev pub runTally : (Prop → Property) → Option (List Prop × ℕ) → List ℕ → Option Stood
-runTally f none words = none
-runTally f (some x) words = some (stood (bumps words (propertiesPlaces true (map f (x .0)))) (x .1))
+abbrev pub runTally : List ℕ → Body → List ℕ → List Prop → List ℕ → List ℕ
+runTally t body s = propertiesTally true (shownIn (bodyRows t body) s)
 
-pub record RunDone (t : List ℕ) (body : Body) (s : List ℕ) (at : ℕ) (words words′ : List ℕ) (r : ℕ) : Type 0 where
-  pub is : some (stood words′ r) ≡ runTally (shownIn (bodyRows t body) s) (runAt s at) words
+abbrev pub RunDone : (t : List ℕ) → Body → (s : List ℕ) → ℕ → (words words′ : List ℕ) → ℕ → Type 0
+RunDone t body s at words words′ r = Ran (runTally t body s) (runAt s at) words words′ r
 
 -- ---- an entry without its list
 pub record NodeReady (t scopes s : List ℕ) (at : ℕ) : Type 0 where
@@ -46,20 +43,23 @@ pub record NodeReady (t scopes s : List ℕ) (at : ℕ) : Type 0 where
 unfoldable pub nodePlaces : List ℕ → List ℕ → ℕ → List Prop → List ℕ
 nodePlaces t s type props = controlPlaces true (controlOf t s (nodeIn 0 noParent type props))
 
-pub record NodeTallied (t s : List ℕ) (at : ℕ) (words words′ : List ℕ) (r : ℕ) (x : List Prop × ℕ) : Type 0 where
-  pub words-are : words′ ≡ bumps words (nodePlaces t s (u16 s at) (x .0))
-  pub next-is : r ≡ x .1
+abbrev pub nodeTally : List ℕ → List ℕ → ℕ → List Prop → List ℕ → List ℕ
+nodeTally t s type props words = bumps words (nodePlaces t s type props)
 
-pub record NodeDone (t s : List ℕ) (at : ℕ) (words words′ : List ℕ) (r : ℕ) : Type 0 where
-  pub is : Held (NodeTallied t s at words words′ r) (runAt s (at + 2))
+abbrev pub NodeDone : (t s : List ℕ) → ℕ → (words words′ : List ℕ) → ℕ → Type 0
+NodeDone t s at words words′ r = Ran (nodeTally t s (u16 s at)) (runAt s (at + 2)) words words′ r
 
 -- ---- the top list
 pub record TopReady (t scopes s : List ℕ) (n at : ℕ) : Type 0 where
   pub known : Given t scopes s
-  pub few : FewLeft 0 (topAt s n at)
+  pub few : Held (λ x. length (x .0) ≤ longest) (topAt s n at)
+
+abbrev pub topTally : List ℕ → List ℕ → List (Node Prop) → List ℕ → List ℕ
+topTally t s = controlsTally true (controlOf t s)
 
 pub record TopDone (t s : List ℕ) (n at : ℕ) (words words′ : List ℕ) : Type 0 where
-  pub is : Held (λ x. words′ ≡ bumps words (controlsPlaces true (map (controlOf t s) (x .0)))) (topAt s n at)
+  pub next : ℕ
+  pub is : Ran (topTally t s) (topAt s n at) words words′ next
 
 -- ---- the whole stream
 pub record StreamReady (t s : List ℕ) : Type 0 where

@@ -1,119 +1,70 @@
--- A group counted by a loop, where what is left to count from here is what there was to count; and a control once its group is counted.
-use Prim.Native.Nat.{ℕ, _+_, _≤_, _<_}
+-- A group, a node and what the scan finds, counted: what a walk needs to know of it.
+use Prim.Native.Nat.{ℕ, _+_, _≤_}
 use native.Mathlib.Omega.{arith}
-use mathlib.Core.Path.{_≡_, refl, sym, ap, ap₂, _∙_}
-use mathlib.Core.Bool.{Bool, true, false}
-use mathlib.Core.List.{List, [], _∷_, _++_, map}
-use lib.Dec.{ltb}
+use mathlib.Core.Path.{_≡_, refl, sym, ap, ap₂, subst, _∙_}
+use mathlib.Core.Bool.{Bool, false}
+use mathlib.Core.List.{List, [], _∷_, map}
+use mathlib.Core.Option.{some}
 use lib.ListN.{length}
-use borrow.Author.Tests.{lt-ltb, le-ltb}
 use Rattle.rules.specs.Answer.{longest}
-use Rattle.rules.specs.Reading.{Control}
-use Rattle.rules.specs.Tree.{Node}
-use Rattle.rules.specs.Later.{Prop, endAt, propertyAt, endsGroup, groupAt}
-use Rattle.rules.specs.ReadLater.{propertyOf, controlOf}
+use Rattle.rules.specs.Tree.{Node, noParent, isReported}
+use Rattle.rules.specs.Later.{Prop, scanFrom}
+use Rattle.rules.specs.ReadLater.{propertyOf, controlOf, nameOf, scannedName}
 use Rattle.rules.specs.declared.Name.{Name}
-use Rattle.rules.specs.declared.Property.{Property}
-use Rattle.rules.proofs.LaterLaws.{group-none, group-last, group-more}
 use Rattle.totallaws.proofs.TotalsLaws.{typePlace}
-use Rattle.countlater.specs.Count.{extent}
-use Rattle.countlater.specs.declared.Extent.{Extent}
-use Rattle.countlater.proofs.PassedLaws.{Inside, extent-inside, extent-outside}
-use Rattle.later.specs.Write.{trailerOr0, propsAt}
+use Rattle.matchlater.proofs.MatchLaws.{scannedNode}
+use Rattle.cursor.specs.Cursors.{cursor, Passed}
+use Rattle.cursor.specs.Work.{Ran}
+use Rattle.cursor.specs.declared.Cursor.{Cursor}
+use Rattle.cursor.proofs.WorkLaws.{held-as}
+use Rattle.cursor.proofs.VisitLaws.{Visit, EntryWork}
+use Rattle.cursorlater.specs.Steps.{stepAt}
+use Rattle.later.specs.Write.{propsAt, treeControl, scannedControl}
+use Rattle.later.proofs.Visits.{Grouping, grouping-start, Visiting, top-start, Sweeping}
 use Rattle.tally.specs.Places.{bump, bumps, typesAt, propertyPlaces, propertiesPlaces, controlPlaces}
-use Rattle.tally.proofs.BumpLaws.{bumps-append, properties-none, properties-more}
-use Rattle.tallylater.specs.Counting.{GroupDone}
+use Rattle.tally.proofs.BumpLaws.{bumps-append}
+use Rattle.tally.proofs.Walk.{Same, FewLeft, properties-work, controls-work}
+use Rattle.tallylater.specs.Counting.{groupTally, GroupDone, nodePlaces, nodeTally, topAt, treeTally, SectionsReady, scanTally}
 use Rattle.tallylater.specs.declared.CountedGroup.{CountedGroup}
 
-abbrev placesAt : List ℕ → ℕ → ℕ → List ℕ
-placesAt s limit p = propertiesPlaces false (map (propertyOf s) (propsAt s limit p))
+-- ---- a group: what the loop keeps
+abbrev pub Counting : List ℕ → ℕ → ℕ → List ℕ → ℕ → Bool → List ℕ → Type 0
+Counting s limit at old p any words = Grouping (λ q w. bumps w (propertyPlaces false (propertyOf s q))) (groupTally s) (Same old) s limit at old p any words
 
-pub record Counting (s : List ℕ) (limit at : ℕ) (old new : List ℕ) (p : ℕ) (any : Bool) : Type 0 where
-  pub words : bumps new (placesAt s limit p) ≡ bumps old (placesAt s limit at)
-  pub stop : groupAt s limit p .stop ≡ groupAt s limit at .stop
-  pub trailer : groupAt s limit p .trailer ≡ groupAt s limit at .trailer
-  pub some : any ≡ true → 0 < length (propsAt s limit at)
-  pub none : any ≡ false → p ≡ at
-  pub same : length new ≡ length old
+pub counting-start : {s : List ℕ} {limit at : ℕ} {old : List ℕ} → Counting s limit at old at false old
+counting-start {s = s} {old = old} = grouping-start (properties-work false (propertyOf s) old) refl
 
-pub counting-start : {s : List ℕ} {limit at : ℕ} {old : List ℕ} → Counting s limit at old old at false
-counting-start = record { words = refl; stop = refl; trailer = refl; some = λ e. absurd (let z : _≡_ {A = ℕ} 0 1 = cc in omega arith); none = λ e. refl; same = refl }
+-- ---- a node: its group, then its type
+places-same : (s : List ℕ) (name : Node Prop → Name) (x : Node Prop) → controlPlaces false (controlOf s name x) ≡ nodePlaces s (x .type) (x .props)
+unfolding controlPlaces controlOf nodePlaces
+places-same s name x = refl
 
-module _ {s : List ℕ} {limit at : ℕ} {old new : List ℕ} {p : ℕ} {any : Bool} (w : Counting s limit at old new p any) (h : limit ≤ length s) {r : Extent} (re : r ≡ extent s limit p) where
-  pub counting-none : r ≡ Extent.Outside → GroupDone s limit at old new (record { any = any; stop = p; trailer = 0 })
-  counting-none rk =
-      let e = group-none s limit p h (extent-outside s limit p re rk) in
-      let q : propsAt s limit p ≡ [] = ap (λ g. g .props) e in
-      record {
-        words-are = sym (properties-none false new) ∙ sym (ap (λ (l : List Prop). bumps new (propertiesPlaces false (map (propertyOf s) l))) q) ∙ w .words;
-        any-is = told any refl q;
-        stop = sym (ap (λ g. g .stop) e) ∙ w .stop;
-        trailer = sym (ap (λ g. trailerOr0 (g .trailer)) e) ∙ ap trailerOr0 (w .trailer);
-      }
-    where
-      told : (b : Bool) → any ≡ b → propsAt s limit p ≡ [] → b ≡ ltb 0 (length (propsAt s limit at))
-      told true e q = sym (lt-ltb 0 (length (propsAt s limit at)) (w .some e))
-      told false e q =
-          let z : length (propsAt s limit at) ≡ 0 = ap (λ (k : ℕ). length (propsAt s limit k)) (sym (w .none e)) ∙ ap length q in
-          sym (le-ltb 0 (length (propsAt s limit at)) (omega (arith, z)))
-
-  module _ {z e t : ℕ} (rk : r ≡ Extent.Inside z e t) where
-    inside : Inside s limit p z e t
-    inside = extent-inside re rk
-
-    module _ {q : Property} (eq : q ≡ propertyOf s (propertyAt s p)) {new′ : List ℕ} (en : new′ ≡ bumps new (propertyPlaces false q)) {b : Bool} (be : b ≡ endsGroup t) where
-      -- the property of this turn, then qs
-      one-more : (qs : List Prop) → propsAt s limit p ≡ propertyAt s p ∷ qs → bumps new′ (propertiesPlaces false (map (propertyOf s) qs)) ≡ bumps old (placesAt s limit at)
-      one-more qs e =
-          ap (λ (l : List ℕ). bumps l (propertiesPlaces false (map (propertyOf s) qs))) (en ∙ ap (λ (x : Property). bumps new (propertyPlaces false x)) eq)
-          ∙ sym (properties-more false (propertyOf s (propertyAt s p)) (map (propertyOf s) qs) new)
-          ∙ sym (ap (λ (l : List Prop). bumps new (propertiesPlaces false (map (propertyOf s) l))) e) ∙ w .words
-
-      -- there is one
-      now-some : (qs : List Prop) → propsAt s limit p ≡ propertyAt s p ∷ qs → 0 < length (propsAt s limit at)
-      now-some qs e = go any refl
-        where
-          go : (c : Bool) → any ≡ c → 0 < length (propsAt s limit at)
-          go true k = w .some k
-          go false k = omega (arith, ap (λ (k : ℕ). length (propsAt s limit k)) (sym (w .none k)) ∙ ap length e)
-
-      pub counting-last : b ≡ true → GroupDone s limit at old new′ (record { any = true; stop = e; trailer = t })
-      counting-last bt =
-          let i = inside in
-          let g = group-last s limit p h (i .test) (ap endsGroup (sym (i .trailer)) ∙ sym be ∙ bt) in
-          let l : propsAt s limit p ≡ propertyAt s p ∷ [] = ap (λ g. g .props) g in
-          record {
-            words-are = sym (properties-none false new′) ∙ one-more [] l;
-            any-is = sym (lt-ltb 0 (length (propsAt s limit at)) (now-some [] l));
-            stop = i .next ∙ sym (ap (λ g. g .stop) g) ∙ w .stop;
-            trailer = i .trailer ∙ sym (ap (λ g. trailerOr0 (g .trailer)) g) ∙ ap trailerOr0 (w .trailer);
-          }
-
-      pub counting-more : length new′ ≡ length new → b ≡ false → Counting s limit at old new′ e true
-      counting-more k bf =
-          let i = inside in
-          let g = group-more s limit p h (i .test) (ap endsGroup (sym (i .trailer)) ∙ sym be ∙ bf) in
-          let l : propsAt s limit p ≡ propertyAt s p ∷ propsAt s limit (endAt s p) = ap (λ g. g .props) g in
-          rw (i .next) (record {
-            words = one-more (propsAt s limit (endAt s p)) l;
-            stop = sym (ap (λ g. g .stop) g) ∙ w .stop;
-            trailer = sym (ap (λ g. g .trailer) g) ∙ w .trailer;
-            some = λ _. now-some (propsAt s limit (endAt s p)) l;
-            none = λ f. absurd (let z : _≡_ {A = ℕ} 0 1 = cc in omega arith);
-            same = k ∙ w .same;
-          })
-
--- ---- a control: its group, then its type
-control-places : (s : List ℕ) (name : Node Prop → Name) (n : Node Prop) → controlPlaces false (controlOf s name n) ≡ propertiesPlaces false (map (propertyOf s) (n .props)) ++ ((typesAt + typePlace (n .type)) ∷ [])
-unfolding controlPlaces controlOf
-control-places s name n = refl
-
-module _ {s : List ℕ} {limit at : ℕ} {words now : List ℕ} {g : CountedGroup} (d : GroupDone s limit at words now g) (name : Node Prop → Name) (n : Node Prop) where
-  pub control-counted : n .props ≡ propsAt s limit at → {type : ℕ} → type ≡ n .type → {next : List ℕ} → next ≡ bump now (typesAt + typePlace type) → next ≡ bumps words (controlPlaces false (controlOf s name n))
-  control-counted pe {type = type} te ne =
+module _ {s : List ℕ} {limit at : ℕ} {words now : List ℕ} {g : CountedGroup} (d : GroupDone s limit at words now g) where
+  pub node-counted : {type k : ℕ} → type ≡ k → {next : List ℕ} → next ≡ bump now (typesAt + typePlace type) → next ≡ nodeTally s k (propsAt s limit at) words
+  unfolding nodePlaces
+  node-counted {type = type} {k = k} te ne =
       let one : (w : List ℕ) (i : ℕ) → bump w i ≡ bumps w (i ∷ []) = λ w i. (unfold bumps in refl) in
-      let v : now ≡ bumps words (propertiesPlaces false (map (propertyOf s) (n .props))) = d .words-are ∙ ap (λ (l : List Prop). bumps words (propertiesPlaces false (map (propertyOf s) l))) (sym pe) in
       ne ∙ one now (typesAt + typePlace type)
-      ∙ ap₂ (λ (u : List ℕ) (k : ℕ). bumps u ((typesAt + typePlace k) ∷ [])) v te
-      ∙ sym (bumps-append words (propertiesPlaces false (map (propertyOf s) (n .props))) ((typesAt + typePlace (n .type)) ∷ []))
-      ∙ ap (bumps words) (sym (control-places s name n))
+      ∙ ap₂ (λ (w : List ℕ) (t : ℕ). bumps w ((typesAt + typePlace t) ∷ [])) (d .is) te
+      ∙ sym (bumps-append words (propertiesPlaces false (map (propertyOf s) (propsAt s limit at))) ((typesAt + typePlace k) ∷ []))
+
+  pub scanned-counted : {next : List ℕ} → next ≡ bump now (typesAt + typePlace 0) → next ≡ bumps words (controlPlaces false (scannedControl s (scannedNode (propsAt s limit at))))
+  scanned-counted ne = node-counted refl ne ∙ ap (bumps words) (sym (places-same s (scannedName s) (scannedNode (propsAt s limit at))))
+
+-- ---- the nodes that are reported of the top list
+top-work : (s old : List ℕ) → EntryWork (λ _. nodeTally s) (λ _. treeTally s) (FewLeft old)
+top-work s old =
+    let same : _≡_ {A = ℕ → Node Prop → List ℕ → List ℕ} (λ _ x words. bumps words (controlPlaces false (treeControl s x))) (λ _ x. nodeTally s (x .type) (x .props)) = λ i _ x words. bumps words (places-same s (nameOf s) x i) in
+    record { visit = subst (λ one. Visit one (λ _. treeTally s) (FewLeft old)) same (controls-work false (treeControl s) old) }
+
+-- what the loop keeps
+abbrev pub Going : List ℕ → ℕ → ℕ → (old a : List ℕ) → Cursor → ℕ → List ℕ → Type 0
+Going s n at old a c i words = Visiting (Ran (treeTally s) (topAt s n at) old) (λ _. nodeTally s) (λ _. treeTally s) (FewLeft old) s a c i words
+
+pub going-start : {s : List ℕ} {n at : ℕ} {words : List ℕ} (a : List ℕ) {b r : Cursor} → length a ≡ 512 → SectionsReady s n at → b ≡ cursor at 0 n noParent → Passed (stepAt s) isReported b r → Going s n at words a r 0 words
+going-start {s = s} {n = n} {at = at} {words = words} a l h e p =
+    top-start words a (top-work s words) l (held-as (λ x. length (x .0) ≤ longest) (λ (y : List (Node Prop) × ℕ). FewLeft words 0 (y .0) words) (topAt s n at) (h .few) (λ x f. record { few = omega (arith, f); same = refl })) e p
+
+-- ---- the scan: what the loop keeps
+abbrev pub Scanning : List ℕ → ℕ → List ℕ → ℕ → List ℕ → Type 0
+Scanning s from old a words = Sweeping (Ran (scanTally s) (some (scanFrom s from, 0)) old) (scanTally s) (Same old) s a words

@@ -1,5 +1,3 @@
 -- What the proofs of several functions use.
 pub mod GroupLaws
-pub mod Walking
-pub mod ScanLaws
 pub mod ReadLaws

@@ -2,36 +2,36 @@
 use Prim.Native.Nat.{ℕ, _+_, _*_, _/_, _≤_, _<_}
 use native.Mathlib.Omega.{arith}
 use mathlib.Core.Path.{_≡_, refl, sym, ap, ap₂, subst, _∙_}
-use mathlib.Core.Bool.{Bool, true, false, cond}
-use mathlib.Core.List.{List, [], map}
-use mathlib.Core.Option.{Option, none, some}
-use lib.Dec.{ltb, eqb}
+use mathlib.Core.Bool.{Bool, true, false}
+use mathlib.Core.List.{List, map}
+use mathlib.Core.Option.{some}
 use lib.ListN.{length}
 use borrow.Author.Tests.{lt-ltb, le-ltb}
-use Rattle.rules.specs.Lists.{_>>=_, concat}
+use Rattle.rules.specs.Lists.{concat}
 use Rattle.rules.specs.Answer.{answer, longest}
 use Rattle.rules.specs.Rows.{controlWidth, propertyWidth}
-use Rattle.rules.specs.Tree.{Entries, Node, levels}
-use Rattle.rules.specs.Later.{Prop, childrenAt, nodesAt, objectGroup, treeOf, nodesBy, scanFrom, laterOf}
+use Rattle.rules.specs.Tree.{Node, levels}
+use Rattle.rules.specs.Later.{Prop, childrenAt, nodesAt, objectGroup, treeOf, nodesBy, laterOf}
 use Rattle.rules.specs.Reading.{Control, properties}
-use Rattle.rules.specs.ReadLater.{propertyOf, nameIn, controlOf, readLater}
+use Rattle.rules.specs.ReadLater.{propertyOf, readLater}
 use Rattle.rules.specs.Blob.{fit, answerOf}
 use Rattle.rules.specs.declared.Answer.{Answer}
 use Rattle.rows.specs.Acts.{topNodes, Held}
 use Rattle.rows.specs.Judge as judge
 use Rattle.rows.proofs.JudgeLaws.{made-counts}
-use Rattle.countlater.specs.Count.{children, wholeTree, isTree, Counted}
+use Rattle.countlater.specs.Count.{children, wholeTree, Counted}
 use Rattle.countlater.specs.declared.Children.{Children}
 use Rattle.countlater.specs.declared.Counts.{Counts}
-use Rattle.countlater.proofs.CountLaws.{whole, whole-by, entriesIn, tree-open, tree-by, object-within}
+use Rattle.countlater.proofs.CountLaws.{whole-by, object-within}
 use Rattle.countlater.proofs.NodeLaws.{children-of, children-bad}
-use Rattle.later.specs.Write.{trailerOr0, treeControl, scannedControl, control}
-use Rattle.later.proofs.ReadLaws.{whole-same, later-is, same-many}
-use Rattle.tally.specs.Places.{bumps, propertiesPlaces, controlsPlaces, readingPlaces, Tallied}
+use Rattle.later.specs.Write.{treeControl, scannedControl, control}
+use Rattle.later.proofs.ReadLaws.{whole-same, later-is, same-many, in-tree, in-scan, tree-is, scan-is}
+use Rattle.tally.specs.Places.{bumps, propertiesPlaces, controlsPlaces, readingPlaces}
 use Rattle.tally.proofs.BumpLaws.{bumps-append, tallied-refused, tallied-read, room-again}
-use Rattle.tally.proofs.Walk.{FewLeft}
+use Rattle.cursor.specs.Work.{Ran}
+use Rattle.cursor.proofs.WorkLaws.{ran-some}
 use Rattle.tallylater.specs.Counting as counting
-use Rattle.tallylater.specs.Counting.{GroupReady, GroupDone, TreeReady, TreeDone, SectionsReady, SectionsDone, ScanReady, ScanDone, BlobReady, BlobDone}
+use Rattle.tallylater.specs.Counting.{GroupReady, GroupDone, TreeReady, TreeDone, treeTally, SectionsReady, SectionsDone, ScanReady, ScanDone, BlobReady, BlobDone}
 use Rattle.tallylater.specs.declared.CountedGroup.{CountedGroup}
 
 -- ---- the tree, counted by its top list
@@ -44,39 +44,18 @@ module _ {s : List ℕ} {t p : ℕ} (h : TreeReady s t p) {u : Children} (ue : u
     tree-same : topNodes (wholeTree s t p) ≡ topNodes (nodesAt levels s n q)
     tree-same =
         let e = whole-by s t p n q (children-of (childrenAt s t p) u n q ue uk) in
-        ap topNodes (e ∙ whole-same s _ (nodesAt levels s n q) (subst (λ o. FewLeft 0 (topNodes o)) e (h .few)))
+        ap topNodes (e ∙ whole-same s _ (nodesAt levels s n q) (subst (λ o. Held (λ x. length (x .0) ≤ longest) (topNodes o)) e (h .few)))
 
     pub tree-ready : SectionsReady s n q
     tree-ready = record { small = h .small; few = rw tree-same at (h .few) }
 
     pub tree-done : {words words′ : List ℕ} → SectionsDone s n q words words′ → TreeDone s t p words words′
-    tree-done d = record { is = rw tree-same (d .is) }
+    tree-done {words = words} {words′ = words′} d = record { next = d .next; is = subst (λ o. Ran (treeTally s) o words words′ (d .next)) (sym tree-same) (d .is) }
 
 -- ---- the stream
 module _ {s : List ℕ} {tree : Bool} (h : BlobReady s tree) where
   pub own-ready : GroupReady s (length s)
   own-ready = record { inside = omega arith; small = h .small }
-
-  -- a control of the tree where there is one, and of the scan where there is none
-  no-tree : {b : Bool} → treeOf s ≡ none → tree ≡ b → b ≡ false
-  no-tree e t = sym t ∙ h .is ∙ ap isTree e
-
-  a-tree : {b : Bool} {es : Entries Prop} → treeOf s ≡ some es → tree ≡ b → b ≡ true
-  a-tree e t = sym t ∙ h .is ∙ ap isTree e
-
-  in-tree : tree ≡ true → control s ≡ treeControl s
-  in-tree b = go (treeOf s) refl
-    where
-      go : (o : Option (Entries Prop)) → treeOf s ≡ o → controlOf s (nameIn s o) ≡ treeControl s
-      go none e = absurd (let k = no-tree e b in let z : _≡_ {A = ℕ} 0 1 = cc in omega arith)
-      go (some es) e = refl
-
-  in-scan : tree ≡ false → control s ≡ scannedControl s
-  in-scan b = go (treeOf s) refl
-    where
-      go : (o : Option (Entries Prop)) → treeOf s ≡ o → controlOf s (nameIn s o) ≡ scannedControl s
-      go none e = refl
-      go (some es) e = absurd (let k = a-tree e b in let z : _≡_ {A = ℕ} 0 1 = cc in omega arith)
 
   module _ {g : CountedGroup} {words now : List ℕ} (d : GroupDone s (length s) 14 words now g) where
     -- the nodes are counted after the object's properties
@@ -84,42 +63,22 @@ module _ {s : List ℕ} {tree : Bool} (h : BlobReady s tree) where
     unfolding readingPlaces
     all-done f k e = record {
       is =
-          e ∙ ap₂ (λ (f : Node Prop → Control) (w : List ℕ). bumps w (controlsPlaces false (map f (nodesBy s (treeOf s))))) (sym k) (d .words-are)
+          e ∙ ap₂ (λ (f : Node Prop → Control) (w : List ℕ). bumps w (controlsPlaces false (map f (nodesBy s (treeOf s))))) (sym k) (d .is)
           ∙ sym (bumps-append words _ _)
           ∙ ap (λ r. bumps words (readingPlaces false r)) (sym (later-is s (h .long)));
     }
 
-    tree-is : tree ≡ true → (e : ℕ) × (topNodes (wholeTree s (g .trailer) (g .stop)) ≡ some (nodesBy s (treeOf s), e))
-    tree-is b = go (objectGroup s .trailer) refl
-      where
-        last : (t : ℕ) (o : Option (Entries Prop × ℕ)) → wholeTree s t (objectGroup s .stop) ≡ o → treeOf s ≡ entriesIn o → (e : ℕ) × (topNodes (wholeTree s t (objectGroup s .stop)) ≡ some (nodesBy s (treeOf s), e))
-        last t none f g = absurd (let k = no-tree g b in let z : _≡_ {A = ℕ} 0 1 = cc in omega arith)
-        last t (some x) f g = (x .1, ap topNodes f ∙ sym (ap (λ o. some (nodesBy s o, x .1)) g))
-
-        go : (o : Option ℕ) → objectGroup s .trailer ≡ o → (e : ℕ) × (topNodes (wholeTree s (g .trailer) (g .stop)) ≡ some (nodesBy s (treeOf s), e))
-        go none e = absurd (let k = no-tree (tree-open s e) b in let z : _≡_ {A = ℕ} 0 1 = cc in omega arith)
-        go (some t) e =
-            let x = last t (wholeTree s t (objectGroup s .stop)) refl (tree-by s t e) in
-            (x .0, ap₂ (λ a b. topNodes (wholeTree s a b)) (d .trailer ∙ ap trailerOr0 e) (d .stop) ∙ x .1)
-
     pub blob-tree-ready : tree ≡ true → TreeReady s (g .trailer) (g .stop)
-    blob-tree-ready b = record { small = h .small; few = rw (tree-is b .1) (omega (arith, h .few)) }
+    blob-tree-ready b = record { small = h .small; few = rw (tree-is s (h .is) (d .stop-is) (d .trailer-is) b .1) (omega (arith, h .few)) }
 
     pub blob-tree-done : tree ≡ true → {words′ : List ℕ} → TreeDone s (g .trailer) (g .stop) now words′ → BlobDone s words words′
-    blob-tree-done b w = all-done (treeControl s) (in-tree b) (rw (tree-is b .1) at (w .is))
-
-    scan-is : tree ≡ false → nodesBy s (treeOf s) ≡ scanFrom s (g .stop)
-    scan-is b = go (treeOf s) refl
-      where
-        go : (o : Option (Entries Prop)) → treeOf s ≡ o → nodesBy s (treeOf s) ≡ scanFrom s (g .stop)
-        go none e = ap (nodesBy s) e ∙ ap (scanFrom s) (sym (d .stop))
-        go (some es) e = absurd (let k = a-tree e b in let z : _≡_ {A = ℕ} 0 1 = cc in omega arith)
+    blob-tree-done b w = all-done (treeControl s) (in-tree s (h .is) b) (ran-some (tree-is s (h .is) (d .stop-is) (d .trailer-is) b .1) (w .is) .is)
 
     pub blob-scan-ready : ScanReady s (g .stop)
-    blob-scan-ready = record { small = h .small; within = omega (arith, d .stop, object-within s (h .long)) }
+    blob-scan-ready = record { small = h .small; within = omega (arith, d .stop-is, object-within s (h .long)) }
 
     pub blob-scan-done : tree ≡ false → {words′ : List ℕ} → ScanDone s (g .stop) now words′ → BlobDone s words words′
-    blob-scan-done b w = all-done (scannedControl s) (in-scan b) (w .is ∙ ap (λ (ns : List (Node Prop)). bumps now (controlsPlaces false (map (scannedControl s) ns))) (sym (scan-is b)))
+    blob-scan-done b w = all-done (scannedControl s) (in-scan s (h .is) b) (w .is ∙ ap (λ (ns : List (Node Prop)). bumps now (controlsPlaces false (map (scannedControl s) ns))) (sym (scan-is s (h .is) (d .stop-is) (d .trailer-is) b)))
 
 -- ---- what is answered
 pub tally-short : (s : List ℕ) (cr pr : ℕ) (words : List ℕ) → length s < 14 → {a : Answer} → a ≡ answer 0 0 0 0 → counting.Counted s cr pr words a words

@@ -4,7 +4,8 @@ use denote.Ref.{now}
 use Rattle.coderows.specs.Look.{Finds}
 use Rattle.walk2000.proofs.Inverse.{opens-listed}
 use Rattle.cursor2000.proofs.StepLaws.{count-small}
-use Rattle.tally2000.proofs.Whole.{own-ready, top-ready, top-done, write-plain, write-bad}
+use Rattle.form2000.proofs.Whole.{never-plain, never-bad}
+use Rattle.tally2000.proofs.Whole.{is, own-ready, own-end, top-ready, top-done}
 use Rattle.tally2000.proofs.count_stream.Statement.{statement}
 use Rattle.tally2000.proofs.count_stream.Tie as tie
 
@@ -65,14 +66,14 @@ returns-2 c =
     let headed : tie.After-head = search in
     let ran = ran-of headed in
     let scope = scope-of ran in
-    absurd (write-plain (start-of scope .pre) (scope .before .object-scope .ensures) (found scope) (ran .count-run .ensures) (headed .head .ensures) (c .enum-told .given .1))
+    absurd (never-plain (is (start-of scope .pre)) (own-end (start-of scope .pre) (scope .before .object-scope .ensures) (found scope) (ran .count-run .ensures)) (headed .head .ensures) (c .enum-told .given .1))
 
 returns-3 : tie.Need-returns-3
 returns-3 c =
     let headed : tie.After-head = search in
     let ran = ran-of headed in
     let scope = scope-of ran in
-    absurd (write-bad (start-of scope .pre) (scope .before .object-scope .ensures) (found scope) (ran .count-run .ensures) (headed .head .ensures) (c .enum-told2 .given .1))
+    absurd (never-bad (is (start-of scope .pre)) (own-end (start-of scope .pre) (scope .before .object-scope .ensures) (found scope) (ran .count-run .ensures)) (headed .head .ensures) (c .enum-told2 .given .1))
 
 pub count-stream-spec : {M : Type 1} → statement M
 count-stream-spec =

@@ -4,12 +4,13 @@ use Prim.Native.Nat.{ℕ, _<_}
 use lib.ListN.{length-replicate}
 use Rattle.cursor.proofs.RowLaws.{left, howMany}
 use Rattle.cursor2000.specs.Steps.{stepAt}
-use Rattle.tally2000.proofs.Walking.{Going, going-start, going-ready, going-few, going-past, going-less, going-next, going-done}
+use Rattle.form2000.proofs.Visits.{top-stop, top-fact, top-asks, its, entry-there, top-past, top-less, top-next}
+use Rattle.tally2000.proofs.RunLaws.{Going, going-start}
 use Rattle.tally2000.proofs.count_top.Statement.{statement}
 use Rattle.tally2000.proofs.count_top.Tie as tie
 
 abbrev Inv-loop : tie.InvT-loop
-Inv-loop table hints₀ scopes s n at words₀ stack₀ c₀ i₀ hints words stack c i = Going table scopes s n at words₀ stack c i words
+Inv-loop table hints₀ scopes s n at words₀ stack₀ c₀ i₀ hints words stack c i = Going table s n at words₀ stack c i words
 
 abbrev μ-loop : tie.MeasureT-loop
 μ-loop table hints₀ scopes s n at words₀ stack₀ c₀ i₀ hints words stack c i = howMany (left (stepAt s) i stack c)
@@ -35,31 +36,33 @@ loop-holds c =
 count-node-requires : tie.Need-count-node-requires Inv-loop μ-loop
 count-node-requires c κs =
     let turn : tie.At-loop Inv-loop μ-loop = search in
-    going-ready (turn .loop .inv) (omega arith)
+    let start : tie.Start Inv-loop μ-loop = search in
+    let l : 0 < turn .loop .c .left = omega arith in
+    record { known = start .pre .known; inside = its (turn .loop .inv) l .inside; there = entry-there (turn .loop .inv) l }
 
 past-requires : tie.Need-past-requires Inv-loop μ-loop
 past-requires c κs =
     let counted : tie.After-count-node Inv-loop μ-loop = search in
-    going-past (turn-of counted .loop .inv) (some-left counted) (counted .count-node .ensures)
+    top-past (turn-of counted .loop .inv) (some-left counted) (counted .count-node .ensures)
 
 add-i : tie.Need-add-i Inv-loop μ-loop
 add-i c =
     let counted : tie.After-count-node Inv-loop μ-loop = search in
-    omega (arith, going-few (turn-of counted .loop .inv) (some-left counted))
+    top-asks (turn-of counted .loop .inv) (some-left counted) (λ _ h. omega (arith, h .few))
 
 loop-less : tie.Need-loop-less Inv-loop μ-loop
 loop-less c =
     let counted : tie.After-count-node Inv-loop μ-loop = search in
     let moved : tie.After-past Inv-loop μ-loop = search in
     let passed : tie.After-reported2 Inv-loop μ-loop = search in
-    going-less (turn-of counted .loop .inv) (some-left counted) (counted .count-node .ensures) (counted .count-node .kept .1 .1 .1 .1 .1 .0) _ (moved .past .ensures) (passed .reported2 .ensures)
+    top-less (turn-of counted .loop .inv) (some-left counted) (counted .count-node .ensures) _ (moved .past .ensures) (passed .reported2 .ensures)
 
 loop-again : tie.Need-loop-again Inv-loop μ-loop
 loop-again c =
     let counted : tie.After-count-node Inv-loop μ-loop = search in
     let moved : tie.After-past Inv-loop μ-loop = search in
     let passed : tie.After-reported2 Inv-loop μ-loop = search in
-    going-next (turn-of counted .loop .inv) (some-left counted) (counted .count-node .ensures) (counted .count-node .kept .1 .1 .1 .1 .1 .0) _ (moved .past .ensures) (passed .reported2 .ensures)
+    top-next (turn-of counted .loop .inv) (some-left counted) (counted .count-node .ensures) _ (moved .past .ensures) (passed .reported2 .ensures)
 
 pub count-top-spec : {M : Type 1} → statement M
 count-top-spec =
@@ -75,5 +78,5 @@ count-top-spec =
     add-i
     loop-less
     loop-again
-    (λ c. let turn : tie.At-loop Inv-loop μ-loop = search in turn .loop .inv .goes .same)
-    (λ c. let turn : tie.At-loop Inv-loop μ-loop = search in going-done (turn .loop .inv) (omega arith)))
+    (λ c. let turn : tie.At-loop Inv-loop μ-loop = search in top-fact (turn .loop .inv) (λ _ h. h .same))
+    (λ c. let turn : tie.At-loop Inv-loop μ-loop = search in record { next = _; is = top-stop (turn .loop .inv) (omega arith) }))

@@ -1,5 +1,6 @@
 use borrow.Author.Needs.{needs}
-use Rattle.tally2000.proofs.Whole.{tally-bad, tally-small, tally-there, tally-refused, tally-done}
+use Rattle.form2000.proofs.Whole.{counts-small}
+use Rattle.tally2000.proofs.Whole.{tally-bad, tally-there, tally-refused, tally-done}
 use Rattle.tally2000.proofs.tally.Statement.{statement}
 use Rattle.tally2000.proofs.tally.Tie as tie
 
@@ -25,7 +26,7 @@ judge-requires c κs =
     let all : tie.After-controls = search in
     let counted = counted-of all in
     let start = start-of counted in
-    tally-small (start .args .table .now) (start .args .stream .now) (counted .count .ensures) (all .controls .given .1) (start .pre .small)
+    counts-small (start .args .table .now) (start .args .stream .now) (counted .count .ensures) (all .controls .given .1) (start .pre .small)
 
 returns-2 : tie.Need-returns-2
 returns-2 c =

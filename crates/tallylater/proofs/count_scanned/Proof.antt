@@ -1,15 +1,20 @@
 use native.Mathlib.Omega.{arith}
 use borrow.Author.Needs.{needs}
-use mathlib.Core.Path.{_∙_}
+use mathlib.Core.Bool.{false}
+use mathlib.Core.Path.{refl, sym, _∙_}
 use Prim.Native.Nat.{_-_}
 use lib.ListN.{length}
 use Rattle.matchlater.proofs.MatchLaws.{match-room}
-use Rattle.tallylater.proofs.ScanLaws.{Sweeping, sweeping-start, sweeping-group, sweeping-same, sweeping-more, sweeping-done}
+use Rattle.later.specs.Write.{scannedControl}
+use Rattle.later.proofs.Visits.{grouped-none, sweep-start, sweep-fact, sweep-stop, sweep-over, sweep-on}
+use Rattle.tally.proofs.BumpLaws.{properties-none, controls-none}
+use Rattle.tally.proofs.Walk.{controls-counted}
+use Rattle.tallylater.proofs.GroupLaws.{Scanning, scanned-counted}
 use Rattle.tallylater.proofs.count_scanned.Statement.{statement}
 use Rattle.tallylater.proofs.count_scanned.Tie as tie
 
 abbrev Inv-loop : tie.InvT-loop
-Inv-loop s from words₀ a₀ words a = Sweeping s from words₀ a words
+Inv-loop s from words₀ a₀ words a = Scanning s from words₀ a words
 
 abbrev μ-loop : tie.MeasureT-loop
 μ-loop s from words₀ a₀ words a = length s - a
@@ -27,7 +32,8 @@ turn-of c = search
 count-group-requires : tie.Need-count-group-requires Inv-loop μ-loop
 count-group-requires c κs =
     let next : tie.After-find-match2 Inv-loop μ-loop = search in
-    sweeping-group (turn-of next .loop .inv) (test-of next .loop-test .taken) (next .find-match2 .ensures)
+    let start : tie.Start Inv-loop μ-loop = search in
+    record { inside = next .find-match2 .ensures .within; small = start .pre .small }
 
 loop-less : tie.Need-loop-less Inv-loop μ-loop
 loop-less c =
@@ -39,9 +45,10 @@ loop-again c =
     let any : tie.Then1 Inv-loop μ-loop = search in
     let counted : tie.After-count-type Inv-loop μ-loop = search in
     let group : tie.After-count-group Inv-loop μ-loop = search in
+    let start : tie.Start Inv-loop μ-loop = search in
     let next = next-of group in
-    sweeping-more (turn-of next .loop .inv) (test-of next .loop-test .taken) (next .find-match2 .ensures) (group .count-group .ensures) (any .if1 .taken)
-    (counted .count-type .ensures) (counted .count-type .kept .0 ∙ group .count-group .kept .1 .1 .1 .0)
+    sweep-on (turn-of next .loop .inv) (test-of next .loop-test .taken) (next .find-match2 .ensures) (sym (group .count-group .ensures .any-is) ∙ any .if1 .taken)
+    (controls-counted false (scannedControl _) (start .args .words .now)) (scanned-counted (group .count-group .ensures) (counted .count-type .ensures))
 
 loop-less-2 : tie.Need-loop-less-2 Inv-loop μ-loop
 loop-less-2 c =
@@ -52,7 +59,8 @@ loop-again-2 : tie.Need-loop-again-2 Inv-loop μ-loop
 loop-again-2 c =
     let group : tie.After-count-group Inv-loop μ-loop = search in
     let next = next-of group in
-    sweeping-same (turn-of next .loop .inv) (test-of next .loop-test .taken) (next .find-match2 .ensures) (group .count-group .ensures) (c .if1 .left) (group .count-group .kept .1 .1 .1 .0)
+    sweep-over (turn-of next .loop .inv) (test-of next .loop-test .taken) (next .find-match2 .ensures) (sym (group .count-group .ensures .any-is) ∙ c .if1 .left)
+    (grouped-none (group .count-group .ensures) (properties-none false _) (c .if1 .left))
 
 pub count-scanned-spec : {M : Type 1} → statement M
 count-scanned-spec =
@@ -61,7 +69,7 @@ count-scanned-spec =
     Inv-loop
     μ-loop
     (λ c κs. let start : tie.Start Inv-loop μ-loop = search in start .pre .within)
-    (λ c. let start : tie.Start Inv-loop μ-loop = search in sweeping-start (start .pre) (c .find-match .ensures))
+    (λ c. sweep-start refl (c .find-match .ensures))
     (λ c. omega (arith, match-room _ _ (c .before .loop .inv .here (c .loop-test .taken))))
     (λ c κs. omega (arith, match-room _ _ (c .before .loop .inv .here (c .loop-test .taken))))
     count-group-requires
@@ -70,5 +78,5 @@ count-scanned-spec =
     loop-again
     loop-less-2
     loop-again-2
-    (λ c. c .before .loop .inv .same)
-    (λ c. sweeping-done (c .before .loop .inv) (c .loop-test .left)))
+    (λ c. sweep-fact (c .before .loop .inv) (λ _ e. e))
+    (λ c. record { is = sweep-stop (c .before .loop .inv) (controls-none false _) (c .loop-test .left) .held .is }))

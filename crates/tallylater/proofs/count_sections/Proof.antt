@@ -1,11 +1,11 @@
 use native.Mathlib.Omega.{arith}
 use borrow.Author.Needs.{needs}
-use mathlib.Core.Path.{_∙_}
 use Prim.Native.Nat.{ℕ, _<_}
 use lib.ListN.{length-replicate}
 use Rattle.cursor.proofs.RowLaws.{left, howMany}
 use Rattle.cursorlater.specs.Steps.{stepAt}
-use Rattle.tallylater.proofs.Walking.{Going, going-start, going-group, going-few, going-inside, going-past, going-less, going-next, going-done}
+use Rattle.later.proofs.Visits.{node-inside, top-stop, top-fact, top-asks, top-past, top-less, top-next}
+use Rattle.tallylater.proofs.GroupLaws.{Going, going-start, node-counted}
 use Rattle.tallylater.proofs.count_sections.Statement.{statement}
 use Rattle.tallylater.proofs.count_sections.Tie as tie
 
@@ -36,22 +36,23 @@ loop-holds c =
 add-count-group : tie.Need-add-count-group Inv-loop μ-loop
 add-count-group c =
     let turn : tie.At-loop Inv-loop μ-loop = search in
-    omega (arith, going-inside (turn .loop .inv) (omega arith), turn .loop .inv .small)
+    let start : tie.Start Inv-loop μ-loop = search in
+    omega (arith, node-inside (turn .loop .inv) (omega arith), start .pre .small)
 
 count-group-requires : tie.Need-count-group-requires Inv-loop μ-loop
 count-group-requires c κs =
-    let turn : tie.At-loop Inv-loop μ-loop = search in
-    going-group (turn .loop .inv)
+    let start : tie.Start Inv-loop μ-loop = search in
+    record { inside = omega arith; small = start .pre .small }
 
 past-requires : tie.Need-past-requires Inv-loop μ-loop
 past-requires c κs =
     let group : tie.After-count-group Inv-loop μ-loop = search in
-    going-past (turn-of group .loop .inv) (some-left group) (group .count-group .ensures)
+    top-past (turn-of group .loop .inv) (some-left group) (group .count-group .ensures .stop-is) (group .count-group .ensures .trailer-is)
 
 add-i : tie.Need-add-i Inv-loop μ-loop
 add-i c =
     let group : tie.After-count-group Inv-loop μ-loop = search in
-    omega (arith, going-few (turn-of group .loop .inv) (some-left group))
+    top-asks (turn-of group .loop .inv) (some-left group) (λ _ h. omega (arith, h .few))
 
 loop-less : tie.Need-loop-less Inv-loop μ-loop
 loop-less c =
@@ -60,8 +61,8 @@ loop-less c =
     let counted : tie.After-count-type Inv-loop μ-loop = search in
     let moved : tie.After-past Inv-loop μ-loop = search in
     let passed : tie.After-reported2 Inv-loop μ-loop = search in
-    going-less (turn-of group .loop .inv) (some-left group) (group .count-group .ensures) (typed .u16-at .ensures) (counted .count-type .ensures)
-    (counted .count-type .kept .0 ∙ group .count-group .kept .1 .1 .1 .0) _ (moved .past .ensures) (passed .reported2 .ensures)
+    top-less (turn-of group .loop .inv) (some-left group) (group .count-group .ensures .stop-is) (group .count-group .ensures .trailer-is)
+    (node-counted (group .count-group .ensures) (typed .u16-at .ensures) (counted .count-type .ensures)) _ (moved .past .ensures) (passed .reported2 .ensures)
 
 loop-again : tie.Need-loop-again Inv-loop μ-loop
 loop-again c =
@@ -70,8 +71,8 @@ loop-again c =
     let counted : tie.After-count-type Inv-loop μ-loop = search in
     let moved : tie.After-past Inv-loop μ-loop = search in
     let passed : tie.After-reported2 Inv-loop μ-loop = search in
-    going-next (turn-of group .loop .inv) (some-left group) (group .count-group .ensures) (typed .u16-at .ensures) (counted .count-type .ensures)
-    (counted .count-type .kept .0 ∙ group .count-group .kept .1 .1 .1 .0) _ (moved .past .ensures) (passed .reported2 .ensures)
+    top-next (turn-of group .loop .inv) (some-left group) (group .count-group .ensures .stop-is) (group .count-group .ensures .trailer-is)
+    (node-counted (group .count-group .ensures) (typed .u16-at .ensures) (counted .count-type .ensures)) _ (moved .past .ensures) (passed .reported2 .ensures)
 
 pub count-sections-spec : {M : Type 1} → statement M
 count-sections-spec =
@@ -89,5 +90,5 @@ count-sections-spec =
     add-i
     loop-less
     loop-again
-    (λ c. let turn : tie.At-loop Inv-loop μ-loop = search in turn .loop .inv .goes .same)
-    (λ c. let turn : tie.At-loop Inv-loop μ-loop = search in going-done (turn .loop .inv) (omega arith)))
+    (λ c. let turn : tie.At-loop Inv-loop μ-loop = search in top-fact (turn .loop .inv) (λ _ h. h .same))
+    (λ c. let turn : tie.At-loop Inv-loop μ-loop = search in record { next = _; is = top-stop (turn .loop .inv) (omega arith) }))
