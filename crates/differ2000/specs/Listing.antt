@@ -3,23 +3,25 @@ use Prim.Native.Nat.{ℕ, _+_, _*_, _≤_, _<_}
 use mathlib.Core.Path.{_≡_}
 use mathlib.Core.Bool.{true, cond}
 use mathlib.Core.List.{List, [], _∷_, map}
-use mathlib.Core.Option.{Option, none, some}
+use mathlib.Core.Option.{Option}
 use lib.Bits.{bitOr}
 use lib.Dec.{leb, ltb}
 use lib.ListN.{length}
 use Rattle.rules.specs.Bytes.{u16}
 use Rattle.rules.specs.Answer.{longest}
 use Rattle.rules.specs.CodeTable.{wellFormed, Extends}
+use Rattle.rules.specs.Tree.{Node}
 use Rattle.rules.specs.Access2000.{Prop, runAt, streamOf}
 use Rattle.rules.specs.Read2000.{ScopeKey, entryKey, propertyIn, spotIn}
 use Rattle.rules.specs.Rows.{differenceWidth}
 use Rattle.rules.specs.Differences.{Site, siteIn, nodeSites, sitesOf, differs, differenceRow}
 use Rattle.propvalue.specs.Sized.{Sized}
 use Rattle.rows.specs.Put.{put}
-use Rattle.rows.specs.Acts.{Nodes, Held}
+use Rattle.rows.specs.Acts.{Held}
 use Rattle.rows.specs.Counting.{propsIn}
 use Rattle.coderows.specs.Look.{Listed, Finds}
 use Rattle.run2000.specs.Runs.{prop}
+use Rattle.cursor.specs.Work.{Ran}
 use Rattle.form2000.specs.Acts.{topAt}
 use Rattle.differ2000.specs.declared.Difference.{Difference}
 use Rattle.differ2000.specs.declared.Place.{Place}
@@ -120,22 +122,14 @@ pub record RunReady (older newer : List ℕ) (scope : Scope) (s : List ℕ) (fro
   pub few : FewProps from (runAt s (from .at))
   pub listed-few : from .listed ≤ from .property
 
-pub record Stood : Type 0 where
-  pub list : Listing
-  pub next : ℕ
-
-abbrev pub stood : Listing → ℕ → Stood
-stood list next = record { list = list; next = next }
-
 abbrev pub runSites : ScopeKey → ℕ → List Prop → List Site
 runSites key control ps = map (siteIn control) (map (spotIn key) ps)
 
-abbrev pub runList : List ℕ → List ℕ → List ℕ → ScopeKey → ℕ → Option (List Prop × ℕ) → Listing → Option Stood
-runList older newer s key control none st = none
-runList older newer s key control (some x) st = some (stood (listSites older newer s (runSites key control (x .0)) st) (x .1))
+abbrev pub runList : List ℕ → List ℕ → List ℕ → ScopeKey → ℕ → List Prop → Listing → Listing
+runList older newer s key control ps st = listSites older newer s (runSites key control ps) st
 
 pub record RunDone (older newer : List ℕ) (scope : Scope) (s rows : List ℕ) (from : Place) (rows′ : List ℕ) (r : Place) : Type 0 where
-  pub is : some (stood (listingAt rows′ r) (r .at)) ≡ runList older newer s (keyOf scope) (from .control) (runAt s (from .at)) (listingAt rows from)
+  pub is : Ran (runList older newer s (keyOf scope) (from .control)) (runAt s (from .at)) (listingAt rows from) (listingAt rows′ r) (r .at)
 
 -- ---- an entry without its list
 pub record Given (older newer olds news s : List ℕ) : Type 0 where
@@ -150,21 +144,20 @@ pub record NodeReady (older newer olds news s : List ℕ) (from : Place) : Type 
   pub few : FewProps from (runAt s (from .at + 2))
   pub listed-few : from .listed ≤ from .property
 
-pub record NodeListed (older newer s rows : List ℕ) (from : Place) (rows′ : List ℕ) (r : Place) (x : List Prop × ℕ) : Type 0 where
-  pub list-is : listingAt rows′ r ≡ listSites older newer s (runSites (entryKey (u16 s (from .at))) (from .control) (x .0)) (listingAt rows from)
-  pub next-is : r .at ≡ x .1
+-- by its number and its type
+abbrev pub nodeList : List ℕ → List ℕ → List ℕ → ℕ → ℕ → List Prop → Listing → Listing
+nodeList older newer s control type ps st = runList older newer s (entryKey type) control ps st
 
 pub record NodeDone (older newer s rows : List ℕ) (from : Place) (rows′ : List ℕ) (r : Place) : Type 0 where
-  pub is : Held (NodeListed older newer s rows from rows′ r) (runAt s (from .at + 2))
+  pub is : Ran (nodeList older newer s (from .control) (u16 s (from .at))) (runAt s (from .at + 2)) (listingAt rows from) (listingAt rows′ r) (r .at)
 
 -- ---- the top list
--- n controls and i properties, with those that are left, are few
-abbrev pub FewLeft : ℕ → ℕ → Nodes Prop → Type 0
-FewLeft n i o = Held (λ y. n + i + (length (y .0) + propsIn (y .0)) ≤ longest) o
+abbrev pub topList : List ℕ → List ℕ → List ℕ → ℕ → List (Node Prop) → Listing → Listing
+topList older newer s n xs st = listSites older newer s (nodeSites n xs) st
 
 pub record TopReady (older newer olds news s : List ℕ) (n : ℕ) (from : Place) : Type 0 where
   pub known : Given older newer olds news s
-  pub few : FewLeft 0 (from .property) (topAt s n (from .at))
+  pub few : Held (λ y. from .property + (length (y .0) + propsIn (y .0)) ≤ longest) (topAt s n (from .at))
   pub listed-few : from .listed ≤ from .property
 
 -- the rows at exit, and how many are listed
@@ -173,7 +166,7 @@ pub record Ended (rows′ : List ℕ) (r : ℕ) (st : Listing) : Type 0 where
   pub listed-is : r ≡ st .listed
 
 pub record TopDone (older newer s : List ℕ) (n : ℕ) (rows : List ℕ) (from : Place) (rows′ : List ℕ) (r : ℕ) : Type 0 where
-  pub is : Held (λ y. Ended rows′ r (listSites older newer s (nodeSites 0 (y .0)) (listingAt rows from))) (topAt s n (from .at))
+  pub is : Held (λ y. Ended rows′ r (topList older newer s 0 (y .0) (listingAt rows from))) (topAt s n (from .at))
 
 -- ---- the whole stream
 pub record StreamReady (older newer s : List ℕ) : Type 0 where

@@ -8,13 +8,15 @@ use lib.ListN.{length}
 use Rattle.rules.specs.Access2000.{goesOn}
 use Rattle.rules.proofs.Access2000Laws.{past-end}
 use Rattle.walk2000.proofs.Runs.{starts, stops, ends}
-use Rattle.differ2000.proofs.RunLaws.{Left, left-start, left-stop, left-bad, left-few, left-ready, left-more}
+use Rattle.form2000.proofs.Visits.{run-stop, run-fact, run-broken}
+use Rattle.differ2000.specs.Listing.{listing}
+use Rattle.differ2000.proofs.RunLaws.{Listed, listed-start, listed-few, listed-ready, listed-on}
 use Rattle.differ2000.proofs.list_run.Statement.{statement}
 use Rattle.differ2000.proofs.list_run.Tie as tie
 
 abbrev Inv-loop : tie.InvT-loop
 Inv-loop older newer scope s rows₀ control p₀ property₀ listed₀ rows p property listed =
-    Left older newer scope s rows₀ (record { at = p₀; control = control; property = property₀; listed = listed₀ }) rows (record { at = p; control = control; property = property; listed = listed })
+    Listed older newer scope s control p₀ (listing rows₀ listed₀ property₀) p (listing rows listed property)
 
 abbrev μ-loop : tie.MeasureT-loop
 μ-loop older newer scope s rows₀ control p₀ property₀ listed₀ rows p property listed = length s - p
@@ -31,7 +33,7 @@ returns c =
     let turn : tie.At-loop Inv-loop μ-loop = search in
     let test : tie.In-loop Inv-loop μ-loop = search in
     let ended : tie.Then1 Inv-loop μ-loop = search in
-    left-stop (turn .loop .inv) (stops _ _ (omega (arith, test .loop-test .taken)) (omega (arith, ended .if1 .taken)))
+    record { is = run-stop (turn .loop .inv .goes) (stops _ _ (omega (arith, test .loop-test .taken)) (omega (arith, ended .if1 .taken))) }
 
 returns-2 : tie.Need-returns-2 Inv-loop μ-loop
 returns-2 c =
@@ -39,7 +41,7 @@ returns-2 c =
     let turn : tie.At-loop Inv-loop μ-loop = search in
     let valued : tie.After-value Inv-loop μ-loop = search in
     let told : tie.After-enum-told Inv-loop μ-loop = search in
-    absurd (left-bad (turn .loop .inv) (goes else1) (valued .value .ensures) (told .enum-told .given .1))
+    absurd (run-broken (turn .loop .inv .goes) (goes else1) (valued .value .ensures) (told .enum-told .given .1))
 
 list-property-requires : tie.Need-list-property-requires Inv-loop μ-loop
 list-property-requires c κs =
@@ -48,7 +50,7 @@ list-property-requires c κs =
     let else1 : tie.Else1 Inv-loop μ-loop = search in
     let turn : tie.At-loop Inv-loop μ-loop = search in
     let start : tie.Start Inv-loop μ-loop = search in
-    left-ready (turn .loop .inv) (goes else1) (valued .value .ensures) (started .start .given .1) (start .pre)
+    listed-ready (turn .loop .inv) (goes else1) (valued .value .ensures) (started .start .given .1) (start .pre)
 
 add-p : tie.Need-add-p Inv-loop μ-loop
 add-p c =
@@ -63,7 +65,7 @@ add-property c =
     let valued : tie.After-value Inv-loop μ-loop = search in
     let else1 : tie.Else1 Inv-loop μ-loop = search in
     let turn : tie.At-loop Inv-loop μ-loop = search in
-    omega (arith, left-few (turn .loop .inv) (goes else1) (valued .value .ensures) (started .start .given .1))
+    omega (arith, listed-few (turn .loop .inv) (goes else1) (valued .value .ensures) (started .start .given .1))
 
 loop-less : tie.Need-loop-less Inv-loop μ-loop
 loop-less c =
@@ -78,13 +80,13 @@ loop-again c =
     let valued : tie.After-value Inv-loop μ-loop = search in
     let else1 : tie.Else1 Inv-loop μ-loop = search in
     let turn : tie.At-loop Inv-loop μ-loop = search in
-    left-more (turn .loop .inv) (goes else1) (valued .value .ensures) (started .start .given .1) (listed .list-property .ensures) (search needs)
+    listed-on (turn .loop .inv) (goes else1) (valued .value .ensures) (started .start .given .1) (listed .list-property .ensures)
 
 returns-3 : tie.Need-returns-3 Inv-loop μ-loop
 returns-3 c =
     let turn : tie.At-loop Inv-loop μ-loop = search in
     let over : tie.After-loop Inv-loop μ-loop = search in
-    left-stop (turn .loop .inv) (past-end _ _ (omega (arith, over .loop-test .left)))
+    record { is = run-stop (turn .loop .inv .goes) (past-end _ _ (omega (arith, over .loop-test .left))) }
 
 pub list-run-spec : {M : Type 1} → statement M
 list-run-spec =
@@ -92,17 +94,17 @@ list-run-spec =
     (tie.spec
     Inv-loop
     μ-loop
-    (λ c. let start : tie.Start Inv-loop μ-loop = search in left-start (start .pre))
+    (λ c. let start : tie.Start Inv-loop μ-loop = search in listed-start (start .pre))
     (λ c. search needs)
-    (λ c. let turn : tie.At-loop Inv-loop μ-loop = search in turn .loop .inv .same)
+    (λ c. let turn : tie.At-loop Inv-loop μ-loop = search in run-fact (turn .loop .inv .goes) (λ _ h. h .same))
     returns
     (λ c κs. search needs) (λ c. search needs) (λ c. search needs)
-    (λ c. let turn : tie.At-loop Inv-loop μ-loop = search in turn .loop .inv .same)
+    (λ c. let turn : tie.At-loop Inv-loop μ-loop = search in run-fact (turn .loop .inv .goes) (λ _ h. h .same))
     returns-2
     list-property-requires
     add-p
     add-property
     loop-less
     loop-again
-    (λ c. let turn : tie.At-loop Inv-loop μ-loop = search in turn .loop .inv .same)
+    (λ c. let turn : tie.At-loop Inv-loop μ-loop = search in run-fact (turn .loop .inv .goes) (λ _ h. h .same))
     returns-3)

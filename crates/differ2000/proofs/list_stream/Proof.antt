@@ -4,7 +4,8 @@ use denote.Ref.{now}
 use Rattle.coderows.specs.Look.{Finds}
 use Rattle.walk2000.proofs.Inverse.{opens-listed}
 use Rattle.cursor2000.proofs.StepLaws.{count-small}
-use Rattle.differ2000.proofs.Whole.{own-ready, top-ready, top-done, never-plain, never-bad}
+use Rattle.form2000.proofs.Whole.{never-plain, never-bad}
+use Rattle.differ2000.proofs.Whole.{is, own-ready, own-end, top-ready, top-done}
 use Rattle.differ2000.proofs.list_stream.Statement.{statement}
 use Rattle.differ2000.proofs.list_stream.Tie as tie
 
@@ -84,7 +85,7 @@ returns-2 c =
     let headed : tie.After-head = search in
     let ran = ran-of headed in
     let scope = scope-of ran in
-    absurd (never-plain (began-of scope .pre) (kind-of (first-of scope) .object-scope .ensures) (found-older scope) (found-newer scope) (ran .list-run .ensures) (headed .head .ensures) (told .enum-told .given .1))
+    absurd (never-plain (is (began-of scope .pre)) (own-end (began-of scope .pre) (kind-of (first-of scope) .object-scope .ensures) (found-older scope) (found-newer scope) (ran .list-run .ensures)) (headed .head .ensures) (told .enum-told .given .1))
 
 returns-3 : tie.Need-returns-3
 returns-3 c =
@@ -92,7 +93,7 @@ returns-3 c =
     let headed : tie.After-head = search in
     let ran = ran-of headed in
     let scope = scope-of ran in
-    absurd (never-bad (began-of scope .pre) (kind-of (first-of scope) .object-scope .ensures) (found-older scope) (found-newer scope) (ran .list-run .ensures) (headed .head .ensures) (told .enum-told2 .given .1))
+    absurd (never-bad (is (began-of scope .pre)) (own-end (began-of scope .pre) (kind-of (first-of scope) .object-scope .ensures) (found-older scope) (found-newer scope) (ran .list-run .ensures)) (headed .head .ensures) (told .enum-told2 .given .1))
 
 pub list-stream-spec : {M : Type 1} → statement M
 list-stream-spec =

@@ -1,18 +1,18 @@
 use native.Mathlib.Omega.{arith}
 use borrow.Author.Needs.{needs}
 use Prim.Native.Nat.{ℕ, _<_}
-use mathlib.Core.Path.{refl}
 use lib.ListN.{length-replicate}
 use Rattle.cursor.proofs.RowLaws.{left, howMany}
 use Rattle.cursor2000.specs.Steps.{stepAt}
+use Rattle.form2000.proofs.Visits.{top-all, top-stop, top-fact, top-past, top-less, top-next}
 use Rattle.differ2000.specs.Listing.{listing}
-use Rattle.differ2000.proofs.Walking.{Going, whole-is, going-start, going-ready, going-few, going-past, going-less, going-next, going-done}
+use Rattle.differ2000.proofs.Walking.{Going, going-start, going-ready, going-few, going-done}
 use Rattle.differ2000.proofs.list_top.Statement.{statement}
 use Rattle.differ2000.proofs.list_top.Tie as tie
 
 abbrev Inv-loop : tie.InvT-loop
 Inv-loop older newer hints₀ olds news s n rows₀ stack₀ c₀ control₀ property₀ listed₀ hints rows stack c control property listed =
-    Going older newer olds news s (left (stepAt s) 0 stack₀ c₀) (listing rows₀ listed₀ property₀) stack c rows control property listed
+    Going older newer s (left (stepAt s) 0 stack₀ c₀) (listing rows₀ listed₀ property₀) stack c control (listing rows listed property)
 
 abbrev μ-loop : tie.MeasureT-loop
 μ-loop older newer hints₀ olds news s n rows₀ stack₀ c₀ control₀ property₀ listed₀ hints rows stack c control property listed = howMany (left (stepAt s) control stack c)
@@ -38,12 +38,13 @@ loop-holds c =
 list-node-requires : tie.Need-list-node-requires Inv-loop μ-loop
 list-node-requires c κs =
     let turn : tie.At-loop Inv-loop μ-loop = search in
-    going-ready (turn .loop .inv) (omega arith)
+    let start : tie.Start Inv-loop μ-loop = search in
+    going-ready (turn .loop .inv) (omega arith) (start .pre .known)
 
 past-requires : tie.Need-past-requires Inv-loop μ-loop
 past-requires c κs =
     let listed : tie.After-list-node Inv-loop μ-loop = search in
-    going-past (turn-of listed .loop .inv) (some-left listed) (listed .list-node .ensures)
+    top-past (turn-of listed .loop .inv .goes) (some-left listed) (listed .list-node .ensures .is)
 
 add-control : tie.Need-add-control Inv-loop μ-loop
 add-control c =
@@ -55,21 +56,21 @@ loop-less c =
     let listed : tie.After-list-node Inv-loop μ-loop = search in
     let moved : tie.After-past Inv-loop μ-loop = search in
     let passed : tie.After-reported2 Inv-loop μ-loop = search in
-    going-less (turn-of listed .loop .inv) (some-left listed) (listed .list-node .ensures) (search needs) _ (moved .past .ensures) (passed .reported2 .ensures)
+    top-less (turn-of listed .loop .inv .goes) (some-left listed) (listed .list-node .ensures .is) _ (moved .past .ensures) (passed .reported2 .ensures)
 
 loop-again : tie.Need-loop-again Inv-loop μ-loop
 loop-again c =
     let listed : tie.After-list-node Inv-loop μ-loop = search in
     let moved : tie.After-past Inv-loop μ-loop = search in
     let passed : tie.After-reported2 Inv-loop μ-loop = search in
-    going-next (turn-of listed .loop .inv) (some-left listed) (listed .list-node .ensures) (search needs) _ (moved .past .ensures) (passed .reported2 .ensures)
+    record { goes = top-next (turn-of listed .loop .inv .goes) (some-left listed) (listed .list-node .ensures .is) _ (moved .past .ensures) (passed .reported2 .ensures) }
 
 returns : tie.Need-returns Inv-loop μ-loop
 returns c =
     let turn : tie.At-loop Inv-loop μ-loop = search in
     let topped : tie.After-top Inv-loop μ-loop = search in
     let passed : tie.After-reported Inv-loop μ-loop = search in
-    going-done (turn .loop .inv) (whole-is _ _ _ _ (topped .top .ensures) (passed .reported .ensures)) refl (omega arith)
+    going-done (top-all _ _ _ _ (topped .top .ensures) (passed .reported .ensures)) (top-stop (turn .loop .inv .goes) (omega arith))
 
 pub list-top-spec : {M : Type 1} → statement M
 list-top-spec =
@@ -85,5 +86,5 @@ list-top-spec =
     add-control
     loop-less
     loop-again
-    (λ c. let turn : tie.At-loop Inv-loop μ-loop = search in turn .loop .inv .same)
+    (λ c. let turn : tie.At-loop Inv-loop μ-loop = search in top-fact (turn .loop .inv .goes) (λ _ h. h .same))
     returns)
