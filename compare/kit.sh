@@ -70,13 +70,23 @@ link_c() {
     link_by "$cc" "$folder" "${OSKURAMOS_ARCHIVE:-target/staticlib/liboskuramos.a}" "$@"
 }
 
-# Links NAME PROFILE [WORDS..] for this machine's own processor. On Arm all functions stand at multiples of 64 bytes, those of jetdb and of the library.
+# Copies ARCHIVE to COPY with each function at a multiple of 64 bytes: where one happens to stand moves its time by up to a fifth. The words go to objcopy.
+#   aligned ARCHIVE COPY [WORDS..]
+aligned() {
+    command -v objcopy >/dev/null || die "no objcopy here"
+    objcopy --set-section-alignment '.text.*=64' "${@:3}" "$1" "$2"
+}
+
+# Links NAME PROFILE [WORDS..] for this machine's own processor. All functions stand at multiples of 64 bytes, those of jetdb and of the library.
 link_own() {
+    export RUSTFLAGS="-C llvm-args=-align-all-functions=6"
     if [ "$(uname -m)" = x86_64 ]; then
-        link_c "$@"
+        [ -n "${OSKURAMOS_ARCHIVE-}" ] || rt staticlib oskuramos >&2 || die "the library could not be built"
+        mkdir -p target/native
+        aligned "${OSKURAMOS_ARCHIVE:-target/staticlib/liboskuramos.a}" target/native/liboskuramos.a
+        OSKURAMOS_ARCHIVE=target/native/liboskuramos.a link_c "$@"
     else
         [ -n "${OSKURAMOS_ARCHIVE-}" ] || compare/native || exit
-        export RUSTFLAGS="-C llvm-args=-align-all-functions=6"
         link_by "${CC:-cc}" "${CARGO_TARGET_DIR:-compare/target}" "${OSKURAMOS_ARCHIVE:-target/native/liboskuramos.a}" "$@"
     fi
 }
