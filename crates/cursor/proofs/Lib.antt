@@ -1,6 +1,7 @@
 pub mod WalkLaws
 pub mod StackLaws
 pub mod CursorLaws
-pub mod RowLaws
+pub mod LeftLaws
 pub mod WorkLaws
 pub mod VisitLaws
+pub mod RowLaws

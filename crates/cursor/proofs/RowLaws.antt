@@ -1,131 +1,119 @@
--- The rows of the entries that a walk visits, whatever the layout: what is left to write from a cursor on, and then the whole is written.
-use Prim.Native.Nat.{ℕ, suc, _≤_, _<_}
+-- The rows of the entries that a walk visits, whatever the layout: what there is to know of writing them.
+use Prim.Native.Nat.{ℕ, _+_, _≤_, _<_}
 use native.Mathlib.Omega.{arith}
-use mathlib.Core.Path.{_≡_, refl, sym, ap, _∙_}
+use mathlib.Core.Path.{_≡_, refl, sym, ap, subst, _∙_}
 use mathlib.Core.List.{List, [], _∷_, map}
-use mathlib.Core.Option.{Option, none, some}
+use mathlib.Core.Option.{none, some}
 use lib.ListN.{length}
-use Rattle.rules.specs.Lists.{_>>=_}
-use Rattle.rules.specs.Tree.{Entries, Node, levels, levelsAt, isReported, preorder, noParent, nodesOf}
+use Rattle.rules.specs.Tree.{Node, levels, levelsAt, isReported, noParent}
 use Rattle.rules.specs.Reading.{Control}
 use Rattle.rows.specs.Writing.{State, writeControls}
-use Rattle.rows.specs.Acts.{Nodes, topNodes, _then_, Held, Fit, actBy, Ready}
+use Rattle.rows.specs.Acts.{Nodes, topNodes, Held, Fit, actBy, Ready}
 use Rattle.rows.proofs.WritingLaws.{write-lengths}
 use Rattle.rows.proofs.ActLaws.{at-place}
-use Rattle.rows.proofs.RemainLaws.{Remain, remain-start, remain-as, remain-step, remain-done, ready-first}
-use Rattle.cursor.specs.Walk.{Step, nodeOf, Steps, entryBy, picked, _before_, restAt, tailAt}
-use Rattle.cursor.specs.Stack.{outer, countOf, Before, Moved}
-use Rattle.cursor.specs.Cursors.{cursor, restBy, Picked, Passed}
+use Rattle.cursor.specs.Walk.{Step, Steps, entryBy, _before_}
+use Rattle.cursor.specs.Stack.{countOf, Before, Moved}
+use Rattle.cursor.specs.Cursors.{cursor, Passed}
 use Rattle.cursor.specs.declared.Cursor.{Cursor}
-use Rattle.cursor.proofs.WalkLaws.{picked-reported}
-use Rattle.cursor.proofs.StackLaws.{done}
-use Rattle.cursor.proofs.CursorLaws.{leftBehind, rest-behind, Stands, stands, rest-done}
+use Rattle.rows.proofs.WritingLaws.{write-append, write-none}
+use Rattle.rows.proofs.ActLaws.{fit-both}
+use Rattle.cursor.specs.Work.{RanOf, Ran}
+use Rattle.cursor.proofs.VisitLaws as laws
+use Rattle.cursor.proofs.VisitLaws.{Visit}
+use Rattle.cursor.proofs.WorkLaws.{left-fact}
+use Rattle.cursor.proofs.LeftLaws.{left, howMany}
+pub use Rattle.cursor.proofs.LeftLaws.{left, howMany, fewer, start-nodes}
 
-abbrev pub howMany : {P : Type 0} → Nodes P → ℕ
-howMany none = 0
-howMany (some y) = length (y .0)
+abbrev pub writing : {P : Type 0} → (Node P → Control) → List (Node P) → State → State
+writing f xs st = writeControls (map f xs) st
 
-pub fewer : {P : Type 0} (x : Node P) (o : Nodes P) → Held (λ _. Unit) (x ∷ [] before o) → howMany o < howMany (x ∷ [] before o)
-fewer x none h = absurd h
-fewer x (some y) h = omega arith
+-- K is what a layout knows beforehand, f makes a control of a node: the next row is n, what is left fits, and the slices are as long as they were
+pub record Fits {P : Type 0} (K : Type 0) (f : Node P → Control) (old : State) (n : ℕ) (xs : List (Node P)) (st : State) : Type 0 where
+  pub known : K
+  pub fit : Fit (map f xs) st
+  pub number : st .ci ≡ n
+  pub controls-same : length (st .cs) ≡ length (old .cs)
+  pub properties-same : length (st .ps) ≡ length (old .ps)
 
-some-left : {P : Type 0} (f : Node P → Control) (o : Nodes P) (st : State) → Held (λ x. Fit (map f (x .0)) st) o → Held (λ _. Unit) o
-some-left f none st h = h
-some-left f (some y) st h = tt
+pub writes : {P : Type 0} (K : Type 0) (f : Node P → Control) (old : State) → Visit (λ _ x st. writeControls (f x ∷ []) st) (λ _. writing f) (Fits K f old)
+unfolding writeControls
+writes K f old n = record {
+  none-left = λ st. write-none st;
+  one-more = λ x xs st. write-append (f x ∷ []) (map f xs) st;
+  ok-more = λ x xs st h.
+      let l = write-lengths (f x ∷ []) st in
+      record {
+        known = h .known;
+        fit = fit-both (f x ∷ []) (map f xs) st (h .fit) .1;
+        number = omega (arith, h .number);
+        controls-same = l .0 ∙ h .controls-same;
+        properties-same = l .1 ∙ h .properties-same;
+      };
+}
 
-pub start-nodes : {P : Type 0} (step : Steps P) (a : List ℕ) (n at : ℕ)
-    → restBy step isReported 0 a (cursor at 0 n noParent) ≡ topNodes (levelsAt (entryBy step) levels n at)
-unfolding restBy restAt tailAt outer nodesOf
-start-nodes {P = P} step a n at = go (levelsAt (entryBy step) levels n at)
-  where
-    go : (o : Option (Entries P × ℕ)) → (o >>= λ x. some (preorder 0 noParent 0 (picked isReported (x .0)), x .1)) ≡ topNodes o
-    go none = refl
-    go (some x) = ap (λ es. some (preorder 0 noParent 0 es, x .1)) (picked-reported (x .0))
+pub record Going {P : Type 0} (step : Steps P) (K : Type 0) (f : Node P → Control) (whole : Nodes P) (old : State) (a : List ℕ) (c : Cursor) (now : State) : Type 0 where
+  pub goes : laws.Going step (Ran (writing f) whole old) (λ _. writing f) (Fits K f old) a c (now .ci) now
 
--- what is left to report from a cursor on
-abbrev pub left : {P : Type 0} → Steps P → ℕ → List ℕ → Cursor → Nodes P
-left step n a c = restBy step isReported n a c
-
--- K is what a layout knows beforehand, f makes a control of a node
-module _ {P : Type 0} (step : Steps P) (K : Type 0) (f : Node P → Control) where
-  pub record Going (whole : Nodes P) (old : State) (a : List ℕ) (c : Cursor) (now : State) : Type 0 where
-    pub long : length a ≡ 512
-    pub low : c .level ≤ 256
-    pub picked : Picked step isReported c
-    pub done : c .left ≡ 0 → c .level ≡ 0
-    pub remain : Remain K f (left step (now .ci) a c) whole old now
-    pub controls-same : length (now .cs) ≡ length (old .cs)
-    pub properties-same : length (now .ps) ≡ length (old .ps)
+fits-all : {P : Type 0} {K : Type 0} {f : Node P → Control} (st : State) → st .ci ≡ 0 → (o : Nodes P) → Ready K f o st → Held (λ y. Fits K f st 0 (y .0) st) o
+fits-all st z none h = h .fits
+fits-all st z (some y) h = record { known = h .known; fit = h .fits; number = z; controls-same = refl; properties-same = refl }
 
 module _ {P : Type 0} {step : Steps P} {K : Type 0} {f : Node P → Control} where
   pub going-start : {whole : Nodes P} (st : State) (a : List ℕ) (n at : ℕ) (r : Cursor) → topNodes (levelsAt (entryBy step) levels n at) ≡ whole → st .ci ≡ 0
       → length a ≡ 512 → Ready K f whole st → Passed step isReported (cursor at 0 n noParent) r → Going step K f whole st a r st
   going-start {whole = whole} st a n at r e z l h p = record {
-    long = l;
-    low = omega (arith, p .level-is);
-    picked = p .picked;
-    done = p .done (λ _. refl);
-    remain = remain-start K f _ whole st (sym (ap (λ (i : ℕ). left step i a r) z ∙ p .is 0 a ∙ start-nodes step a n at ∙ e)) h;
-    controls-same = refl;
-    properties-same = refl;
+    goes = subst (λ (i : ℕ). laws.Going step (Ran (writing f) whole st) (λ _. writing f) (Fits K f st) a r i st) (sym z) (laws.going-start (writes K f st) st a n at r e l (fits-all st z whole h) p);
   }
 
   module _ {whole : Nodes P} {old : State} {a : List ℕ} {c : Cursor} {now : State} (g : Going step K f whole old a c now) where
+    abbrev W : Visit (λ _ x st. writeControls (f x ∷ []) st) (λ _. writing f) (Fits K f old)
+    W = writes K f old
+
+    wrote : (o : Nodes P) (st : State) (e : ℕ) → Held (RanOf (writing f) old st e) o → some (at-place st e) ≡ actBy f o old
+    wrote none st e h = absurd h
+    wrote (some x) st e h = λ i. some (at-place (h .is i) (h .next-is i))
+
     pub going-done : c .left ≤ 0 → some (at-place now (c .at)) ≡ actBy f whole old
-    going-done l =
-        let z : c .left ≡ 0 = omega arith in
-        remain-done K f whole old now (c .at) (remain-as K f _ _ whole old now (rest-done step isReported (now .ci) a c z (g .done z)) (g .remain))
+    going-done l = wrote whole now (c .at) (laws.going-done W (g .goes) l .held)
+
+    -- what is known, and how long the slices are
+    pub going-known : K
+    going-known = left-fact (g .goes .rest) (λ xs h. h .known)
+
+    pub controls-same : length (now .cs) ≡ length (old .cs)
+    controls-same = left-fact (g .goes .rest) (λ xs h. h .controls-same)
+
+    pub properties-same : length (now .ps) ≡ length (old .ps)
+    properties-same = left-fact (g .goes .rest) (λ xs h. h .properties-same)
 
     module _ (l : 0 < c .left) where
-      there : Held (λ _. Unit) (left step (now .ci) a c)
-      there = some-left f (left step (now .ci) a c) now (g .remain .ready .fits)
-
-      pub at-entry : Stands step isReported (now .ci) a c
-      at-entry = stands step isReported (now .ci) a c l (g .low) (g .picked) there
-
-      -- the entry that the cursor stands before
+      -- the entry that the cursor stands before, and its node
       abbrev pub entry : Step P
-      entry = at-entry .entry
+      entry = laws.entry W (g .goes) l
 
-      -- and its node
       abbrev pub node : Node P
-      node = nodeOf (c .level) (c .parent) entry
+      node = laws.node W (g .goes) l
 
       pub entry-read : step (c .at) ≡ some entry
-      entry-read = at-entry .read
+      entry-read = laws.entry-read W (g .goes) l
 
       pub going-before : Before a c
-      going-before = record { long = g .long; some-left = l; low = at-entry .low }
-
-      abbrev behind-it : Nodes P
-      behind-it = leftBehind step isReported (now .ci) a c entry
-
-      first-left : (q : ℕ) → Remain K f (some (node ∷ [], q) then λ _. behind-it) whole old now
-      first-left q = remain-as K f _ _ whole old now (at-entry .is) (g .remain)
+      going-before = laws.going-before W (g .goes) l
 
       pub going-ready : (q : ℕ) → Ready K f (some (node ∷ [], q)) now
-      going-ready q = ready-first K f (some (node ∷ [], q)) (λ _. behind-it) now (first-left q .ready)
+      going-ready q = laws.going-asks W (g .goes) l (λ xs h. record { known = h .known; fits = fit-both (f node ∷ []) (map f xs) now (h .fit) .0 })
 
       -- its row is written, and the cursor went on
       module _ (next : State) (w : next ≡ writeControls (f node ∷ []) now) (a′ : List ℕ) (r r′ : Cursor)
           (m : Moved a c (now .ci) (countOf (entry .children)) (entry .next) a′ r) (k : Passed step isReported r r′) where
-        onward : left step (next .ci) a′ r′ ≡ behind-it
+        number-is : next .ci ≡ now .ci + 1
         unfolding writeControls
-        onward =
-            let z : next .ci ≡ suc (now .ci) = ap (λ (st : State). st .ci) w ∙ omega arith in
-            ap (λ (i : ℕ). left step i a′ r′) z ∙ k .is (suc (now .ci)) a′ ∙ rest-behind step isReported (now .ci) a c entry a′ r (at-entry .low) m
+        number-is = ap (λ (st : State). st .ci) w
 
         pub going-less : howMany (left step (next .ci) a′ r′) < howMany (left step (now .ci) a c)
-        going-less = omega (arith, fewer node behind-it (rw (at-entry .is) at there), ap howMany onward, ap howMany (at-entry .is))
+        going-less = subst (λ (i : ℕ). howMany (left step i a′ r′) < howMany (left step (now .ci) a c)) (sym number-is) (laws.going-less W (g .goes) l w a′ m k)
 
         pub going-next : Going step K f whole old a′ r′ next
         going-next = record {
-          long = m .long ∙ g .long;
-          low = omega (arith, m .low, k .level-is);
-          picked = k .picked;
-          done = k .done (done a c (now .ci) (countOf (entry .children)) (entry .next) a′ r m);
-          remain = remain-as K f _ _ whole old next (sym onward)
-              (remain-step K f (some (node ∷ [], c .at)) (λ _. behind-it) whole old now next (c .at) (first-left (c .at)) (ap (λ (st : State). some (at-place st (c .at))) w));
-          controls-same = ap (λ (st : State). length (st .cs)) w ∙ write-lengths (f node ∷ []) now .0 ∙ g .controls-same;
-          properties-same = ap (λ (st : State). length (st .ps)) w ∙ write-lengths (f node ∷ []) now .1 ∙ g .properties-same;
+          goes = subst (λ (i : ℕ). laws.Going step (Ran (writing f) whole old) (λ _. writing f) (Fits K f old) a′ r′ i next) (sym number-is) (laws.going-next W (g .goes) l w a′ m k);
         }

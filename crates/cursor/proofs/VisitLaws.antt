@@ -14,7 +14,7 @@ use Rattle.cursor.specs.Work.{Ran}
 use Rattle.cursor.specs.declared.Cursor.{Cursor}
 use Rattle.cursor.proofs.StackLaws.{done}
 use Rattle.cursor.proofs.CursorLaws.{leftBehind, rest-behind, Stands, stands, rest-done}
-use Rattle.cursor.proofs.RowLaws.{left, howMany, fewer, start-nodes}
+use Rattle.cursor.proofs.LeftLaws.{left, howMany, fewer, start-nodes}
 use Rattle.cursor.proofs.WorkLaws.{Work, Left, left-start, left-there, left-done, left-asks-fact, left-next}
 
 -- n is the number of the next node

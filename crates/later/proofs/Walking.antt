@@ -77,7 +77,7 @@ going-start {s} {a} {n} {at} {b} {r} {cs} {ps} {pi} l h e p =
 
 module _ {s : List ℕ} {whole : Nodes Prop} {old : State} {a : List ℕ} {c : Cursor} {cs : List ℕ} {ci : ℕ} {ps : List ℕ} {pi : ℕ} (g : Going s whole old a c (state cs ci ps pi)) where
   pub going-small : length s ≤ longest
-  going-small = g .walk .remain .ready .known
+  going-small = laws.going-known (g .walk)
 
   pub going-done : c .left ≤ 0 → NodesDone s whole old cs ps (next (c .at) ci pi)
   going-done l = laws.going-done (g .walk) l

@@ -2,7 +2,7 @@ use native.Mathlib.Omega.{arith}
 use borrow.Author.Needs.{needs}
 use Prim.Native.Nat.{ℕ}
 use lib.ListN.{length-replicate}
-use Rattle.cursor.proofs.RowLaws.{left, howMany}
+use Rattle.cursor.proofs.RowLaws.{left, howMany, controls-same, properties-same}
 use Rattle.cursor2000.specs.Steps.{stepAt}
 use Rattle.form2000.proofs.Walking.{Going, going-start, going-ready, going-low, going-small, going-past, going-less, going-next, going-done}
 use Rattle.form2000.proofs.put_top.Statement.{statement}
@@ -73,6 +73,6 @@ put-top-spec =
     (λ c κs. search needs)
     loop-less
     loop-again
-    (λ c. c .before .before .loop .inv .goes .controls-same)
-    (λ c. c .before .before .loop .inv .goes .properties-same)
+    (λ c. controls-same (c .before .before .loop .inv .goes))
+    (λ c. properties-same (c .before .before .loop .inv .goes))
     (λ c. going-done (c .before .before .loop .inv) (omega arith)))

@@ -6,7 +6,7 @@ use Rattle.rules.specs.Answer.{longest}
 use Rattle.rules.specs.Later.{nodesAt}
 use Rattle.rows.specs.Writing.{state}
 use Rattle.rows.specs.Acts.{topNodes}
-use Rattle.cursor.proofs.RowLaws.{left, howMany}
+use Rattle.cursor.proofs.RowLaws.{left, howMany, controls-same, properties-same}
 use Rattle.cursorlater.specs.Steps.{stepAt}
 use Rattle.later.proofs.Walking.{Going, going-start, going-small, going-done, going-inside, going-low, going-group, going-row, going-adds, going-past, going-less, going-next}
 use Rattle.later.proofs.write_sections.Statement.{statement}
@@ -116,6 +116,6 @@ write-sections-spec =
     add-i
     loop-less
     loop-again
-    (λ c. c .before .before .loop .inv .walk .controls-same)
-    (λ c. c .before .before .loop .inv .walk .properties-same)
+    (λ c. controls-same (c .before .before .loop .inv .walk))
+    (λ c. properties-same (c .before .before .loop .inv .walk))
     (λ c. going-done (c .before .before .loop .inv) (omega arith)))
