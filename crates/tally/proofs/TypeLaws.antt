@@ -14,6 +14,7 @@ use Rattle.rules.specs.Names.{hasId}
 use Rattle.rules.proofs.ListLaws.{and-l, and-r}
 use Rattle.rules.proofs.OpenTotals.{totals-open}
 use Rattle.names.specs.Lookup.{placeIn}
+use Rattle.tally.proofs.TypeTable.{codes, places}
 use Rattle.totallaws.proofs.TotalsLaws.{typePlace, type-places, type-placed, no-type-place}
 
 abbrev idsOf : Table → List ℕ
@@ -41,13 +42,6 @@ place-most (x ∷ ids) id = go (eqb x id) (place-most ids id)
     go true h = omega arith
     go false h = omega arith
 
--- the codes as the code has them, and the places
-abbrev pub codes : List ℕ
-codes =
-    0x64 ∷ 0x65 ∷ 0x66 ∷ 0x67 ∷ 0x68 ∷ 0x69 ∷ 0x6A ∷ 0x6B ∷ 0x6C ∷ 0x6D ∷ 0x6E ∷ 0x6F ∷ 0x70 ∷ 0x72 ∷ 0x76 ∷ 0x77 ∷ 0x7A ∷ 0x7B ∷ 0x7C ∷ 0x98 ∷ 0x9B ∷ 0x9C ∷ 0x9D ∷ 0x9E
-    ∷ 0x66A ∷ 0xA7A ∷ 0xB68 ∷ 0xC64 ∷ 0xD64 ∷ 0xE65 ∷ 0xF67 ∷ 0x126D ∷ 0x136F ∷ 0x1470 ∷ 0x1666 ∷ 0x1898 ∷ 0x1899 ∷ 0x189A ∷ 0x1998 ∷ 0x1999 ∷ 0x199A ∷ 0x199D ∷ 0x199E
-    ∷ 0x1B64 ∷ 0x1B65 ∷ 0x1B66 ∷ 0x1B67 ∷ 0x1B68 ∷ 0x1B6A ∷ 0x1B6D ∷ 0x1B6F ∷ 0x1B70 ∷ 0x1F9B ∷ 0x1F9C ∷ 0x247F ∷ []
-
 codes-are : codes ≡ idsOf controlTypeNames
 unfolding totals-open
 codes-are = refl
@@ -55,11 +49,6 @@ codes-are = refl
 pub codes-ascend : T (ascends 0 codes)
 unfolding totals-open
 codes-ascend = tt
-
-abbrev pub places : List ℕ
-places =
-    0 ∷ 1 ∷ 2 ∷ 3 ∷ 4 ∷ 5 ∷ 6 ∷ 7 ∷ 8 ∷ 9 ∷ 10 ∷ 11 ∷ 12 ∷ 13 ∷ 14 ∷ 15 ∷ 16 ∷ 17 ∷ 18 ∷ 19 ∷ 20 ∷ 21 ∷ 22 ∷ 23 ∷ 6 ∷ 16 ∷ 4 ∷ 0 ∷ 0 ∷ 1 ∷ 3 ∷ 9 ∷ 11 ∷ 12 ∷ 2 ∷ 19 ∷ 24 ∷ 25 ∷ 19 ∷ 26
-    ∷ 27 ∷ 22 ∷ 23 ∷ 0 ∷ 1 ∷ 2 ∷ 3 ∷ 4 ∷ 6 ∷ 9 ∷ 11 ∷ 28 ∷ 20 ∷ 21 ∷ 29 ∷ 30 ∷ []
 
 pub place-is : (type : ℕ) → getD places (placeIn codes type) 0 ≡ typePlace type
 place-is type =

@@ -1,0 +1,122 @@
+-- The types that have a name, and the places that they are counted at, as the code has them. Written by data/names/make out of control-type.txt.
+use Prim.Native.Nat.{ℕ}
+use mathlib.Core.List.{List, [], _∷_}
+
+abbrev pub codes : List ℕ
+codes =
+    0x64
+    ∷ 0x65
+    ∷ 0x66
+    ∷ 0x67
+    ∷ 0x68
+    ∷ 0x69
+    ∷ 0x6A
+    ∷ 0x6B
+    ∷ 0x6C
+    ∷ 0x6D
+    ∷ 0x6E
+    ∷ 0x6F
+    ∷ 0x70
+    ∷ 0x72
+    ∷ 0x76
+    ∷ 0x77
+    ∷ 0x7A
+    ∷ 0x7B
+    ∷ 0x7C
+    ∷ 0x98
+    ∷ 0x9B
+    ∷ 0x9C
+    ∷ 0x9D
+    ∷ 0x9E
+    ∷ 0x66A
+    ∷ 0xA7A
+    ∷ 0xB68
+    ∷ 0xC64
+    ∷ 0xD64
+    ∷ 0xE65
+    ∷ 0xF67
+    ∷ 0x126D
+    ∷ 0x136F
+    ∷ 0x1470
+    ∷ 0x1666
+    ∷ 0x1898
+    ∷ 0x1899
+    ∷ 0x189A
+    ∷ 0x1998
+    ∷ 0x1999
+    ∷ 0x199A
+    ∷ 0x199D
+    ∷ 0x199E
+    ∷ 0x1B64
+    ∷ 0x1B65
+    ∷ 0x1B66
+    ∷ 0x1B67
+    ∷ 0x1B68
+    ∷ 0x1B6A
+    ∷ 0x1B6D
+    ∷ 0x1B6F
+    ∷ 0x1B70
+    ∷ 0x1F9B
+    ∷ 0x1F9C
+    ∷ 0x247F
+    ∷ []
+
+abbrev pub places : List ℕ
+places =
+    0
+    ∷ 1
+    ∷ 2
+    ∷ 3
+    ∷ 4
+    ∷ 5
+    ∷ 6
+    ∷ 7
+    ∷ 8
+    ∷ 9
+    ∷ 10
+    ∷ 11
+    ∷ 12
+    ∷ 13
+    ∷ 14
+    ∷ 15
+    ∷ 16
+    ∷ 17
+    ∷ 18
+    ∷ 19
+    ∷ 20
+    ∷ 21
+    ∷ 22
+    ∷ 23
+    ∷ 6
+    ∷ 16
+    ∷ 4
+    ∷ 0
+    ∷ 0
+    ∷ 1
+    ∷ 3
+    ∷ 9
+    ∷ 11
+    ∷ 12
+    ∷ 2
+    ∷ 19
+    ∷ 24
+    ∷ 25
+    ∷ 19
+    ∷ 26
+    ∷ 27
+    ∷ 22
+    ∷ 23
+    ∷ 0
+    ∷ 1
+    ∷ 2
+    ∷ 3
+    ∷ 4
+    ∷ 6
+    ∷ 9
+    ∷ 11
+    ∷ 28
+    ∷ 20
+    ∷ 21
+    ∷ 29
+    ∷ 30
+    ∷ []
