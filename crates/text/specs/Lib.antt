@@ -1,2 +1,3 @@
 -- What the writers of text say.
 pub mod Writer
+pub mod Copies

@@ -3,13 +3,16 @@ use rules::Answer;
 use rules::NO_ROOM_FOR_TEXT;
 use rules::NOT_A_GUID;
 ghost use mathlib.Core.Path.{_≡_};
-ghost use mathlib.Core.List.{[], _∷_};
-ghost use Prim.Native.Nat.{_<_};
-ghost use lib.ListN.{length};
+ghost use mathlib.Core.List.{[], _∷_, _++_};
+ghost use Prim.Native.Nat.{_+_, _/_, _%_, _≤_, _<_};
+ghost use lib.Dec.{leb};
+ghost use lib.ListN.{length, drop};
+ghost use Rattle.rules.specs.Bytes.{part};
 ghost use Rattle.rules.specs.Answer.{refusal, answer};
 ghost use Rattle.rules.specs.Digits.{digit, decimal, hex};
 ghost use Rattle.rules.specs.Texts.{hexes, guidText, label, guidExit, labelExit};
 ghost use Rattle.text.specs.Writer.{Wrote};
+ghost use Rattle.text.specs.Copies.{Few, tens};
 
 // How many bytes a GUID has, and its text; the latter also as an answer counts it.
 const GUID_SIZE: usize = 16;
@@ -35,7 +38,156 @@ pub fn put_byte(out: &mut [u8], at: usize, b: u8) -> usize
     at
 }
 
-pub fn put_text(out: &mut [u8], at: usize, s: &[u8]) -> usize
+// Whether so many bytes have room from `at` on, where there are `size` in all.
+fn has_room(size: usize, at: usize, count: usize) -> bool
+    ensures { λ r. ⌜ r ≡ leb (at + count) size ⌝ }
+{
+    if size < count {
+        return false;
+    }
+    at <= size - count
+}
+
+// ---- several bytes at once, for which there is room
+fn set_two(out: &mut [u8], at: usize, a: u8, b: u8)
+    requires { ⌜ at + 2 ≤ length (now out) ⌝ }
+    ensures { λ _. ⌜ Wrote (now (out .entry)) at (a ∷ b ∷ []) (now (out .exit)) (at + 2) ⌝ }
+{
+    out[at] = a;
+    out[at + 1] = b;
+}
+
+fn set_four(out: &mut [u8], at: usize, a: u8, b: u8, c: u8, d: u8)
+    requires { ⌜ at + 4 ≤ length (now out) ⌝ }
+    ensures { λ _. ⌜ Wrote (now (out .entry)) at (a ∷ b ∷ c ∷ d ∷ []) (now (out .exit)) (at + 4) ⌝ }
+{
+    out[at] = a;
+    out[at + 1] = b;
+    out[at + 2] = c;
+    out[at + 3] = d;
+}
+
+fn set_six(out: &mut [u8], at: usize, a: u8, b: u8, c: u8, d: u8, e: u8, f: u8)
+    requires { ⌜ at + 6 ≤ length (now out) ⌝ }
+    ensures { λ _. ⌜ Wrote (now (out .entry)) at (a ∷ b ∷ c ∷ d ∷ e ∷ f ∷ []) (now (out .exit)) (at + 6) ⌝ }
+{
+    out[at] = a;
+    out[at + 1] = b;
+    out[at + 2] = c;
+    out[at + 3] = d;
+    out[at + 4] = e;
+    out[at + 5] = f;
+}
+
+// The eight bytes of `s` from `i` on. All are read before one is written: so they are moved at once.
+fn set_eight(out: &mut [u8], at: usize, s: &[u8], i: usize)
+    requires { ⌜ (at + 8 ≤ length (now out)) × (i + 8 ≤ length (now s)) ⌝ }
+    ensures { λ _. ⌜ Wrote (now (out .entry)) at (part (now (s .entry)) i 8) (now (out .exit)) (at + 8) ⌝ }
+{
+    let a = s[i];
+    let b = s[i + 1];
+    let c = s[i + 2];
+    let d = s[i + 3];
+    let e = s[i + 4];
+    let f = s[i + 5];
+    let g = s[i + 6];
+    let h = s[i + 7];
+    out[at] = a;
+    out[at + 1] = b;
+    out[at + 2] = c;
+    out[at + 3] = d;
+    out[at + 4] = e;
+    out[at + 5] = f;
+    out[at + 6] = g;
+    out[at + 7] = h;
+}
+
+// ---- the bytes of `s` from `i` on, for which there is room: one at most
+fn copy_last(out: &mut [u8], at: usize, s: &[u8], i: usize) -> usize
+    requires { ⌜ Few (now out) at (now s) i 1 ⌝ }
+    ensures { λ r. ⌜ Wrote (now (out .entry)) at (drop i (now (s .entry))) (now (out .exit)) r ⌝ }
+{
+    if i < s.len() {
+        out[at] = s[i];
+        return at + 1;
+    }
+    at
+}
+
+// Three at most.
+fn copy_few(out: &mut [u8], at: usize, s: &[u8], i: usize) -> usize
+    requires { ⌜ Few (now out) at (now s) i 3 ⌝ }
+    ensures { λ r. ⌜ Wrote (now (out .entry)) at (drop i (now (s .entry))) (now (out .exit)) r ⌝ }
+{
+    if 2 <= s.len() - i {
+        set_two(out, at, s[i], s[i + 1]);
+        return copy_last(out, at + 2, s, i + 2);
+    }
+    copy_last(out, at, s, i)
+}
+
+// Seven at most.
+fn copy_some(out: &mut [u8], at: usize, s: &[u8], i: usize) -> usize
+    requires { ⌜ Few (now out) at (now s) i 7 ⌝ }
+    ensures { λ r. ⌜ Wrote (now (out .entry)) at (drop i (now (s .entry))) (now (out .exit)) r ⌝ }
+{
+    if 4 <= s.len() - i {
+        set_four(out, at, s[i], s[i + 1], s[i + 2], s[i + 3]);
+        return copy_few(out, at + 4, s, i + 4);
+    }
+    copy_few(out, at, s, i)
+}
+
+fn copy(out: &mut [u8], at: usize, s: &[u8]) -> usize
+    requires { ⌜ at + length (now s) ≤ length (now out) ⌝ }
+    ensures { λ r. ⌜ Wrote (now (out .entry)) at (now (s .entry)) (now (out .exit)) r ⌝ }
+{
+    let mut o = at;
+    let mut i = 0;
+    while 8 <= s.len() - i {
+        set_eight(out, o, s, i);
+        o += 8;
+        i += 8;
+    }
+    copy_some(out, o, s, i)
+}
+
+// ---- whatever room there is
+pub fn put_two(out: &mut [u8], at: usize, a: u8, b: u8) -> usize
+    ensures { λ r. ⌜ Wrote (now (out .entry)) at (a ∷ b ∷ []) (now (out .exit)) r ⌝ }
+{
+    if has_room(out.len(), at, 2) {
+        set_two(out, at, a, b);
+        return at + 2;
+    }
+    let p = put_byte(out, at, a);
+    put_byte(out, p, b)
+}
+
+pub fn put_four(out: &mut [u8], at: usize, a: u8, b: u8, c: u8, d: u8) -> usize
+    ensures { λ r. ⌜ Wrote (now (out .entry)) at (a ∷ b ∷ c ∷ d ∷ []) (now (out .exit)) r ⌝ }
+{
+    if has_room(out.len(), at, 4) {
+        set_four(out, at, a, b, c, d);
+        return at + 4;
+    }
+    let p = put_two(out, at, a, b);
+    put_two(out, p, c, d)
+}
+
+pub fn put_six(out: &mut [u8], at: usize, a: u8, b: u8, c: u8, d: u8, e: u8, f: u8) -> usize
+    ensures { λ r. ⌜ Wrote (now (out .entry)) at (a ∷ b ∷ c ∷ d ∷ e ∷ f ∷ []) (now (out .exit)) r ⌝ }
+{
+    if has_room(out.len(), at, 6) {
+        set_six(out, at, a, b, c, d, e, f);
+        return at + 6;
+    }
+    let p = put_four(out, at, a, b, c, d);
+    put_two(out, p, e, f)
+}
+
+// A byte at a time.
+fn put_each(out: &mut [u8], at: usize, s: &[u8]) -> usize
     ensures { λ r. ⌜ Wrote (now (out .entry)) at (now (s .entry)) (now (out .exit)) r ⌝ }
 {
     let mut o = at;
@@ -45,6 +197,15 @@ pub fn put_text(out: &mut [u8], at: usize, s: &[u8]) -> usize
         i += 1;
     }
     o
+}
+
+pub fn put_text(out: &mut [u8], at: usize, s: &[u8]) -> usize
+    ensures { λ r. ⌜ Wrote (now (out .entry)) at (now (s .entry)) (now (out .exit)) r ⌝ }
+{
+    if has_room(out.len(), at, s.len()) {
+        return copy(out, at, s);
+    }
+    put_each(out, at, s)
 }
 
 fn digit_of(n: u32) -> u8
@@ -65,14 +226,56 @@ fn put_digit(out: &mut [u8], at: usize, n: u32) -> usize
     put_byte(out, at, digit_of(n))
 }
 
-pub fn put_decimal(out: &mut [u8], at: usize, n: u32) -> usize
+// Two digits, and four.
+fn put_tens(out: &mut [u8], at: usize, n: u32) -> usize
+    requires { ⌜ n < 100 ⌝ }
+    ensures { λ r. ⌜ Wrote (now (out .entry)) at (tens n) (now (out .exit)) r ⌝ }
+{
+    put_two(out, at, digit_of(n / 10), digit_of(n % 10))
+}
+
+fn put_thousands(out: &mut [u8], at: usize, n: u32) -> usize
+    requires { ⌜ n < 10000 ⌝ }
+    ensures { λ r. ⌜ Wrote (now (out .entry)) at (tens (n / 100) ++ tens (n % 100)) (now (out .exit)) r ⌝ }
+{
+    let q = n / 100;
+    let r = n % 100;
+    put_four(
+        out,
+        at,
+        digit_of(q / 10),
+        digit_of(q % 10),
+        digit_of(r / 10),
+        digit_of(r % 10),
+    )
+}
+
+// A number of four digits at most.
+fn put_short(out: &mut [u8], at: usize, n: u32) -> usize
+    requires { ⌜ n < 10000 ⌝ }
     ensures { λ r. ⌜ Wrote (now (out .entry)) at (decimal n) (now (out .exit)) r ⌝ }
 {
     if n < 10 {
-        put_digit(out, at, n)
+        return put_digit(out, at, n);
+    }
+    if n < 100 {
+        return put_tens(out, at, n);
+    }
+    if n < 1000 {
+        let p = put_digit(out, at, n / 100);
+        return put_tens(out, p, n % 100);
+    }
+    put_thousands(out, at, n)
+}
+
+pub fn put_decimal(out: &mut [u8], at: usize, n: u32) -> usize
+    ensures { λ r. ⌜ Wrote (now (out .entry)) at (decimal n) (now (out .exit)) r ⌝ }
+{
+    if n < 10000 {
+        put_short(out, at, n)
     } else {
-        let o = put_decimal(out, at, n / 10);
-        put_digit(out, o, n % 10)
+        let o = put_decimal(out, at, n / 10000);
+        put_thousands(out, o, n % 10000)
     }
 }
 
@@ -89,12 +292,28 @@ pub fn put_hex(out: &mut [u8], at: usize, k: u32, n: u32) -> usize
 }
 
 // ---- GUID text
+// A byte as two digits to the base 16.
+pub fn put_hex_byte(out: &mut [u8], at: usize, b: u8) -> usize
+    ensures { λ r. ⌜ Wrote (now (out .entry)) at (hex 2 b) (now (out .exit)) r ⌝ }
+{
+    let n = b as u32;
+    put_two(out, at, digit_of(n / 16 % 16), digit_of(n % 16))
+}
+
 // The bytes of `g` at two places.
 fn put_pair(out: &mut [u8], at: usize, g: &[u8], i: usize, j: usize) -> usize
     ensures { λ r. ⌜ Wrote (now (out .entry)) at (hexes (now (g .entry)) (i ∷ j ∷ [])) (now (out .exit)) r ⌝ }
 {
-    let o = put_hex(out, at, 2, numbers::byte_at(g, i) as u32);
-    put_hex(out, o, 2, numbers::byte_at(g, j) as u32)
+    let a = numbers::byte_at(g, i) as u32;
+    let b = numbers::byte_at(g, j) as u32;
+    put_four(
+        out,
+        at,
+        digit_of(a / 16 % 16),
+        digit_of(a % 16),
+        digit_of(b / 16 % 16),
+        digit_of(b % 16),
+    )
 }
 
 pub fn put_guid(out: &mut [u8], at: usize, g: &[u8]) -> usize
