@@ -2,7 +2,8 @@
 use rules::Answer;
 ghost use mathlib.Core.Path.{_≡_};
 ghost use mathlib.Core.List.{[]};
-ghost use Prim.Native.Nat.{_≤_};
+ghost use mathlib.Core.Bool.{true};
+ghost use Prim.Native.Nat.{_≤_, _<_};
 ghost use lib.Dec.{T};
 ghost use lib.ListN.{length};
 ghost use Rattle.rules.specs.Lists.{ascends};
@@ -92,6 +93,110 @@ pub fn value_name_in<'a>(index: &[u32], letters: &'a [u8], mark: u32, id: u16) -
         5 | 7 => name_in(
             index,
             letters,
+            nametables::BYTES,
+            nametables::CONTROL_TYPE,
+            id,
+        ),
+        _ => nothing_of(letters),
+    }
+}
+
+// ---- names looked for first where the last search for the same ended
+// A hint for each mark and low byte of an id. A hint may be wrong: nothing but time rests on it.
+pub const HINTS: usize = 4096;
+
+fn slot(mark: u32, id: u16) -> usize
+    ensures { λ r. ⌜ r < 4096 ⌝ }
+{
+    (mark as usize) % 16 * 256 + (id as usize) % 256
+}
+
+// A hint is a byte.
+fn low_byte(n: usize) -> u8 {
+    (n % 256) as u8
+}
+
+// Whether `id` is told to stand at the place `near`. Where this is false nothing is told.
+fn is_at(ids: &[u32], near: usize, id: u32) -> bool
+    requires { ⌜ T (ascends 0 (now ids)) ⌝ }
+    ensures { λ r. ⌜ (r ≡ true → near ≡ placeIn (now (ids .entry)) id) ⌝ }
+{
+    if ids.len() <= near {
+        return false;
+    }
+    ids[near] == id
+}
+
+// The place of `id` in `ids`, or their number where it has none.
+fn place_near(ids: &[u32], hint: u8, id: u32) -> usize
+    requires { ⌜ T (ascends 0 (now ids)) ⌝ }
+    ensures { λ r. ⌜ r ≡ placeIn (now (ids .entry)) id ⌝ }
+{
+    let near = hint as usize;
+    if is_at(ids, near, id) {
+        return near;
+    }
+    place_in(ids, id)
+}
+
+// The name of `id` in the rows from `from` to `to`; where its row is found is noted.
+fn name_near<'a>(
+    index: &[u32],
+    letters: &'a [u8],
+    hints: &mut [u8; HINTS],
+    at: usize,
+    from: usize,
+    to: usize,
+    id: u16,
+) -> &'a [u8]
+    requires { ⌜ LentRows (now index) (now letters) from to × (at < 4096) ⌝ }
+    ensures { λ r. ⌜ now r ≡ nameIn (rowsIn from to) id ⌝ }
+{
+    let hint = hints[at];
+    let i = place_near(&index[from..to], hint, id as u32);
+    hints[at] = low_byte(i);
+    if i < to - from {
+        return row_name(index, letters, from + i);
+    }
+    nothing_of(letters)
+}
+
+// The name of a value by its mark and id, for whoever looks up many.
+pub fn value_name_near<'a>(
+    index: &[u32],
+    letters: &'a [u8],
+    hints: &mut [u8; HINTS],
+    mark: u32,
+    id: u16,
+) -> &'a [u8]
+    requires { ⌜ Lent (now index) (now letters) ⌝ }
+    ensures { λ r. ⌜ now r ≡ nameIn (namesFor mark) id ⌝ }
+{
+    let at = slot(mark, id);
+    match mark {
+        0..=4 => name_near(
+            index,
+            letters,
+            hints,
+            at,
+            nametables::NUMBER,
+            nametables::BYTES,
+            id,
+        ),
+        6 | 8 => name_near(
+            index,
+            letters,
+            hints,
+            at,
+            nametables::TEXT,
+            nametables::NUMBER,
+            id,
+        ),
+        5 | 7 => name_near(
+            index,
+            letters,
+            hints,
+            at,
             nametables::BYTES,
             nametables::CONTROL_TYPE,
             id,
