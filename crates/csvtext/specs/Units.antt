@@ -1,7 +1,8 @@
 -- The characters of UTF-16 text, unit by unit: what a unit ends, and what waits after it.
 use Prim.Native.Nat.{ℕ}
 use mathlib.Core.Bool.{Bool, true, cond}
-use mathlib.Core.List.{List, []}
+use mathlib.Core.List.{List, [], _∷_}
+use lib.Dec.{ltb, leb, eqb}
 use Rattle.rules.specs.Utf16.{isHigh}
 use Rattle.rules.specs.Scalars.{scalar}
 use Rattle.rules.specs.Utf8.{utf8Of}
@@ -18,3 +19,13 @@ unitText high u = cond (isHigh u) [] (doubled (utf8Of (scalar high u)))
 -- they can stand without quotes
 unfoldable pub unitData : ℕ → ℕ → Bool
 unitData high u = cond (isHigh u) true (isData (scalar high u))
+
+-- a unit that is a byte, and needs no quotes: the space, or one after the comma
+unfoldable pub isLetter : ℕ → Bool
+isLetter u = cond (ltb u 0x2D) (eqb u 0x20) (leb u 0x7F)
+
+-- the low bytes of units
+unfoldable pub lows : List ℕ → List ℕ
+lows [] = []
+lows (a ∷ []) = []
+lows (a ∷ b ∷ s) = a ∷ lows s

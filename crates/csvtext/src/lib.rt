@@ -1,23 +1,31 @@
 // UTF-16 text as a field of comma-separated text: UTF-8, quoted where it must be; and bytes as hex. Each is written into a lent buffer, or only
 // counted: what it takes is taken off a room, and nothing is left where it has none.
-use numbers::byte_at;
 use numbers::u16_at;
+use numbers::u16_inside;
 use text::put_byte;
-use text::put_hex;
+use text::put_four;
+use text::put_hex_byte;
 use utf16::is_high;
 ghost use mathlib.Core.Path.{_≡_};
-ghost use Prim.Native.Nat.{_-_, _<_};
-ghost use mathlib.Core.Bool.{cond};
-ghost use lib.ListN.{length};
+ghost use Prim.Native.Nat.{_-_, _≤_, _<_};
+ghost use mathlib.Core.Bool.{true, cond};
+ghost use lib.ListN.{length, drop};
 ghost use Rattle.rules.specs.Lists.{all};
 ghost use Rattle.rules.specs.Utf16.{isHigh};
 ghost use Rattle.rules.specs.Scalars.{scalar};
 ghost use Rattle.rules.specs.Utf8.{utf8Of, utf8};
 ghost use Rattle.rules.specs.Csv.{isData, doubled, fieldText, hexText};
 ghost use Rattle.text.specs.Writer.{Wrote};
-ghost use Rattle.csvtext.specs.Units.{unitText, unitData, waiting};
+ghost use Rattle.csvtext.specs.Units.{unitText, unitData, waiting, isLetter, lows};
 
 const QUOTE: u8 = b'"';
+
+// The letters begin after the comma, and end where characters of two bytes begin; the space is one too.
+const SPACE: u16 = 0x20;
+
+const FIRST_LETTER: u16 = 0x2D;
+
+const LAST_LETTER: u16 = 0x7F;
 
 const QUOTE_SIGN: u32 = 0x22;
 
@@ -164,10 +172,64 @@ fn is_plain(bytes: &[u8]) -> bool
     true
 }
 
+// ---- letters: units that are a byte each, and need no quotes
+fn is_letter(u: u16) -> bool
+    ensures { λ r. ⌜ r ≡ isLetter u ⌝ }
+{
+    if u < FIRST_LETTER {
+        return u == SPACE;
+    }
+    u <= LAST_LETTER
+}
+
+// Whether a text is told at a glance to be its units' low bytes. Where this is false nothing is told.
+fn all_letters(bytes: &[u8]) -> bool
+    ensures { λ r. ⌜ (r ≡ true → fieldText (utf8 (now (bytes .entry))) ≡ lows (now (bytes .entry))) ⌝ }
+{
+    let mut i: usize = 0;
+    while 1 < bytes.len() - i {
+        if !is_letter(u16_inside(bytes, i)) {
+            return false;
+        }
+        i += 2;
+    }
+    true
+}
+
+// The low bytes of the units from `from` on.
+fn put_lows_from(out: &mut [u8], at: usize, bytes: &[u8], from: usize) -> usize
+    requires { ⌜ from ≤ length (now bytes) ⌝ }
+    ensures { λ r. ⌜ Wrote (now (out .entry)) at (lows (drop from (now (bytes .entry)))) (now (out .exit)) r ⌝ }
+{
+    let mut p = at;
+    let mut i = from;
+    while 1 < bytes.len() - i {
+        p = put_byte(out, p, bytes[i]);
+        i += 2;
+    }
+    p
+}
+
+// Four at a time, then the last.
+fn put_lows(out: &mut [u8], at: usize, bytes: &[u8]) -> usize
+    ensures { λ r. ⌜ Wrote (now (out .entry)) at (lows (now (bytes .entry))) (now (out .exit)) r ⌝ }
+{
+    let mut p = at;
+    let mut i: usize = 0;
+    while 7 < bytes.len() - i {
+        p = put_four(out, p, bytes[i], bytes[i + 2], bytes[i + 4], bytes[i + 6]);
+        i += 8;
+    }
+    put_lows_from(out, p, bytes, i)
+}
+
 // The text of these bytes as a field.
 pub fn put_field(out: &mut [u8], at: usize, bytes: &[u8]) -> usize
     ensures { λ r. ⌜ Wrote (now (out .entry)) at (fieldText (utf8 (now (bytes .entry)))) (now (out .exit)) r ⌝ }
 {
+    if all_letters(bytes) {
+        return put_lows(out, at, bytes);
+    }
     if is_plain(bytes) {
         return put_doubled(out, at, bytes);
     }
@@ -234,7 +296,7 @@ pub fn put_hexes(out: &mut [u8], at: usize, bytes: &[u8]) -> usize
     let mut p = at;
     let mut i: usize = 0;
     while i < bytes.len() {
-        p = put_hex(out, p, 2, byte_at(bytes, i) as u32);
+        p = put_hex_byte(out, p, bytes[i]);
         i += 1;
     }
     p

@@ -28,11 +28,10 @@ loop-again : tie.Need-loop-again Inv-loop μ-loop
 loop-again c =
     let at-loop : tie.At-loop Inv-loop μ-loop = search in
     let start : tie.Start Inv-loop μ-loop = search in
-    let read : tie.After-byte-at Inv-loop μ-loop = search in
-    let put : tie.After-put-hex Inv-loop μ-loop = search in
+    let put : tie.After-put-hex-byte Inv-loop μ-loop = search in
     let b = start .args .bytes .now in
     let i = at-loop .loop .i in
-    on (at-loop .loop .inv) (hexes-step b i (omega arith) ∙ ap (λ (n : ℕ). hex 2 n ++ hexText (drop (i + 1) b)) (sym (read .byte-at .ensures))) (put .put-hex .ensures)
+    on (at-loop .loop .inv) (hexes-step b i (omega arith)) (put .put-hex-byte .ensures)
 
 returns : tie.Need-returns Inv-loop μ-loop
 returns c =
@@ -50,7 +49,6 @@ put-hexes-spec =
     Inv-loop
     μ-loop
     loop-holds
-    (λ c κs. search needs)
     (λ c. search needs)
     (λ c κs. search needs)
     (λ c. search needs)
