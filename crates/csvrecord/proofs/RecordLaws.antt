@@ -4,7 +4,7 @@ use native.Mathlib.Omega.{arith}
 use mathlib.Core.Path.{_≡_, refl, sym, ap, _∙_}
 use mathlib.Core.List.{List, [], _∷_, _++_, append-assoc}
 use borrow.Author.Tests.{lt-ltb, le-ltb, eq-eqb, ne-eqb}
-use lib.ListN.{length, getD, length-append}
+use lib.ListN.{length, getD, length-append, List·getD-eq-default}
 use Rattle.rules.specs.Lists.{all, text}
 use Rattle.rules.specs.Bytes.{part}
 use Rattle.rules.specs.Digits.{decimal, hex}
@@ -17,7 +17,7 @@ use Rattle.rules.specs.Csv.{Record, comma, crlf, isData, fieldText, recordText,
 use Rattle.rules.specs.declared.Property.{Property}
 use Rattle.csvlaws.proofs.CsvPlain.{Plain, plain-field, plain-none, decimal-plain, hex-plain, name-for-plain, or-id-plain, mark-plain, value-text-plain}
 use Rattle.values.proofs.Marks.{values}
-use Rattle.csvrecord.specs.Parts.{controlField, typeField, ownedRecord, ownerText, namedText, valueField, tailText}
+use Rattle.csvrecord.specs.Parts.{controlField, typeField, ownedRecord, ownerText, markedText, namedText, valueField, tailText}
 use Rattle.csvrecord.specs.declared.Owner.{Owner}
 use Rattle.csvrecord.specs.declared.Owner.the-variants.{Object, Control}
 
@@ -39,7 +39,7 @@ two-fields : (a b c : List ℕ) → (a ++ (comma ∷ b ++ (comma ∷ []))) ++ c 
 two-fields a b c = append-assoc a (comma ∷ b ++ (comma ∷ [])) c ∙ ap (λ l. a ++ (comma ∷ l)) (append-assoc b (comma ∷ []) c)
 
 pub record-parts : (stream : List ℕ) (o : Owner) (row : List ℕ) → recordText (ownedRecord stream o row) ≡ ownerText o ++ tailText stream row
-unfolding recordText propertyRecord ownerText namedText tailText valueField
+unfolding recordText propertyRecord ownerText markedText namedText tailText valueField
 record-parts stream o row =
     let id = orId (nameIn (namesFor (word row 1)) (word row 0)) (word row 0) in
     let value = fieldText (valueText (word row 1) (word row 2) (word row 3) (word row 5) (part stream (word row 4) (word row 5))) in
@@ -83,9 +83,17 @@ module _ {m : ℕ} (k : ℕ) (e : m ≡ k) where
   unfolding markWord
   word-size = rw e
 
+  pub marked : markedText m ≡ comma ∷ getD markWords k (text "loose") ++ (comma ∷ [])
+  unfolding markedText markWord
+  marked = rw e
+
   pub column-size : (low high size : ℕ) (g : List ℕ) → length (valueColumn m low high size g) ≡ length (getD (values low high g) k (decimal size))
   unfolding valueColumn
   column-size low high size g = rw e
+
+pub marked-last : {m : ℕ} → 8 ≤ m → markedText m ≡ comma ∷ text "loose" ++ (comma ∷ [])
+unfolding markedText markWord
+marked-last {m} h = ap (λ (l : List ℕ). comma ∷ l ++ (comma ∷ [])) (List·getD-eq-default markWords (text "loose") h)
 
 pub sixteen : (a b : ℕ) → length (hex 8 a ++ hex 8 b) ≡ 16
 unfolding hex
@@ -117,7 +125,7 @@ module _ (stream : List ℕ) (p : Property) where
 -- how long the others are
 pub tail-size : (stream row : List ℕ)
     → length (tailText stream row) ≡ length (orId (nameIn (namesFor (word row 1)) (word row 0)) (word row 0)) + length (markWord (word row 1)) + 4 + length (valueField stream row)
-unfolding tailText namedText
+unfolding tailText namedText markedText
 tail-size stream row = simp length-append (omega arith)
 
 owner-size : (n type : ℕ) → length (ownerText (Control n type)) ≡ length (decimal n) + 6

@@ -30,8 +30,12 @@ ownerText owner = controlField owner ++ (comma ∷ typeField owner ++ (comma ∷
 unfoldable pub valueField : List ℕ → List ℕ → List ℕ
 valueField stream row = fieldText (valueText (word row 1) (word row 2) (word row 3) (word row 5) (part stream (word row 4) (word row 5)))
 
+-- the word of a value, between two commas
+unfoldable pub markedText : ℕ → List ℕ
+markedText mark = comma ∷ markWord mark ++ (comma ∷ [])
+
 unfoldable pub namedText : ℕ → ℕ → List ℕ
-namedText mark id = orId (nameIn (namesFor mark) id) id ++ (comma ∷ markWord mark ++ (comma ∷ []))
+namedText mark id = orId (nameIn (namesFor mark) id) id ++ markedText mark
 
 unfoldable pub tailText : List ℕ → List ℕ → List ℕ
 tailText stream row = namedText (word row 1) (word row 0) ++ (valueField stream row ++ crlf)

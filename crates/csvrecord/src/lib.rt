@@ -4,15 +4,17 @@ use csvtext::hexes_left;
 use csvtext::less;
 use csvtext::put_field;
 use csvtext::put_hexes;
+use names::HINTS;
 use rules::MARK_TEXT;
 use rules::Property;
 use text::label_length;
 use text::put_byte;
 use text::put_decimal;
 use text::put_hex;
+use text::put_six;
 use text::put_text;
+use text::put_two;
 use values::put_value;
-use values::put_word;
 use values::value_bytes;
 ghost use mathlib.Core.Path.{_≡_};
 ghost use Prim.Native.Nat.{_+_, _-_, _<_};
@@ -22,9 +24,10 @@ ghost use Rattle.rules.specs.Listing.{markWord, number32, yesOrNo};
 ghost use Rattle.rules.specs.Names.{nameIn, namesFor};
 ghost use Rattle.rules.specs.Reading.{propertyRow};
 ghost use Rattle.rules.specs.Csv.{header, orId, recordText};
+ghost use mathlib.Core.List.{_++_};
 ghost use Rattle.names.specs.Lookup.{Lent};
 ghost use Rattle.text.specs.Writer.{Wrote};
-ghost use Rattle.csvrecord.specs.Parts.{ownerText, namedText, valueField, tailText, ownedRecord, ColumnSize};
+ghost use Rattle.csvrecord.specs.Parts.{ownerText, markedText, namedText, valueField, tailText, ColumnSize};
 
 // Whose property a record tells: the object's, or a control's.
 pub enum Owner {
@@ -54,7 +57,7 @@ pub fn put_header(out: &mut [u8], at: usize) -> usize
 }
 
 // The two fields that tell the owner, with a comma after each.
-fn put_owner(out: &mut [u8], at: usize, owner: Owner) -> usize
+pub fn put_owner(out: &mut [u8], at: usize, owner: Owner) -> usize
     ensures { λ r. ⌜ Wrote (now (out .entry)) at (ownerText owner) (now (out .exit)) r ⌝ }
 {
     match owner {
@@ -84,6 +87,7 @@ fn put_property(
     at: usize,
     index: &[u32],
     letters: &[u8],
+    hints: &mut [u8; HINTS],
     mark: u32,
     id: u32,
 ) -> usize
@@ -96,7 +100,7 @@ fn put_property(
     put_name_or_id(
         out,
         at,
-        names::value_name_in(index, letters, mark, id as u16),
+        names::value_name_near(index, letters, hints, mark, id as u16),
         id,
     )
 }
@@ -115,15 +119,53 @@ fn put_value_field(out: &mut [u8], at: usize, stream: &[u8], p: Property) -> usi
     put_hexes(out, at, value_bytes(stream, p.start, p.size))
 }
 
+// The word of a value, between two commas.
+fn put_marked(out: &mut [u8], at: usize, mark: u32) -> usize
+    ensures { λ r. ⌜ Wrote (now (out .entry)) at (markedText mark) (now (out .exit)) r ⌝ }
+{
+    match mark {
+        0 => put_six(out, at, b',', b'b', b'o', b'o', b'l', b','),
+        1 => {
+            let p = put_six(out, at, b',', b'n', b'o', b't', b'd', b'e');
+            put_six(out, p, b'f', b'a', b'u', b'l', b't', b',')
+        }
+        2 => {
+            let p = put_six(out, at, b',', b's', b'h', b'o', b'r', b't');
+            put_byte(out, p, b',')
+        }
+        3 => put_six(out, at, b',', b'l', b'o', b'n', b'g', b','),
+        4 => {
+            let p = put_six(out, at, b',', b'd', b'o', b'u', b'b', b'l');
+            put_two(out, p, b'e', b',')
+        }
+        5 => put_six(out, at, b',', b'g', b'u', b'i', b'd', b','),
+        6 => put_six(out, at, b',', b't', b'e', b'x', b't', b','),
+        7 => {
+            let p = put_six(out, at, b',', b'b', b'i', b'n', b'a', b'r');
+            put_two(out, p, b'y', b',')
+        }
+        _ => {
+            let p = put_six(out, at, b',', b'l', b'o', b'o', b's', b'e');
+            put_byte(out, p, b',')
+        }
+    }
+}
+
 // A property's name or id and the word of its value, with a comma after each.
-fn put_named(out: &mut [u8], at: usize, index: &[u32], letters: &[u8], mark: u32, id: u32) -> usize
+fn put_named(
+    out: &mut [u8],
+    at: usize,
+    index: &[u32],
+    letters: &[u8],
+    hints: &mut [u8; HINTS],
+    mark: u32,
+    id: u32,
+) -> usize
     requires { ⌜ Lent (now index) (now letters) ⌝ }
     ensures { λ r. ⌜ Wrote (now (out .entry)) at (namedText mark id) (now (out .exit)) r ⌝ }
 {
-    let q = put_property(out, at, index, letters, mark, id);
-    let q = put_byte(out, q, COMMA);
-    let q = put_word(out, q, mark);
-    put_byte(out, q, COMMA)
+    let q = put_property(out, at, index, letters, hints, mark, id);
+    put_marked(out, q, mark)
 }
 
 // A record after the fields that tell the owner.
@@ -132,6 +174,7 @@ fn put_tail(
     at: usize,
     index: &[u32],
     letters: &[u8],
+    hints: &mut [u8; HINTS],
     stream: &[u8],
     p: Property,
 ) -> usize
@@ -139,26 +182,27 @@ fn put_tail(
     ensures { λ r. ⌜ Wrote (now (out .entry)) at (tailText (now (stream .entry)) (propertyRow p)) (now (out .exit)) r ⌝ }
 {
     let v = p.value;
-    let q = put_named(out, at, index, letters, v.mark, p.id);
+    let q = put_named(out, at, index, letters, hints, v.mark, p.id);
     let q = put_value_field(out, q, stream, p);
-    let q = put_byte(out, q, CR);
-    put_byte(out, q, LF)
+    put_two(out, q, CR, LF)
 }
 
+// A record; `owner` has the fields that tell the owner, with their commas.
 pub fn put_record(
     out: &mut [u8],
     at: usize,
     index: &[u32],
     letters: &[u8],
+    hints: &mut [u8; HINTS],
     stream: &[u8],
-    owner: Owner,
+    owner: &[u8],
     p: Property,
 ) -> usize
     requires { ⌜ Lent (now index) (now letters) ⌝ }
-    ensures { λ r. ⌜ Wrote (now (out .entry)) at (recordText (ownedRecord (now (stream .entry)) owner (propertyRow p))) (now (out .exit)) r ⌝ }
+    ensures { λ r. ⌜ Wrote (now (out .entry)) at (now (owner .entry) ++ tailText (now (stream .entry)) (propertyRow p)) (now (out .exit)) r ⌝ }
 {
-    let q = put_owner(out, at, owner);
-    put_tail(out, q, index, letters, stream, p)
+    let q = put_text(out, at, owner);
+    put_tail(out, q, index, letters, hints, stream, p)
 }
 
 // ---- counted

@@ -7,18 +7,14 @@ use Rattle.csvrecord.proofs.put_named.Tie as tie
 returns : tie.Need-returns
 unfolding namedText
 returns c =
-    let second : tie.After-put-byte2 = search in
-    let told : tie.After-put-word = search in
-    let first : tie.After-put-byte = search in
+    let told : tie.After-put-marked = search in
     let named : tie.After-put-property = search in
-    named .put-property .ensures ⨟ first .put-byte .ensures ⨟ told .put-word .ensures ⨟ second .put-byte2 .ensures
+    named .put-property .ensures ⨟ told .put-marked .ensures
 
 pub put-named-spec : {M : Type 1} → statement M
 put-named-spec =
     tie.close
     (tie.spec
-    (λ c κs. search needs)
-    (λ c κs. search needs)
     (λ c κs. search needs)
     (λ c κs. search needs)
     (λ c. search needs)

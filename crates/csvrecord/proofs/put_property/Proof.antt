@@ -22,9 +22,9 @@ returns c =
 returns-2 : tie.Need-returns-2
 returns-2 c =
     let start : tie.Start = search in
-    let named : tie.After-value-name-in = search in
+    let named : tie.After-value-name-near = search in
     let put : tie.After-put-name-or-id = search in
-    wrote-as (put .put-name-or-id .ensures) (ap (λ (l : List ℕ). orId l (start .args .id)) (named .value-name-in .ensures))
+    wrote-as (put .put-name-or-id .ensures) (ap (λ (l : List ℕ). orId l (start .args .id)) (named .value-name-near .ensures))
 
 pub put-property-spec : {M : Type 1} → statement M
 put-property-spec =

@@ -1,28 +1,28 @@
 use borrow.Author.Needs.{needs}
 use native.Mathlib.Omega.{arith}
 use Rattle.text.proofs.Chain.{same}
-use Rattle.csvrows.proofs.Steps.{ControlsLeft, controls-start, controls-few, controls-more, controls-done}
+use Rattle.csvrows.proofs.Steps.{ControlsLeft, controls-start, controls-few, owned-ready, controls-more, controls-done}
 use Rattle.csvrows.proofs.put_controls.Statement.{statement}
 use Rattle.csvrows.proofs.put_controls.Tie as tie
 
 abbrev Inv-loop : tie.InvT-loop
-Inv-loop out₀ at index letters stream controls count rows first p₀ n₀ left₀ next₀ out p n left next = ControlsLeft stream controls rows count first out₀ at out p n left next
+Inv-loop out₀ at index letters stream controls count rows first p₀ n₀ left₀ next₀ hints₀ out p n left next hints = ControlsLeft stream controls rows count first out₀ at out p n left next
 
 abbrev μ-loop : tie.MeasureT-loop
-μ-loop out₀ at index letters stream controls count rows first p₀ n₀ left₀ next₀ out p n left next = left
+μ-loop out₀ at index letters stream controls count rows first p₀ n₀ left₀ next₀ hints₀ out p n left next hints = left
 
 loop-holds : tie.Need-loop-holds Inv-loop μ-loop
 loop-holds c =
     let start : tie.Start Inv-loop μ-loop = search in
     controls-start (start .pre)
 
-put-rows-requires : tie.Need-put-rows-requires Inv-loop μ-loop
-put-rows-requires c κs =
+put-owned-requires : tie.Need-put-owned-requires Inv-loop μ-loop
+put-owned-requires c κs =
     let start : tie.Start Inv-loop μ-loop = search in
     let turn : tie.At-loop Inv-loop μ-loop = search in
     let test : tie.In-loop Inv-loop μ-loop = search in
     let read : tie.After-get-control Inv-loop μ-loop = search in
-    record { lent = start .pre .lent; few = controls-few (turn .loop .inv) (test .loop-test .taken) (read .get-control .ensures) }
+    owned-ready (turn .loop .inv) (test .loop-test .taken) (read .get-control .ensures) (start .pre .lent) _
 
 add-next : tie.Need-add-next Inv-loop μ-loop
 add-next c =
@@ -52,8 +52,8 @@ loop-again c =
     let turn : tie.At-loop Inv-loop μ-loop = search in
     let test : tie.In-loop Inv-loop μ-loop = search in
     let read : tie.After-get-control Inv-loop μ-loop = search in
-    let put : tie.After-put-rows Inv-loop μ-loop = search in
-    controls-more (turn .loop .inv) (test .loop-test .taken) (read .get-control .ensures) (put .put-rows .ensures)
+    let put : tie.After-put-owned Inv-loop μ-loop = search in
+    controls-more (turn .loop .inv) (test .loop-test .taken) (read .get-control .ensures) (put .put-owned .ensures)
 
 returns : tie.Need-returns Inv-loop μ-loop
 returns c =
@@ -71,7 +71,7 @@ put-controls-spec =
     μ-loop
     loop-holds
     (λ c κs. search needs)
-    put-rows-requires
+    put-owned-requires
     add-next
     add-n
     sub-left

@@ -6,10 +6,10 @@ use Rattle.csvrows.proofs.put_rows.Statement.{statement}
 use Rattle.csvrows.proofs.put_rows.Tie as tie
 
 abbrev Inv-loop : tie.InvT-loop
-Inv-loop out₀ at index letters stream owner rows first count p₀ i₀ left₀ out p i left = RowsLeft stream owner rows first count out₀ at out p i left
+Inv-loop out₀ at index letters hints₀ stream owner rows p₀ i₀ left₀ out hints p i left = RowsLeft stream owner rows i₀ left₀ out₀ at out p i left
 
 abbrev μ-loop : tie.MeasureT-loop
-μ-loop out₀ at index letters stream owner rows first count p₀ i₀ left₀ out p i left = left
+μ-loop out₀ at index letters hints₀ stream owner rows p₀ i₀ left₀ out hints p i left = left
 
 loop-holds : tie.Need-loop-holds Inv-loop μ-loop
 loop-holds c =
@@ -41,9 +41,9 @@ loop-again : tie.Need-loop-again Inv-loop μ-loop
 loop-again c =
     let turn : tie.At-loop Inv-loop μ-loop = search in
     let test : tie.In-loop Inv-loop μ-loop = search in
-    let read : tie.After-get-property Inv-loop μ-loop = search in
+    let read : tie.After-row-of Inv-loop μ-loop = search in
     let put : tie.After-put-record Inv-loop μ-loop = search in
-    rows-more (turn .loop .inv) (test .loop-test .taken) (read .get-property .ensures) (put .put-record .ensures)
+    rows-more (turn .loop .inv) (test .loop-test .taken) (read .row-of .ensures) (put .put-record .ensures)
 
 returns : tie.Need-returns Inv-loop μ-loop
 returns c =

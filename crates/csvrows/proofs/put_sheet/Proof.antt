@@ -2,13 +2,14 @@ use borrow.Author.Needs.{needs}
 use native.Mathlib.Omega.{arith}
 use Rattle.text.proofs.Chain.{_⨟_}
 use Rattle.csvrows.specs.Rows.{slicesText}
+use Rattle.csvrows.proofs.Steps.{object-short}
 use Rattle.csvrows.proofs.put_sheet.Statement.{statement}
 use Rattle.csvrows.proofs.put_sheet.Tie as tie
 
-put-rows-requires : tie.Need-put-rows-requires
-put-rows-requires c κs =
+put-owned-requires : tie.Need-put-owned-requires
+put-owned-requires c κs =
     let start : tie.Start = search in
-    record { lent = start .pre .lent; few = omega (arith, start .pre .few) }
+    record { ready = record { lent = start .pre .lent; few = omega (arith, start .pre .few) }; short = object-short }
 
 put-controls-requires : tie.Need-put-controls-requires
 put-controls-requires c κs =
@@ -19,16 +20,16 @@ returns : tie.Need-returns
 unfolding slicesText
 returns c =
     let last : tie.After-put-controls = search in
-    let own : tie.After-put-rows = search in
+    let own : tie.After-put-owned = search in
     let headed : tie.After-put-header = search in
-    headed .put-header .ensures ⨟ own .put-rows .ensures ⨟ last .put-controls .ensures
+    headed .put-header .ensures ⨟ own .put-owned .ensures ⨟ last .put-controls .ensures
 
 pub put-sheet-spec : {M : Type 1} → statement M
 put-sheet-spec =
     tie.close
     (tie.spec
     (λ c κs. search needs)
-    put-rows-requires
+    put-owned-requires
     put-controls-requires
     (λ c. search needs)
     returns)
