@@ -106,7 +106,7 @@ parent-by : (up : ℕ) → Word32 up → (t : Bool) → eqb up noParent ≡ t �
 parent-by up h true e = rw (top up (eqb-true up noParent e)) (omega arith)
 parent-by up h false e = rw (inside up (eqb-false up noParent e)) (decimal-short up h)
 
-word-short : (m : ℕ) → length (markWord m) ≤ 10
+pub word-short : (m : ℕ) → length (markWord m) ≤ 10
 unfolding markWord
 word-short zero = omega arith
 word-short (suc zero) = omega arith
@@ -131,7 +131,7 @@ signed-by n false e =
     rw (high-half n g) (omega (arith, decimal-short (4294967295 - n + 1) (omega arith)))
 
 module _ (low high : ℕ) (s : List ℕ) (start size : ℕ) (hs : Word32 size) where
-  value-short : (m : ℕ) → length (valueColumn m low high size (part s start size)) ≤ 38
+  pub value-short : (m : ℕ) → length (valueColumn m low high size (part s start size)) ≤ 38
   unfolding valueColumn
   value-short zero = omega (arith, yes-by low (eqb low 0) refl)
   value-short (suc zero) = omega arith
