@@ -3,20 +3,21 @@ use Prim.Native.Nat.{ℕ, _+_, _-_, _*_, _/_, _≤_, _<_}
 use native.Mathlib.Omega.{arith}
 use native.Mathlib.Nat.{zero-add, min-comm, min-eq-left}
 use mathlib.Core.Path.{_≡_, refl, sym, ap, subst, _∙_}
-use mathlib.Core.Bool.{Bool, true, false, cond}
+use mathlib.Core.Bool.{Bool, true, false, cond, not}
 use mathlib.Core.List.{List, [], _∷_, _++_}
 use mathlib.Core.Option.{Option, none, some}
 use lib.Dec.{leb, ltb}
 use lib.ListN.{length, drop}
 use borrow.Author.Tests.{leb-true, leb-false, lt-ltb, le-ltb, ltb-true, ltb-false, lt-leb, le-leb}
 use Rattle.rules.specs.Lists.{concat}
-use Rattle.rules.specs.Answer.{answer, refusal, noRoomForSheet, longest}
+use Rattle.rules.specs.Answer.{answer, refusal, tooLong, badTable, moreControls, moreProperties, noRoomForSheet, longest}
+use Rattle.rules.specs.CodeTable.{wellFormed}
 use Rattle.rules.specs.Rows.{controlWidth, propertyWidth, room, written}
 use Rattle.rules.specs.Access2000.{Prop, streamOf}
 use Rattle.rules.specs.Reading.{Reading, properties, controlRows, propertyRows}
 use Rattle.rules.specs.Read2000.{read2000}
 use Rattle.rules.specs.ReadLater.{readLater}
-use Rattle.rules.specs.Blob.{Outcome, refused, read, is2000, readBy, readingOf, outcome, answerOf, exitBy, exit, Exit}
+use Rattle.rules.specs.Blob.{Outcome, refused, read, counted, fit, is2000, readBy, readingOf, outcome, answerOf, exitBy, exit, Exit}
 use Rattle.rules.specs.Csv.{recordText, header, csvOf, countable, csvBy, csvExit, CsvExit}
 use Rattle.rules.specs.declared.Answer.{Answer}
 use Rattle.rows.specs.Acts.{Held}
@@ -32,8 +33,10 @@ use Rattle.csv2000.specs.Room as old
 use Rattle.csvlater.specs.Room as new
 use Rattle.csvrows.specs.Rows.{manyFrom, slicesText, ControlsReady}
 use Rattle.csvrows.proofs.SheetLaws.{rows-many, sheet-written}
-use Rattle.csvwrite.specs.Sheet.{isEnough, csvLeft, Readable, Measured, Fits, Ready}
-use Rattle.csvwrite.proofs.RoomLaws.{isReading, enough-is, Known, known, Counted, counts}
+use Rattle.claims.proofs.RowChecks.{reading-ordered}
+use Rattle.csvwrite.specs.Sheet.{isEnough, csvLeft, ample, Readable, Measured, Fits, Roomy, Ready}
+use Rattle.csvwrite.proofs.AmpleLaws.{sheet-most}
+use Rattle.csvwrite.proofs.RoomLaws.{isReading, enough-is, Known, known, Counted}
 
 no : {X : Type 0} → false ≡ true → X
 no e = let z : _≡_ {A = ℕ} 0 1 = cc in absurd (omega arith)
@@ -143,19 +146,77 @@ module _ (t s cs ps : List ℕ) {needed : Answer} (ne : needed ≡ answerOf (out
         let l = leb-false (length (csvOf s (its .0))) (countable (length out)) (sym z ∙ k) in
         rw (its .1, lt-ltb (countable (length out)) (length (csvOf s (its .0))) l, ae)
 
-    pub all-ready : {index letters out : List ℕ} {g : Bool} → Lent index letters → Fits t s (length out) g → g ≡ true → Ready t s cs ps index letters needed out
-    all-ready {out = out} {g = g} l w k =
-        let z : g ≡ leb (length (csvOf s (its .0))) (countable (length out)) = rw (facts .reads) at (w .is) in
-        let n : Counted needed (its .0) = subst (λ (a : Answer). Counted a (its .0)) (sym ne) (counts facts) in
-        record {
-          reading = its .0;
-          is = its .1;
-          first = n .first;
-          second = n .second;
-          third = n .third;
-          fits = leb-true (length (csvOf s (its .0))) (countable (length out)) (sym z ∙ k);
-          lent = l;
-        }
+-- ---- the text has room
+module _ {t s cs ps out : List ℕ} where
+  pub fits-roomy : {g : Bool} → Fits t s (length out) g → g ≡ true → Roomy t s cs ps out
+  fits-roomy {g = g} w k = record {
+    fits = λ r e few.
+        let h = known t s (room controlWidth cs) (room propertyWidth ps) r e in
+        let z : g ≡ leb (length (csvOf s r)) (countable (length out)) = rw (h .reads) at (w .is) in
+        leb-true (length (csvOf s r)) (countable (length out)) (sym z ∙ k);
+  }
+
+  pub ample-roomy : ample (length ps / propertyWidth) (length s) ≤ countable (length out) → Roomy t s cs ps out
+  unfolding ample
+  ample-roomy l = record {
+    fits = λ r e few.
+        let h = known t s (room controlWidth cs) (room propertyWidth ps) r e in
+        let m = sheet-most s r (omega (arith, h .small)) few (reading-ordered t s r (h .reads)) in
+        omega (arith, sheet-need s r, header-length, m, h .properties-fit, l);
+  }
+
+-- ---- an answer of the reader's
+zero-fit : (c p : ℕ) (o : Option Reading) → answerOf (fit c p o) .number ≡ 0 → (r : Reading) × (fit c p o ≡ read r)
+zero-fit c p none e = absurd (omega (arith, e))
+zero-fit c p (some q) e = go (ltb c (length (q .controls))) (ltb p (length (properties q))) e
+  where
+    go : (x y : Bool) → answerOf (cond x (refused (counted moreControls q)) (cond y (refused (counted moreProperties q)) (read q))) .number ≡ 0
+        → (r : Reading) × (cond x (refused (counted moreControls q)) (cond y (refused (counted moreProperties q)) (read q)) ≡ read r)
+    go true y e = absurd (omega (arith, e))
+    go false true e = absurd (omega (arith, e))
+    go false false e = (q, refl)
+
+zero-read : (t s : List ℕ) (c p : ℕ) → answerOf (outcome t s c p) .number ≡ 0 → (r : Reading) × (outcome t s c p ≡ read r)
+unfolding outcome
+zero-read t s c p e = go (ltb longest (length s)) (wellFormed t) e
+  where
+    go : (x y : Bool) → answerOf (cond x (refused (refusal tooLong)) (cond (not y) (refused (refusal badTable)) (fit c p (readingOf t s)))) .number ≡ 0
+        → (r : Reading) × (cond x (refused (refusal tooLong)) (cond (not y) (refused (refusal badTable)) (fit c p (readingOf t s))) ≡ read r)
+    go true y e = absurd (omega (arith, e))
+    go false false e = absurd (omega (arith, e))
+    go false true e = zero-fit c p (readingOf t s) e
+
+read-counts : (r : Reading) → Counted (answerOf (read r)) r
+read-counts r = record { first = refl; second = refl; third = refl }
+
+module _ {t s cs ps out : List ℕ} (h : Roomy t s cs ps out) {a : Answer} {cs′ ps′ : List ℕ} (x : exited a cs′ ps′ ≡ exit t s cs ps) where
+  pub refused-all : (a .number ≡ 0 → ⊥) → csvLeft a cs′ ps′ out ≡ csvExit t s cs ps out
+  unfolding exit csvExit
+  refused-all n = go (outcome t s (room controlWidth cs) (room propertyWidth ps)) x
+    where
+      go : (o : Outcome) → exited a cs′ ps′ ≡ exitBy o cs ps → csvLeft a cs′ ps′ out ≡ csvBy s o cs ps out
+      go (refused b) x =
+          let y = ap (λ (z : Exit). csvLeft (z .answer) (z .controls) (z .properties) out) x in
+          y ∙ (λ i. csvLeft b (written-none cs i) (written-none ps i) out)
+      go (read r) x = absurd (n (ap (λ (z : Exit). z .answer .number) x))
+
+  answer-is : a ≡ answerOf (outcome t s (room controlWidth cs) (room propertyWidth ps))
+  unfolding exit
+  answer-is = ap (λ (z : Exit). z .answer) x
+
+  pub all-ready : {index letters : List ℕ} → a .number ≡ 0 → a .first ≤ 0xFFFFFFFF → Lent index letters → Ready t s cs ps index letters a out
+  all-ready e f l =
+      let z = zero-read t s (room controlWidth cs) (room propertyWidth ps) (sym (ap (λ (b : Answer). b .number) answer-is) ∙ e) in
+      let n : Counted a (z .0) = subst (λ (b : Answer). Counted b (z .0)) (sym (answer-is ∙ ap answerOf (z .1))) (read-counts (z .0)) in
+      record {
+        reading = z .0;
+        is = z .1;
+        first = n .first;
+        second = n .second;
+        third = n .third;
+        fits = h .fits (z .0) (z .1) (omega (arith, n .first, f));
+        lent = l;
+      }
 
 -- ---- written
 module _ {t s cs ps index letters : List ℕ} {needed : Answer} {out : List ℕ} (h : Ready t s cs ps index letters needed out) where

@@ -1,5 +1,5 @@
 -- What the writer of comma-separated text asks of its parts.
-use Prim.Native.Nat.{ℕ, _+_, _-_, _≤_}
+use Prim.Native.Nat.{ℕ, _+_, _-_, _*_, _≤_}
 use mathlib.Core.Path.{_≡_}
 use mathlib.Core.Bool.{Bool, true, _&&_, _||_}
 use mathlib.Core.List.{List}
@@ -28,6 +28,10 @@ isRead n = eqb n 0 || eqb n 6 || eqb n 7
 unfoldable pub isEnough : Answer → ℕ → ℕ → Bool
 isEnough needed controlRoom propertyRoom = isRead (needed .number) && (leb (needed .first) controlRoom && leb (needed .second) propertyRoom)
 
+-- so long is the text of so many rows at most: the header, 94 bytes a record, and twice the bytes of the values
+unfoldable pub ample : ℕ → ℕ → ℕ
+ample rows size = 34 + 94 * rows + 2 * size
+
 -- there is a reading, and the names are lent
 pub record Readable (t s index letters : List ℕ) : Type 0 where
   pub formed : wellFormed t ≡ true
@@ -40,6 +44,10 @@ pub record Measured (t s : List ℕ) (all r : ℕ) : Type 0 where
 
 pub record Fits (t s : List ℕ) (lentRoom : ℕ) (r : Bool) : Type 0 where
   pub is : Held (λ x. r ≡ leb (length (csvOf s x)) (countable lentRoom)) (readingOf t s)
+
+-- where there is a reading with counts of 32 bits, its text has room
+pub record Roomy (t s cs ps out : List ℕ) : Type 0 where
+  pub fits : (r : Reading) → outcome t s (room controlWidth cs) (room propertyWidth ps) ≡ read r → length (r .controls) ≤ 0xFFFFFFFF → length (csvOf s r) ≤ countable (length out)
 
 -- rows and text have room, and the answer without room has the counts
 pub record Ready (t s cs ps index letters : List ℕ) (needed : Answer) (out : List ℕ) : Type 0 where

@@ -1,4 +1,4 @@
-// Writes the properties of a Blob as comma-separated text. What the text takes is counted before a row is written.
+// Writes the properties of a Blob as comma-separated text. Unless the room is ample, what the text takes is counted before a row is written.
 use csvrows::put_sheet;
 use csvtext::less;
 use rows::CONTROL_WIDTH;
@@ -9,13 +9,18 @@ use rules::MORE_PROPERTIES;
 use rules::NO_ROOM_FOR_SHEET;
 use rules::READ;
 ghost use mathlib.Core.Path.{_≡_};
-ghost use Prim.Native.Nat.{_/_};
+ghost use mathlib.Core.Bool.{true};
+ghost use Prim.Native.Nat.{_/_, _≤_};
 ghost use Rattle.rules.specs.Rows.{controlWidth, propertyWidth};
 ghost use Rattle.rules.specs.Csv.{countable, csvExit};
-ghost use Rattle.csvwrite.specs.Sheet.{isRead, isEnough, csvLeft, Readable, Measured, Fits, Ready};
+ghost use Rattle.csvwrite.specs.Sheet.{isRead, isEnough, csvLeft, ample, Readable, Measured, Fits, Roomy};
 
 // The header record's bytes.
 const HEADER_SIZE: usize = 34;
+
+// A record has so many bytes at most, and twice those of its value: 16 for the owner, 26 for the name, 10 for the word, 38 for a value without its bytes,
+// two commas, CR and LF.
+const RECORD_MOST: usize = 94;
 
 // Lengths have 32 bits.
 const MOST: usize = 0xffff_ffff;
@@ -72,30 +77,45 @@ fn text_fits(table: &[u8], stream: &[u8], index: &[u32], letters: &[u8], room: u
     0 < records_left(table, stream, index, letters, all)
 }
 
-// Writes rows and text for which there is room.
+// Whether the text of so many rows or fewer, of a stream so long, surely fits so many bytes. Where this is false nothing is told.
+fn is_ample(rows: usize, length: usize, room: usize) -> bool
+    ensures { λ r. ⌜ (r ≡ true → ample rows length ≤ countable room) ⌝ }
+{
+    if MOST < rows {
+        return false;
+    }
+    if MOST < length {
+        return false;
+    }
+    HEADER_SIZE + RECORD_MOST * rows + 2 * length <= countable(room)
+}
+
+// Reads a Blob into the lent rows and writes its text, for which there is room.
 fn write_all(
     table: &[u8],
     stream: &[u8],
     controls: &mut [u32],
     properties: &mut [u32],
-    index: &[u32],
-    letters: &[u8],
-    needed: Answer,
     out: &mut [u8],
 ) -> Answer
-    requires { ⌜ Ready (now table) (now stream) (now controls) (now properties) (now index) (now letters) needed (now out) ⌝ }
+    requires { ⌜ Roomy (now table) (now stream) (now controls) (now properties) (now out) ⌝ }
     ensures { λ r. ⌜ csvLeft r (now (controls .exit)) (now (properties .exit)) (now (out .exit)) ≡ csvExit (now (table .entry)) (now (stream .entry)) (now (controls .entry)) (now (properties .entry)) (now (out .entry)) ⌝ }
 {
-    blob::read_blob(table, stream, controls, properties);
+    let a = blob::read_blob(table, stream, controls, properties);
+    if a.number != READ {
+        return a;
+    }
+    let index = nametables::index();
+    let letters = nametables::letters();
     let size = put_sheet(
         out,
-        index,
-        letters,
+        &index,
+        &letters,
         stream,
         controls,
-        needed.first,
+        a.first,
         properties,
-        needed.third,
+        a.third,
     );
     text::wrote(size as u32)
 }
@@ -110,6 +130,9 @@ pub fn write_csv(
 ) -> Answer
     ensures { λ r. ⌜ csvLeft r (now (controls .exit)) (now (properties .exit)) (now (out .exit)) ≡ csvExit (now (table .entry)) (now (stream .entry)) (now (controls .entry)) (now (properties .entry)) (now (out .entry)) ⌝ }
 {
+    if is_ample(properties.len() / PROPERTY_WIDTH, stream.len(), out.len()) {
+        return write_all(table, stream, controls, properties, out);
+    }
     let mut no_controls = [0; 1];
     let mut no_properties = [0; 1];
     let needed = blob::read_blob(table, stream, &mut no_controls, &mut no_properties);
@@ -121,14 +144,5 @@ pub fn write_csv(
     if !text_fits(table, stream, &index, &letters, out.len()) {
         return text::refused(NO_ROOM_FOR_SHEET);
     }
-    write_all(
-        table,
-        stream,
-        controls,
-        properties,
-        &index,
-        &letters,
-        needed,
-        out,
-    )
+    write_all(table, stream, controls, properties, out)
 }

@@ -7,7 +7,7 @@ use denote.Ref.{now}
 use lib.ListN.{length-replicate}
 use Rattle.rules.specs.Blob.{outcome, answerOf}
 use Rattle.names.specs.Lookup.{Lent}
-use Rattle.csvwrite.proofs.ExitLaws.{needed-is, refused-exit, readable, no-room-exit, all-ready}
+use Rattle.csvwrite.proofs.ExitLaws.{needed-is, refused-exit, readable, no-room-exit, fits-roomy, ample-roomy}
 use Rattle.csvwrite.proofs.write_csv.Statement.{statement}
 use Rattle.csvwrite.proofs.write_csv.Tie as tie
 
@@ -29,54 +29,55 @@ needed-of c = search
 needed : (c : tie.After-enough) → needed-of c .read-blob .result ≡ answerOf (outcome (now (start-of c .args .table)) (now (start-of c .args .stream)) 0 0)
 needed c = needed-is _ _ _ _ (length-replicate {A = ℕ} 1 0) (length-replicate {A = ℕ} 1 0) (needed-of c .read-blob .ensures)
 
-returns : tie.Need-returns
-returns c =
-    let asked : tie.After-enough = search in
+write-all-requires : tie.Need-write-all-requires
+write-all-requires c κs =
+    let asked : tie.After-is-ample = search in
     let told : tie.Then1 = search in
-    let read : tie.After-read-blob2 = search in
-    let a = start-of asked .args in
-    refused-exit (a .table .now) (a .stream .now) (a .controls .now) (a .properties .now) (needed asked) (asked .enough .ensures) (no _ (told .if1 .taken)) _ (read .read-blob2 .ensures)
-
-text-fits-requires : tie.Need-text-fits-requires
-text-fits-requires c κs =
-    let asked : tie.After-enough = search in
-    let told : tie.Else1 = search in
-    let indexed : tie.After-index = search in
-    let spelled : tie.After-letters = search in
-    let a = start-of asked .args in
-    readable (a .table .now) (a .stream .now) (a .controls .now) (a .properties .now) (needed asked) (asked .enough .ensures) (yes _ (told .if1 .left)) (record { index-is = indexed .index .ensures; letters-are = spelled .letters .ensures })
+    ample-roomy (asked .is-ample .ensures (told .if1 .taken))
 
 returns-2 : tie.Need-returns-2
 returns-2 c =
     let asked : tie.After-enough = search in
-    let told : tie.Else1 = search in
-    let judged : tie.After-text-fits = search in
-    let full : tie.Then2 = search in
-    let said : tie.After-refused = search in
+    let told : tie.Then2 = search in
+    let read : tie.After-read-blob2 = search in
     let a = start-of asked .args in
-    no-room-exit (a .table .now) (a .stream .now) (a .controls .now) (a .properties .now) (needed asked) (asked .enough .ensures) (yes _ (told .if1 .left)) (judged .text-fits .ensures) (no _ (full .if2 .taken)) (said .refused .ensures)
+    refused-exit (a .table .now) (a .stream .now) (a .controls .now) (a .properties .now) (needed asked) (asked .enough .ensures) (no _ (told .if2 .taken)) _ (read .read-blob2 .ensures)
 
-write-all-requires : tie.Need-write-all-requires
-write-all-requires c κs =
+text-fits-requires : tie.Need-text-fits-requires
+text-fits-requires c κs =
     let asked : tie.After-enough = search in
-    let told : tie.Else1 = search in
-    let judged : tie.After-text-fits = search in
-    let roomy : tie.Else2 = search in
+    let told : tie.Else2 = search in
     let indexed : tie.After-index = search in
     let spelled : tie.After-letters = search in
     let a = start-of asked .args in
-    all-ready (a .table .now) (a .stream .now) (a .controls .now) (a .properties .now) (needed asked) (asked .enough .ensures) (yes _ (told .if1 .left)) (record { index-is = indexed .index .ensures; letters-are = spelled .letters .ensures })
-    (judged .text-fits .ensures) (yes _ (roomy .if2 .left))
+    readable (a .table .now) (a .stream .now) (a .controls .now) (a .properties .now) (needed asked) (asked .enough .ensures) (yes _ (told .if2 .left)) (record { index-is = indexed .index .ensures; letters-are = spelled .letters .ensures })
 
 returns-3 : tie.Need-returns-3
 returns-3 c =
-    let wrote : tie.After-write-all = search in
-    wrote .write-all .ensures
+    let asked : tie.After-enough = search in
+    let told : tie.Else2 = search in
+    let judged : tie.After-text-fits = search in
+    let full : tie.Then3 = search in
+    let said : tie.After-refused = search in
+    let a = start-of asked .args in
+    no-room-exit (a .table .now) (a .stream .now) (a .controls .now) (a .properties .now) (needed asked) (asked .enough .ensures) (yes _ (told .if2 .left)) (judged .text-fits .ensures) (no _ (full .if3 .taken)) (said .refused .ensures)
+
+write-all-requires-2 : tie.Need-write-all-requires-2
+write-all-requires-2 c κs =
+    let judged : tie.After-text-fits = search in
+    let roomy : tie.Else3 = search in
+    fits-roomy (judged .text-fits .ensures) (yes _ (roomy .if3 .left))
 
 pub write-csv-spec : {M : Type 1} → statement M
 write-csv-spec =
     tie.close
     (tie.spec
+    (λ c κs. search needs)
+    write-all-requires
+    (λ c. search needs)
+    (λ c. search needs)
+    (λ c. search needs)
+    (λ c. search needs)
     (λ c. search needs)
     (λ c. search needs)
     (λ c κs. search needs)
@@ -84,18 +85,16 @@ write-csv-spec =
     (λ c κs. search needs)
     (λ c. search needs)
     (λ c. search needs)
-    returns
+    returns-2
     (λ c κs. search needs)
     (λ c κs. search needs)
     (λ c. search needs)
     (λ c. search needs)
     text-fits-requires
     (λ c κs. search needs)
-    returns-2
-    (λ c. search needs)
-    (λ c. search needs)
-    write-all-requires
+    returns-3
+    write-all-requires-2
     (λ c. search needs)
     (λ c. search needs)
     (λ c. search needs)
-    returns-3)
+    (λ c. search needs))
