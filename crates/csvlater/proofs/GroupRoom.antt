@@ -1,94 +1,63 @@
--- A group's records taken off a room by a loop, where what is left to take off from here is what there was to take off.
-use Prim.Native.Nat.{ℕ, _+_, _-_, _≤_, _<_}
+-- Records of a group, a node and what the scan finds, taken off a room: what a walk needs to know of it.
+use Prim.Native.Nat.{ℕ, _+_, _-_, _≤_}
 use native.Mathlib.Omega.{arith}
-use mathlib.Core.Path.{_≡_, refl, sym, ap, _∙_}
-use mathlib.Core.Bool.{Bool, true, false}
-use mathlib.Core.List.{List, [], _∷_, map}
+use mathlib.Core.Path.{_≡_, ap, _∙_}
+use mathlib.Core.Bool.{Bool, false}
+use mathlib.Core.List.{List, map}
+use mathlib.Core.Option.{some}
 use lib.ListN.{length}
+use Rattle.rules.specs.Answer.{longest}
+use Rattle.rules.specs.Tree.{Node, noParent, levels, isReported}
 use Rattle.rules.specs.Reading.{propertyRow}
-use Rattle.rules.specs.Later.{Prop, endAt, propertyAt, endsGroup, groupAt}
-use Rattle.rules.specs.ReadLater.{propertyOf}
-use Rattle.rules.specs.declared.Property.{Property}
-use Rattle.rules.proofs.LaterLaws.{group-none, group-last, group-more}
-use Rattle.countlater.specs.Count.{extent}
-use Rattle.countlater.specs.declared.Extent.{Extent}
-use Rattle.countlater.proofs.PassedLaws.{Inside, extent-inside, extent-outside, props-some}
-use Rattle.later.specs.Write.{trailerOr0, propsAt}
+use Rattle.rules.specs.Later.{Prop, nodesAt, scanFrom}
+use Rattle.rules.specs.ReadLater.{propertyOf, controlOf}
+use Rattle.rows.specs.Acts.{topNodes}
+use Rattle.matchlater.proofs.MatchLaws.{scannedNode}
+use Rattle.cursor.specs.Cursors.{cursor, Passed}
+use Rattle.cursor.specs.Work.{Ran}
+use Rattle.cursor.specs.declared.Cursor.{Cursor}
+use Rattle.cursor.proofs.WorkLaws.{held-as}
+use Rattle.cursor.proofs.VisitLaws.{EntryWork}
+use Rattle.cursorlater.specs.Steps.{stepAt}
+use Rattle.later.specs.Write.{propsAt, treeControl, scannedControl}
+use Rattle.later.proofs.Visits.{Grouping, grouping-start, Visiting, top-start, Sweeping}
 use Rattle.csvrecord.specs.Parts.{tailText}
-use Rattle.csvwalk.specs.Needs.{needs}
-use Rattle.csvwalk.proofs.NeedLaws.{needs-none, needs-more}
-use Rattle.csvlater.specs.Room.{GroupDone}
+use Rattle.csvwalk.specs.Needs.{needs, controlNeed, recordsLeft, controlsLeft, nodeNeed}
+use Rattle.csvwalk.proofs.Walk.{Nothing, FewLeft, records-work, controls-work}
+use Rattle.csvlater.specs.Room.{GroupDone, nodeLeft, SectionsReady}
 use Rattle.csvlater.specs.declared.GroupLeft.{GroupLeft}
 
-abbrev groupNeed : List ℕ → ℕ → List Prop → ℕ
-groupNeed s owner qs = needs s owner (map (propertyOf s) qs)
+-- ---- a group: what the loop keeps
+abbrev pub Taking : List ℕ → ℕ → ℕ → ℕ → ℕ → ℕ → Bool → ℕ → Type 0
+Taking s limit at owner all p any left = Grouping (λ q l. l - (owner + length (tailText s (propertyRow (propertyOf s q))))) (recordsLeft s (propertyOf s) owner) Nothing s limit at all p any left
 
-pub record Taking (s : List ℕ) (limit at owner all p : ℕ) (any : Bool) (left : ℕ) : Type 0 where
-  pub is : left - groupNeed s owner (propsAt s limit p) ≡ all - groupNeed s owner (propsAt s limit at)
-  pub stop : groupAt s limit p .stop ≡ groupAt s limit at .stop
-  pub trailer : groupAt s limit p .trailer ≡ groupAt s limit at .trailer
-  pub some-there : any ≡ true → 0 < length (propsAt s limit at)
-  pub none-yet : any ≡ false → length (propsAt s limit p) ≡ length (propsAt s limit at)
+pub taking-start : {s : List ℕ} {limit at : ℕ} (owner : ℕ) {all : ℕ} → Taking s limit at owner all at false all
+taking-start {s = s} owner = grouping-start (records-work s (propertyOf s) owner) tt
 
-no : {X : Type 0} → false ≡ true → X
-no e = let z : _≡_ {A = ℕ} 0 1 = cc in absurd (omega arith)
+-- ---- a node by its group
+module _ {s : List ℕ} {limit at owner all : ℕ} {w : GroupLeft} (d : GroupDone s limit at owner all w) (n : ℕ) where
+  pub node-taken : {type k : ℕ} → type ≡ k → owner ≡ controlNeed n type → w .left ≡ nodeLeft s n k (propsAt s limit at) all
+  unfolding controlOf
+  node-taken te oe = d .is ∙ ap (λ (o : ℕ). all - needs s o (map (propertyOf s) (propsAt s limit at))) (oe ∙ ap (controlNeed n) te)
 
-pub taking-start : {s : List ℕ} {limit at owner all : ℕ} → Taking s limit at owner all at false all
-taking-start = record { is = refl; stop = refl; trailer = refl; some-there = λ e. no e; none-yet = λ _. refl }
+  pub scanned-taken : owner ≡ controlNeed n 0 → w .left ≡ all - nodeNeed s (scannedControl s) n (scannedNode (propsAt s limit at))
+  unfolding controlOf
+  scanned-taken oe = d .is ∙ ap (λ (o : ℕ). all - needs s o (map (propertyOf s) (propsAt s limit at))) oe
 
-module _ {s : List ℕ} {limit at owner all p : ℕ} {any : Bool} {left : ℕ} (w : Taking s limit at owner all p any left) (h : limit ≤ length s)
-    {r : Extent} (re : r ≡ extent s limit p) where
-  pub taking-none : r ≡ Extent.Outside → GroupDone s limit at owner all (record { any = any; stop = p; trailer = 0; left = left })
-  taking-none rk =
-      let e = group-none s limit p h (extent-outside s limit p re rk) in
-      let q : propsAt s limit p ≡ [] = ap (λ g. g .props) e in
-      record {
-        left-is = omega (arith, w .is, ap (groupNeed s owner) q, needs-none s owner);
-        stop = sym (ap (λ g. g .stop) e) ∙ w .stop;
-        trailer = sym (ap (λ g. trailerOr0 (g .trailer)) e) ∙ ap trailerOr0 (w .trailer);
-        some-there = w .some-there;
-        none-there = λ k. omega (arith, w .none-yet k, ap length q);
-      }
+-- ---- the nodes that are reported of the top list
+top-work : (s : List ℕ) → EntryWork (nodeLeft s) (controlsLeft s (treeControl s)) FewLeft
+unfolding controlOf
+top-work s = record { visit = controls-work s (treeControl s) }
 
-  module _ {z e t : ℕ} (rk : r ≡ Extent.Inside z e t) where
-    inside : Inside s limit p z e t
-    inside = extent-inside re rk
+-- what the loop keeps
+abbrev pub Going : List ℕ → ℕ → ℕ → ℕ → List ℕ → Cursor → ℕ → ℕ → Type 0
+Going s n at all a c i left = Visiting (Ran (controlsLeft s (treeControl s) 0) (topNodes (nodesAt levels s n at)) all) (nodeLeft s) (controlsLeft s (treeControl s)) FewLeft s a c i left
 
-    now-some : 0 < length (propsAt s limit at)
-    now-some = go any refl
-      where
-        go : (b : Bool) → any ≡ b → 0 < length (propsAt s limit at)
-        go true k = w .some-there k
-        go false k = omega (arith, w .none-yet k, props-some s limit p h (inside .test))
+pub going-start : {s : List ℕ} {n at all : ℕ} {index letters : List ℕ} (a : List ℕ) {b r : Cursor} → length a ≡ 512 → SectionsReady s n at index letters
+    → b ≡ cursor at 0 n noParent → Passed (stepAt s) isReported b r → Going s n at all a r 0 all
+going-start {s = s} {n = n} {at = at} {all = all} a l h e p =
+    top-start all a (top-work s) l (held-as (λ x. length (x .0) ≤ longest) (λ (y : List (Node Prop) × ℕ). FewLeft 0 (y .0) all) (topNodes (nodesAt levels s n at)) (h .few) (λ x f. omega (arith, f))) e p
 
-    module _ {q : Property} (eq : q ≡ propertyOf s (propertyAt s p)) {left′ : ℕ} (el : left′ ≡ left - (owner + length (tailText s (propertyRow q)))) {b : Bool} (be : b ≡ endsGroup t) where
-      -- the property of this turn, then qs
-      one-more : (qs : List Prop) → propsAt s limit p ≡ propertyAt s p ∷ qs → left′ - groupNeed s owner qs ≡ all - groupNeed s owner (propsAt s limit at)
-      one-more qs e =
-          omega (arith, el, ap (λ (x : Property). length (tailText s (propertyRow x))) eq, ap (groupNeed s owner) e, needs-more s owner (propertyOf s (propertyAt s p)) (map (propertyOf s) qs), w .is)
-
-      pub taking-last : b ≡ true → GroupDone s limit at owner all (record { any = true; stop = e; trailer = t; left = left′ })
-      taking-last bt =
-          let i = inside in
-          let g = group-last s limit p h (i .test) (ap endsGroup (sym (i .trailer)) ∙ sym be ∙ bt) in
-          let l : propsAt s limit p ≡ propertyAt s p ∷ [] = ap (λ g. g .props) g in
-          record {
-            left-is = omega (arith, one-more [] l, needs-none s owner);
-            stop = i .next ∙ sym (ap (λ g. g .stop) g) ∙ w .stop;
-            trailer = i .trailer ∙ sym (ap (λ g. trailerOr0 (g .trailer)) g) ∙ ap trailerOr0 (w .trailer);
-            some-there = λ _. now-some;
-            none-there = λ k. no (sym k);
-          }
-
-      pub taking-more : b ≡ false → Taking s limit at owner all e true left′
-      taking-more bf =
-          let i = inside in
-          let g = group-more s limit p h (i .test) (ap endsGroup (sym (i .trailer)) ∙ sym be ∙ bf) in
-          let l : propsAt s limit p ≡ propertyAt s p ∷ propsAt s limit (endAt s p) = ap (λ g. g .props) g in
-          rw (i .next) (record {
-            is = one-more (propsAt s limit (endAt s p)) l;
-            stop = sym (ap (λ g. g .stop) g) ∙ w .stop;
-            trailer = sym (ap (λ g. g .trailer) g) ∙ w .trailer;
-            some-there = λ _. now-some;
-            none-yet = λ k. no (sym k);
-          })
+-- ---- the scan: what the loop keeps
+abbrev pub Scanning : List ℕ → ℕ → ℕ → ℕ → ℕ → ℕ → Type 0
+Scanning s from all a i left = Sweeping (Ran (controlsLeft s (scannedControl s) 0) (some (scanFrom s from, 0)) all) (controlsLeft s (scannedControl s) i) (FewLeft i) s a left

@@ -1,21 +1,20 @@
 -- What the functions that take a later stream's records off a room ask and do.
-use Prim.Native.Nat.{ℕ, _+_, _-_, _≤_, _<_}
+use Prim.Native.Nat.{ℕ, _-_, _≤_}
 use mathlib.Core.Path.{_≡_}
-use mathlib.Core.Bool.{Bool, true, false}
-use mathlib.Core.List.{List, [], map}
-use mathlib.Core.Option.{Option, none, some}
+use mathlib.Core.Bool.{Bool}
+use mathlib.Core.List.{List, map}
 use lib.ListN.{length}
 use Rattle.rules.specs.Answer.{longest}
-use Rattle.rules.specs.Tree.{Node}
-use Rattle.rules.specs.Reading.{Control}
-use Rattle.rules.specs.Later.{Prop, groupAt, nodesAt, scanFrom, treeOf, nodesBy}
+use Rattle.rules.specs.Tree.{levels, noParent, nodeIn}
+use Rattle.rules.specs.Later.{Prop, nodesAt, scanFrom, treeOf, nodesBy}
 use Rattle.rules.specs.ReadLater.{propertyOf, readLater}
 use Rattle.rows.specs.Acts.{Nodes, topNodes, Held}
 use Rattle.names.specs.Lookup.{Lent}
 use Rattle.countlater.specs.Count.{wholeTree, isTree}
-use Rattle.later.specs.Write.{trailerOr0, propsAt, treeControl, scannedControl}
-use Rattle.csvwalk.specs.Needs.{needs, controlsNeed, sheetNeed}
-use Rattle.csvwalk.proofs.Walk.{FewLeft}
+use Rattle.later.specs.Write.{treeControl, scannedControl}
+use Rattle.cursor.specs.Work.{Ran}
+use Rattle.later.specs.Groups.{Grouped}
+use Rattle.csvwalk.specs.Needs.{controlsNeed, sheetNeed, recordsLeft, controlsLeft, nodeNeed}
 use Rattle.csvlater.specs.declared.GroupLeft.{GroupLeft}
 
 -- ---- a group
@@ -24,28 +23,29 @@ pub record GroupReady (s : List ℕ) (limit : ℕ) (index letters : List ℕ) : 
   pub small : length s ≤ longest
   pub lent : Lent index letters
 
-pub record GroupDone (s : List ℕ) (limit at owner all : ℕ) (r : GroupLeft) : Type 0 where
-  pub left-is : r .left ≡ all - needs s owner (map (propertyOf s) (propsAt s limit at))
-  pub stop : r .stop ≡ groupAt s limit at .stop
-  pub trailer : r .trailer ≡ trailerOr0 (groupAt s limit at .trailer)
-  pub some-there : r .any ≡ true → 0 < length (propsAt s limit at)
-  pub none-there : r .any ≡ false → length (propsAt s limit at) ≤ 0
+abbrev pub GroupDone : (s : List ℕ) → ℕ → ℕ → ℕ → ℕ → GroupLeft → Type 0
+GroupDone s limit at owner all r = Grouped (recordsLeft s (propertyOf s) owner) s limit at all (r .left) (r .any) (r .stop) (r .trailer)
 
 -- ---- nodes of the tree
+-- after one as control n
+abbrev pub nodeLeft : List ℕ → ℕ → ℕ → List Prop → ℕ → ℕ
+nodeLeft s n type ps all = all - nodeNeed s (treeControl s) n (nodeIn 0 noParent type ps)
+
 pub record NodesDone (s : List ℕ) (o : Nodes Prop) (all r : ℕ) : Type 0 where
-  pub is : Held (λ x. r ≡ all - controlsNeed s 0 (map (treeControl s) (x .0))) o
+  pub next : ℕ
+  pub is : Ran (controlsLeft s (treeControl s) 0) o all r next
 
 pub record SectionsReady (s : List ℕ) (n at : ℕ) (index letters : List ℕ) : Type 0 where
   pub small : length s ≤ longest
-  pub few : FewLeft 0 (topNodes (nodesAt 256 s n at))
+  pub few : Held (λ x. length (x .0) ≤ longest) (topNodes (nodesAt levels s n at))
   pub lent : Lent index letters
 
 abbrev pub SectionsDone : List ℕ → ℕ → ℕ → ℕ → ℕ → Type 0
-SectionsDone s n at = NodesDone s (topNodes (nodesAt 256 s n at))
+SectionsDone s n at = NodesDone s (topNodes (nodesAt levels s n at))
 
 pub record TreeReady (s : List ℕ) (trailer at : ℕ) (index letters : List ℕ) : Type 0 where
   pub small : length s ≤ longest
-  pub few : FewLeft 0 (topNodes (wholeTree s trailer at))
+  pub few : Held (λ x. length (x .0) ≤ longest) (topNodes (wholeTree s trailer at))
   pub lent : Lent index letters
 
 abbrev pub TreeDone : List ℕ → ℕ → ℕ → ℕ → ℕ → Type 0

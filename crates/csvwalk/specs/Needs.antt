@@ -1,12 +1,10 @@
 -- How many bytes the records of a reading take, but for the header.
-use Prim.Native.Nat.{ℕ, _+_}
+use Prim.Native.Nat.{ℕ, _+_, _-_}
 use mathlib.Core.List.{List, [], _∷_, map}
-use mathlib.Core.Option.{Option, none, some}
 use lib.ListN.{length}
 use Rattle.rules.specs.Tree.{Node}
 use Rattle.rules.specs.Reading.{Control, Reading, propertyRow}
 use Rattle.rules.specs.declared.Property.{Property}
-use Rattle.rows.specs.Acts.{Nodes}
 use Rattle.csvrecord.specs.Parts.{ownerText, tailText}
 use Rattle.csvrecord.specs.declared.Owner.{Owner}
 
@@ -29,7 +27,15 @@ controlsNeed stream n (c ∷ cs) = needs stream (controlNeed n (c .type)) (c .pr
 unfoldable pub sheetNeed : List ℕ → Reading → ℕ
 sheetNeed stream r = needs stream objectNeed (r .own) + controlsNeed stream 0 (r .controls)
 
--- of nodes that a walk visits; f makes a control of a node
-abbrev pub nodesNeed : {P : Type 0} → List ℕ → (Node P → Control) → ℕ → Nodes P → ℕ
-nodesNeed stream f n none = 0
-nodesNeed stream f n (some y) = controlsNeed stream n (map f (y .0))
+-- ---- what is left of a room
+-- after the records of things, of which f makes properties
+abbrev pub recordsLeft : {X : Type 0} → List ℕ → (X → Property) → ℕ → List X → ℕ → ℕ
+recordsLeft stream f owner xs all = all - needs stream owner (map f xs)
+
+-- after those of nodes, of which f makes controls, the first with the number n
+abbrev pub controlsLeft : {P : Type 0} → List ℕ → (Node P → Control) → ℕ → List (Node P) → ℕ → ℕ
+controlsLeft stream f n xs all = all - controlsNeed stream n (map f xs)
+
+-- what a node takes off, where it has the number n
+abbrev pub nodeNeed : {P : Type 0} → List ℕ → (Node P → Control) → ℕ → Node P → ℕ
+nodeNeed stream f n x = needs stream (controlNeed n (f x .type)) (f x .properties)

@@ -1,22 +1,23 @@
 use borrow.Author.Needs.{needs}
 use native.Mathlib.Omega.{arith}
-use Prim.Native.Nat.{_-_}
-use mathlib.Core.Path.{_≡_, _∙_}
+use Prim.Native.Nat.{_+_, _-_}
+use mathlib.Core.Path.{_≡_, ap, _∙_}
 use mathlib.Core.Bool.{true}
 use denote.Ref.{now}
 use lib.ListN.{length}
 use Rattle.rules.specs.Access2000.{goesOn}
 use Rattle.rules.proofs.Access2000Laws.{past-end}
-use Rattle.coderows.specs.Look.{bodyRows}
 use Rattle.walk2000.proofs.Runs.{starts, stops, ends}
-use Rattle.run2000.specs.Runs.{shownIn}
 use Rattle.run2000.proofs.Sizes.{value-sized}
-use Rattle.csv2000.proofs.RunRoom.{RunGoing, run-start, run-stop, run-broken, run-on}
+use Rattle.rules.specs.Reading.{propertyRow}
+use Rattle.csvrecord.specs.Parts.{tailText}
+use Rattle.form2000.proofs.Visits.{run-stop, run-broken, run-on}
+use Rattle.csv2000.proofs.RunRoom.{Taking, taking-start}
 use Rattle.csv2000.proofs.run_left.Statement.{statement}
 use Rattle.csv2000.proofs.run_left.Tie as tie
 
 abbrev Inv-loop : tie.InvT-loop
-Inv-loop table hints₀ body s at index letters owner all p₀ left₀ p left = RunGoing (shownIn (bodyRows table body) s) s at owner all p left
+Inv-loop table hints₀ body s at index letters owner all p₀ left₀ p left = Taking table body s at owner all p left
 
 abbrev μ-loop : tie.MeasureT-loop
 μ-loop table hints₀ body s at index letters owner all p₀ left₀ p left = length s - p
@@ -31,7 +32,7 @@ goes c = starts _ _ (omega (arith, c .before .before .loop-test .taken)) (omega 
 loop-holds : tie.Need-loop-holds Inv-loop μ-loop
 loop-holds c =
     let from-start : tie.Start Inv-loop μ-loop = search in
-    run-start (from-start .pre .there)
+    taking-start (from-start .args .owner) (from-start .pre)
 
 returns : tie.Need-returns Inv-loop μ-loop
 returns c =
@@ -83,7 +84,9 @@ loop-again c =
     let after-value : tie.After-value Inv-loop μ-loop = search in
     let else1 : tie.Else1 Inv-loop μ-loop = search in
     let at-loop : tie.At-loop Inv-loop μ-loop = search in
-    run-on (at-loop .loop .inv) (goes else1) (after-value .value .ensures) (after-start .start .given .1) (after-property .property .ensures) (took .record-left .ensures)
+    let from-start : tie.Start Inv-loop μ-loop = search in
+    run-on (at-loop .loop .inv) (goes else1) (after-value .value .ensures) (after-start .start .given .1)
+    (took .record-left .ensures ∙ ap (λ q. at-loop .loop .left - (from-start .args .owner + length (tailText (from-start .args .s .now) (propertyRow q)))) (after-property .property .ensures))
 
 returns-3 : tie.Need-returns-3 Inv-loop μ-loop
 returns-3 c =

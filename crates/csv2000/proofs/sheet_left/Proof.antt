@@ -4,7 +4,8 @@ use denote.Ref.{now}
 use Rattle.coderows.specs.Look.{Finds}
 use Rattle.walk2000.proofs.Inverse.{opens-listed}
 use Rattle.cursor2000.proofs.StepLaws.{count-small}
-use Rattle.csv2000.proofs.Whole.{own-ready, top-ready, whole-done, never-plain, never-bad}
+use Rattle.form2000.proofs.Whole.{never-plain, never-bad}
+use Rattle.csv2000.proofs.Whole.{is, own-end, own-ready, top-ready, whole-done}
 use Rattle.csv2000.proofs.sheet_left.Statement.{statement}
 use Rattle.csv2000.proofs.sheet_left.Tie as tie
 
@@ -72,7 +73,7 @@ returns-2 c =
     let headed : tie.After-head = search in
     let ran = ran-of headed in
     let scope = scope-of ran in
-    absurd (never-plain (start-of scope .pre) (object-of scope .object-scope .ensures) (found scope) (start-of scope .args .all) (sized-of ran .owner-size .ensures) (ran .run-left .ensures) (headed .head .ensures) (told .enum-told .given .1))
+    absurd (never-plain (is (start-of scope .pre)) (own-end (start-of scope .pre) (object-of scope .object-scope .ensures) (found scope) (start-of scope .args .all) (sized-of ran .owner-size .ensures) (ran .run-left .ensures)) (headed .head .ensures) (told .enum-told .given .1))
 
 returns-3 : tie.Need-returns-3
 returns-3 c =
@@ -80,7 +81,7 @@ returns-3 c =
     let headed : tie.After-head = search in
     let ran = ran-of headed in
     let scope = scope-of ran in
-    absurd (never-bad (start-of scope .pre) (object-of scope .object-scope .ensures) (found scope) (start-of scope .args .all) (sized-of ran .owner-size .ensures) (ran .run-left .ensures) (headed .head .ensures) (told .enum-told2 .given .1))
+    absurd (never-bad (is (start-of scope .pre)) (own-end (start-of scope .pre) (object-of scope .object-scope .ensures) (found scope) (start-of scope .args .all) (sized-of ran .owner-size .ensures) (ran .run-left .ensures)) (headed .head .ensures) (told .enum-told2 .given .1))
 
 pub sheet-left-spec : {M : Type 1} → statement M
 sheet-left-spec =

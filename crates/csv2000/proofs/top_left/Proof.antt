@@ -5,7 +5,8 @@ use lib.ListN.{length-replicate}
 use Rattle.cursor.proofs.RowLaws as rows
 use Rattle.cursor.proofs.RowLaws.{howMany}
 use Rattle.cursor2000.specs.Steps.{stepAt}
-use Rattle.csv2000.proofs.TopRoom.{Going, top-start, top-done, top-run, top-inside, top-few, top-past, top-less, top-next}
+use Rattle.form2000.proofs.Visits.{its, entry-there, top-stop, top-asks, top-past, top-less, top-next}
+use Rattle.csv2000.proofs.RunRoom.{Going, going-start}
 use Rattle.csv2000.proofs.top_left.Statement.{statement}
 use Rattle.csv2000.proofs.top_left.Tie as tie
 
@@ -30,18 +31,14 @@ loop-holds c =
     let from-start : tie.Start Inv-loop μ-loop = search in
     let begun : tie.After-top Inv-loop μ-loop = search in
     let first : tie.After-reported Inv-loop μ-loop = search in
-    top-start _ (length-replicate {A = ℕ} 512 0) (from-start .pre .few) (begun .top .ensures) (first .reported .ensures)
+    going-start _ (length-replicate {A = ℕ} 512 0) (from-start .pre) (begun .top .ensures) (first .reported .ensures)
 
 node-left-requires : tie.Need-node-left-requires Inv-loop μ-loop
 node-left-requires c κs =
     let from-start : tie.Start Inv-loop μ-loop = search in
     let turn : tie.At-loop Inv-loop μ-loop = search in
-    record {
-      known = from-start .pre .known;
-      inside = top-inside (turn .loop .inv) (omega arith);
-      there = top-run (turn .loop .inv) (omega arith);
-      lent = from-start .pre .lent;
-    }
+    let l : 0 < turn .loop .c .left = omega arith in
+    record { known = from-start .pre .known; inside = its (turn .loop .inv) l .inside; there = entry-there (turn .loop .inv) l; lent = from-start .pre .lent }
 
 past-requires : tie.Need-past-requires Inv-loop μ-loop
 past-requires c κs =
@@ -51,7 +48,7 @@ past-requires c κs =
 add-i : tie.Need-add-i Inv-loop μ-loop
 add-i c =
     let took : tie.After-node-left Inv-loop μ-loop = search in
-    omega (arith, top-few (turn-of took .loop .inv) (some-left took))
+    top-asks (turn-of took .loop .inv) (some-left took) (λ _ h. omega (arith, h))
 
 loop-less : tie.Need-loop-less Inv-loop μ-loop
 loop-less c =
@@ -69,9 +66,8 @@ loop-again c =
 
 returns : tie.Need-returns Inv-loop μ-loop
 returns c =
-    let from-start : tie.Start Inv-loop μ-loop = search in
     let turn : tie.At-loop Inv-loop μ-loop = search in
-    top-done (turn .loop .inv) (from-start .pre .few) (omega arith)
+    record { next = _; is = top-stop (turn .loop .inv) (omega arith) }
 
 pub top-left-spec : {M : Type 1} → statement M
 top-left-spec =

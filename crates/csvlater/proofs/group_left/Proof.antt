@@ -1,10 +1,14 @@
 use borrow.Author.Needs.{needs}
 use native.Mathlib.Omega.{arith}
-use mathlib.Core.Path.{_∙_}
-use Prim.Native.Nat.{_-_}
+use mathlib.Core.Path.{ap, _∙_}
+use lib.ListN.{length}
+use Prim.Native.Nat.{_+_, _-_}
 use Rattle.countlater.proofs.PassedLaws.{extent-inside}
 use Rattle.later.proofs.WriteGroupLaws.{inside-property}
-use Rattle.csvlater.proofs.GroupRoom.{Taking, taking-start, taking-none, taking-last, taking-more}
+use Rattle.rules.specs.Reading.{propertyRow}
+use Rattle.csvrecord.specs.Parts.{tailText}
+use Rattle.later.proofs.Visits.{grouping-none, grouping-last, grouping-more}
+use Rattle.csvlater.proofs.GroupRoom.{Taking, taking-start}
 use Rattle.csvlater.proofs.group_left.Statement.{statement}
 use Rattle.csvlater.proofs.group_left.Tie as tie
 
@@ -15,7 +19,9 @@ abbrev μ-loop : tie.MeasureT-loop
 μ-loop s limit at index letters owner all p₀ any₀ left₀ p any left = limit - p
 
 loop-holds : tie.Need-loop-holds Inv-loop μ-loop
-loop-holds c = taking-start
+loop-holds c =
+    let start : tie.Start Inv-loop μ-loop = search in
+    taking-start (start .args .owner)
 
 returns : tie.Need-returns Inv-loop μ-loop
 returns c =
@@ -23,7 +29,7 @@ returns c =
     let turn : tie.At-loop Inv-loop μ-loop = search in
     let parsed : tie.After-parse-entry Inv-loop μ-loop = search in
     let told : tie.After-enum-told Inv-loop μ-loop = search in
-    taking-none (turn .loop .inv) (start .pre .inside) (parsed .parse-entry .ensures) (told .enum-told .given .1)
+    grouping-none (turn .loop .inv) (start .pre .inside) (parsed .parse-entry .ensures) (told .enum-told .given .1)
 
 property-at-requires : tie.Need-property-at-requires Inv-loop μ-loop
 property-at-requires c κs =
@@ -47,7 +53,8 @@ returns-2 c =
     let took : tie.After-record-left Inv-loop μ-loop = search in
     let asked : tie.After-ends-group Inv-loop μ-loop = search in
     let ends : tie.Then1 Inv-loop μ-loop = search in
-    taking-last (turn .loop .inv) (start .pre .inside) (parsed .parse-entry .ensures) (size .size .given .1) (read .property-at .ensures) (took .record-left .ensures) (asked .ends-group .ensures) (ends .if1 .taken)
+    grouping-last (turn .loop .inv) (start .pre .inside) (parsed .parse-entry .ensures) (size .size .given .1)
+    (took .record-left .ensures ∙ ap (λ q. turn .loop .left - (start .args .owner + length (tailText (start .args .s .now) (propertyRow q)))) (read .property-at .ensures)) (asked .ends-group .ensures) (ends .if1 .taken)
 
 loop-less : tie.Need-loop-less Inv-loop μ-loop
 loop-less c =
@@ -65,7 +72,8 @@ loop-again c =
     let took : tie.After-record-left Inv-loop μ-loop = search in
     let asked : tie.After-ends-group Inv-loop μ-loop = search in
     let more : tie.Else1 Inv-loop μ-loop = search in
-    taking-more (turn .loop .inv) (start .pre .inside) (parsed .parse-entry .ensures) (size .size .given .1) (read .property-at .ensures) (took .record-left .ensures) (asked .ends-group .ensures) (more .if1 .left)
+    grouping-more (turn .loop .inv) (start .pre .inside) (parsed .parse-entry .ensures) (size .size .given .1)
+    (took .record-left .ensures ∙ ap (λ q. turn .loop .left - (start .args .owner + length (tailText (start .args .s .now) (propertyRow q)))) (read .property-at .ensures)) (asked .ends-group .ensures) (more .if1 .left)
 
 pub group-left-spec : {M : Type 1} → statement M
 group-left-spec =

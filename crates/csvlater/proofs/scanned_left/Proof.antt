@@ -1,14 +1,18 @@
 use borrow.Author.Needs.{needs}
 use native.Mathlib.Omega.{arith}
-use Prim.Native.Nat.{_+_, _-_, _≤_}
+use Prim.Native.Nat.{_-_}
+use mathlib.Core.Path.{refl, sym, _∙_}
 use lib.ListN.{length}
 use Rattle.matchlater.proofs.MatchLaws.{match-room}
-use Rattle.csvlater.proofs.NodeRoom.{Sweeping, sweeping-start, sweeping-done, sweeping-same, sweeping-few, sweeping-more}
+use Rattle.later.specs.Write.{scannedControl}
+use Rattle.later.proofs.Visits.{sweep-start, sweep-stop, sweep-over, sweep-asks, sweep-on}
+use Rattle.csvwalk.proofs.Walk.{controls-work}
+use Rattle.csvlater.proofs.GroupRoom.{Scanning, scanned-taken}
 use Rattle.csvlater.proofs.scanned_left.Statement.{statement}
 use Rattle.csvlater.proofs.scanned_left.Tie as tie
 
 abbrev Inv-loop : tie.InvT-loop
-Inv-loop s from index letters all a₀ i₀ left₀ a i left = Sweeping s from all a i left
+Inv-loop s from index letters all a₀ i₀ left₀ a i left = Scanning s from all a i left
 
 abbrev μ-loop : tie.MeasureT-loop
 μ-loop s from index letters all a₀ i₀ left₀ a i left = length s - a
@@ -26,6 +30,9 @@ test-of c = search
 abbrev turn-of : tie.After-find-match2 Inv-loop μ-loop → tie.At-loop Inv-loop μ-loop
 turn-of c = search
 
+abbrev start-of : tie.After-find-match2 Inv-loop μ-loop → tie.Start Inv-loop μ-loop
+start-of c = search
+
 find-match-requires : tie.Need-find-match-requires Inv-loop μ-loop
 find-match-requires c κs =
     let start : tie.Start Inv-loop μ-loop = search in
@@ -35,7 +42,7 @@ loop-holds : tie.Need-loop-holds Inv-loop μ-loop
 loop-holds c =
     let start : tie.Start Inv-loop μ-loop = search in
     let found : tie.After-find-match Inv-loop μ-loop = search in
-    sweeping-start (start .pre) (found .find-match .ensures)
+    sweep-start (omega (arith, start .pre .few)) (found .find-match .ensures)
 
 add-find-match : tie.Need-add-find-match Inv-loop μ-loop
 add-find-match c = omega (arith, match-room _ _ (c .before .loop .inv .here (c .loop-test .taken)))
@@ -54,7 +61,7 @@ add-i c =
     let any : tie.Then1 Inv-loop μ-loop = search in
     let group : tie.After-group-left Inv-loop μ-loop = search in
     let next = next-of group in
-    omega (arith, sweeping-few (turn-of next .loop .inv) (test-of next .loop-test .taken) (next .find-match2 .ensures) (sized-of group .owner-size .ensures) (group .group-left .ensures) (any .if1 .taken))
+    sweep-asks (turn-of next .loop .inv) (test-of next .loop-test .taken) (next .find-match2 .ensures) (sym (group .group-left .ensures .any-is) ∙ any .if1 .taken) (λ _ h. omega (arith, h))
 
 loop-less : tie.Need-loop-less Inv-loop μ-loop
 loop-less c =
@@ -66,7 +73,9 @@ loop-again c =
     let any : tie.Then1 Inv-loop μ-loop = search in
     let group : tie.After-group-left Inv-loop μ-loop = search in
     let next = next-of group in
-    sweeping-more (turn-of next .loop .inv) (test-of next .loop-test .taken) (next .find-match2 .ensures) (sized-of group .owner-size .ensures) (group .group-left .ensures) (any .if1 .taken)
+    let start = start-of next in
+    sweep-on (turn-of next .loop .inv) (test-of next .loop-test .taken) (next .find-match2 .ensures) (sym (group .group-left .ensures .any-is) ∙ any .if1 .taken)
+    (controls-work (start .args .s .now) (scannedControl (start .args .s .now)) (turn-of next .loop .i)) (scanned-taken (group .group-left .ensures) _ (sized-of group .owner-size .ensures))
 
 loop-less-2 : tie.Need-loop-less-2 Inv-loop μ-loop
 loop-less-2 c =
@@ -78,10 +87,13 @@ loop-again-2 c =
     let none : tie.Else1 Inv-loop μ-loop = search in
     let group : tie.After-group-left Inv-loop μ-loop = search in
     let next = next-of group in
-    sweeping-same (turn-of next .loop .inv) (test-of next .loop-test .taken) (next .find-match2 .ensures) (sized-of group .owner-size .ensures) (group .group-left .ensures) (none .if1 .left)
+    sweep-over (turn-of next .loop .inv) (test-of next .loop-test .taken) (next .find-match2 .ensures) (sym (group .group-left .ensures .any-is) ∙ none .if1 .left) refl
 
 returns : tie.Need-returns Inv-loop μ-loop
-returns c = sweeping-done (c .before .loop .inv) (c .loop-test .left)
+returns c =
+    let start : tie.Start Inv-loop μ-loop = search in
+    let turn : tie.At-loop Inv-loop μ-loop = search in
+    sweep-stop (turn .loop .inv) (controls-work (start .args .s .now) (scannedControl (start .args .s .now)) (turn .loop .i) .none-left (turn .loop .left)) (c .loop-test .left) .held .is
 
 pub scanned-left-spec : {M : Type 1} → statement M
 scanned-left-spec =
