@@ -11,14 +11,13 @@ use Rattle.rules.specs.Tree.{Node, levels}
 use Rattle.rules.specs.Later.{Prop, childrenAt, nodesAt, objectGroup, treeOf, nodesBy, laterOf}
 use Rattle.rules.specs.Reading.{Control}
 use Rattle.rules.specs.ReadLater.{propertyOf, readLater}
-use Rattle.rows.specs.Acts.{topNodes, Held}
+use Rattle.rows.specs.Acts.{topNodes}
 use Rattle.countlater.specs.Count.{children, wholeTree, Counted}
 use Rattle.countlater.specs.declared.Children.{Children}
 use Rattle.countlater.specs.declared.Counts.{Counts}
-use Rattle.countlater.proofs.CountLaws.{whole-by, object-within}
-use Rattle.countlater.proofs.NodeLaws.{children-of, children-bad}
+use Rattle.countlater.proofs.CountLaws.{object-within}
 use Rattle.later.specs.Write.{treeControl, scannedControl, control}
-use Rattle.later.proofs.ReadLaws.{whole-same, later-is, in-tree, in-scan, tree-is, scan-is}
+use Rattle.later.proofs.ReadLaws.{tree-same, later-is, in-tree, in-scan, tree-is, scan-is}
 use Rattle.cursor.proofs.WorkLaws.{ran-some}
 use Rattle.csvwalk.specs.Needs.{needs, objectNeed, controlsNeed, sheetNeed}
 use Rattle.csvwalk.proofs.NeedLaws.{needs-none, controls-none, whole-need}
@@ -26,22 +25,15 @@ use Rattle.csvlater.specs.Room.{GroupDone, NodesDone, SectionsReady, Sec
 use Rattle.csvlater.specs.declared.GroupLeft.{GroupLeft}
 
 -- ---- the tree, by its top list
-module _ {s : List ℕ} {t p : ℕ} {index letters : List ℕ} (h : TreeReady s t p index letters) {u : Children} (ue : u ≡ children (childrenAt s t p)) where
-  pub tree-never : u ≡ Children.Bad → ⊥
-  unfolding wholeTree
-  tree-never uk = rw (children-bad (childrenAt s t p) u ue uk) at (h .few)
+module _ {s : List ℕ} {t p : ℕ} {index letters : List ℕ} (h : TreeReady s t p index letters) {u : Children} (ue : u ≡ children (childrenAt s t p)) {n q : ℕ} (uk : u ≡ Children.Of n q) where
+  same : topNodes (wholeTree s t p) ≡ topNodes (nodesAt levels s n q)
+  same = tree-same s t p (λ x. length (x .0) ≤ longest) (h .few) ue uk
 
-  module _ {n q : ℕ} (uk : u ≡ Children.Of n q) where
-    tree-same : topNodes (wholeTree s t p) ≡ topNodes (nodesAt levels s n q)
-    tree-same =
-        let e = whole-by s t p n q (children-of (childrenAt s t p) u n q ue uk) in
-        ap topNodes (e ∙ whole-same s _ (nodesAt levels s n q) (subst (λ o. Held (λ x. length (x .0) ≤ longest) (topNodes o)) e (h .few)))
+  pub tree-ready : SectionsReady s n q index letters
+  tree-ready = record { small = h .small; few = rw same at (h .few); lent = h .lent }
 
-    pub tree-ready : SectionsReady s n q index letters
-    tree-ready = record { small = h .small; few = rw tree-same at (h .few); lent = h .lent }
-
-    pub tree-done : {all r : ℕ} → SectionsDone s n q all r → TreeDone s t p all r
-    tree-done {all = all} {r = r} d = subst (λ o. NodesDone s o all r) (sym tree-same) d
+  pub tree-done : {all r : ℕ} → SectionsDone s n q all r → TreeDone s t p all r
+  tree-done {all = all} {r = r} d = subst (λ o. NodesDone s o all r) (sym same) d
 
 -- ---- the stream
 pub short-done : (s : List ℕ) (all : ℕ) → length s < 14 → BlobDone s all all

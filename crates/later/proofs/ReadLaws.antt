@@ -32,7 +32,7 @@ use Rattle.later.specs.Write.{trailerOr0, GroupReady, GroupDone, Written
 use Rattle.later.specs.declared.WrittenGroup.{WrittenGroup}
 use Rattle.later.proofs.WriteNodeLaws.{own-many}
 
--- ---- the tree, written by its top list
+-- ---- the tree
 pub whole-same : (s : List ℕ) (Q : List (Node Prop) × ℕ → Type 0) (o : Option (Entries Prop × ℕ)) → Held Q (topNodes (o >>= whole s)) → (o >>= whole s) ≡ o
 whole-same s Q none h = absurd h
 whole-same s Q (some x) h = go (eqb (x .1) (length s)) h
@@ -41,22 +41,26 @@ whole-same s Q (some x) h = go (eqb (x .1) (length s)) h
     go true h = refl
     go false h = absurd h
 
-module _ (s : List ℕ) (t p : ℕ) (st : State) (h : NodesReady s (topNodes (wholeTree s t p)) st) {u : Children} (ue : u ≡ children (childrenAt s t p)) where
+-- a tree of which Q holds, by its top list
+module _ (s : List ℕ) (t p : ℕ) (Q : List (Node Prop) × ℕ → Type 0) (h : Held Q (topNodes (wholeTree s t p))) {u : Children} (ue : u ≡ children (childrenAt s t p)) where
   pub tree-never : u ≡ Children.Bad → ⊥
   unfolding wholeTree
-  tree-never uk = rw (children-bad (childrenAt s t p) u ue uk) at (h .fits)
+  tree-never uk = rw (children-bad (childrenAt s t p) u ue uk) at h
 
-  module _ {n q : ℕ} (uk : u ≡ Children.Of n q) where
-    tree-same : topNodes (wholeTree s t p) ≡ topNodes (nodesAt levels s n q)
-    tree-same =
-        let e = whole-by s t p n q (children-of (childrenAt s t p) u n q ue uk) in
-        ap topNodes (e ∙ whole-same s _ (nodesAt levels s n q) (subst (λ o. Held (λ x. Fit (map (treeControl s) (x .0)) st) (topNodes o)) e (h .fits)))
+  pub tree-same : {n q : ℕ} → u ≡ Children.Of n q → topNodes (wholeTree s t p) ≡ topNodes (nodesAt levels s n q)
+  tree-same {n = n} {q = q} uk =
+      let e = whole-by s t p n q (children-of (childrenAt s t p) u n q ue uk) in
+      ap topNodes (e ∙ whole-same s Q (nodesAt levels s n q) (subst (λ o. Held Q (topNodes o)) e h))
 
-    pub tree-ready : NodesReady s (topNodes (nodesAt levels s n q)) st
-    tree-ready = rw tree-same at h
+module _ (s : List ℕ) (t p : ℕ) (st : State) (h : NodesReady s (topNodes (wholeTree s t p)) st) {u : Children} (ue : u ≡ children (childrenAt s t p)) {n q : ℕ} (uk : u ≡ Children.Of n q) where
+  same : topNodes (wholeTree s t p) ≡ topNodes (nodesAt levels s n q)
+  same = tree-same s t p (λ x. Fit (map (treeControl s) (x .0)) st) (h .fits) ue uk
 
-    pub tree-done : {cs ps : List ℕ} {r : Next} → NodesDone s (topNodes (nodesAt levels s n q)) st cs ps r → NodesDone s (topNodes (wholeTree s t p)) st cs ps r
-    tree-done d = d ∙ ap (λ o. actBy (treeControl s) o st) (sym tree-same)
+  pub tree-ready : NodesReady s (topNodes (nodesAt levels s n q)) st
+  tree-ready = rw same at h
+
+  pub tree-done : {cs ps : List ℕ} {r : Next} → NodesDone s (topNodes (nodesAt levels s n q)) st cs ps r → NodesDone s (topNodes (wholeTree s t p)) st cs ps r
+  tree-done d = d ∙ ap (λ o. actBy (treeControl s) o st) (sym same)
 
 -- ---- the stream
 pub later-is : (s : List ℕ) → 14 ≤ length s → readLater s ≡ record { own = map (propertyOf s) (objectGroup s .props); controls = map (control s) (nodesBy s (treeOf s)) }

@@ -16,16 +16,15 @@ use Rattle.rules.specs.Reading.{Control, properties}
 use Rattle.rules.specs.ReadLater.{propertyOf, readLater}
 use Rattle.rules.specs.Blob.{fit, answerOf}
 use Rattle.rules.specs.declared.Answer.{Answer}
-use Rattle.rows.specs.Acts.{topNodes, Held}
+use Rattle.rows.specs.Acts.{topNodes}
 use Rattle.rows.specs.Judge as judge
 use Rattle.rows.proofs.JudgeLaws.{made-counts}
 use Rattle.countlater.specs.Count.{children, wholeTree, Counted}
 use Rattle.countlater.specs.declared.Children.{Children}
 use Rattle.countlater.specs.declared.Counts.{Counts}
-use Rattle.countlater.proofs.CountLaws.{whole-by, object-within}
-use Rattle.countlater.proofs.NodeLaws.{children-of, children-bad}
+use Rattle.countlater.proofs.CountLaws.{object-within}
 use Rattle.later.specs.Write.{treeControl, scannedControl, control}
-use Rattle.later.proofs.ReadLaws.{whole-same, later-is, same-many, in-tree, in-scan, tree-is, scan-is}
+use Rattle.later.proofs.ReadLaws.{tree-same, later-is, same-many, in-tree, in-scan, tree-is, scan-is}
 use Rattle.tally.specs.Places.{bumps, propertiesPlaces, controlsPlaces, readingPlaces}
 use Rattle.tally.proofs.BumpLaws.{bumps-append, tallied-refused, tallied-read, room-again}
 use Rattle.cursor.specs.Work.{Ran}
@@ -35,22 +34,15 @@ use Rattle.tallylater.specs.Counting.{GroupReady, GroupDone, TreeReady, 
 use Rattle.tallylater.specs.declared.CountedGroup.{CountedGroup}
 
 -- ---- the tree, counted by its top list
-module _ {s : List ℕ} {t p : ℕ} (h : TreeReady s t p) {u : Children} (ue : u ≡ children (childrenAt s t p)) where
-  pub tree-never : u ≡ Children.Bad → ⊥
-  unfolding wholeTree
-  tree-never uk = rw (children-bad (childrenAt s t p) u ue uk) at (h .few)
+module _ {s : List ℕ} {t p : ℕ} (h : TreeReady s t p) {u : Children} (ue : u ≡ children (childrenAt s t p)) {n q : ℕ} (uk : u ≡ Children.Of n q) where
+  same : topNodes (wholeTree s t p) ≡ topNodes (nodesAt levels s n q)
+  same = tree-same s t p (λ x. length (x .0) ≤ longest) (h .few) ue uk
 
-  module _ {n q : ℕ} (uk : u ≡ Children.Of n q) where
-    tree-same : topNodes (wholeTree s t p) ≡ topNodes (nodesAt levels s n q)
-    tree-same =
-        let e = whole-by s t p n q (children-of (childrenAt s t p) u n q ue uk) in
-        ap topNodes (e ∙ whole-same s _ (nodesAt levels s n q) (subst (λ o. Held (λ x. length (x .0) ≤ longest) (topNodes o)) e (h .few)))
+  pub tree-ready : SectionsReady s n q
+  tree-ready = record { small = h .small; few = rw same at (h .few) }
 
-    pub tree-ready : SectionsReady s n q
-    tree-ready = record { small = h .small; few = rw tree-same at (h .few) }
-
-    pub tree-done : {words words′ : List ℕ} → SectionsDone s n q words words′ → TreeDone s t p words words′
-    tree-done {words = words} {words′ = words′} d = record { next = d .next; is = subst (λ o. Ran (treeTally s) o words words′ (d .next)) (sym tree-same) (d .is) }
+  pub tree-done : {words words′ : List ℕ} → SectionsDone s n q words words′ → TreeDone s t p words words′
+  tree-done {words = words} {words′ = words′} d = record { next = d .next; is = subst (λ o. Ran (treeTally s) o words words′ (d .next)) (sym same) (d .is) }
 
 -- ---- the stream
 module _ {s : List ℕ} {tree : Bool} (h : BlobReady s tree) where

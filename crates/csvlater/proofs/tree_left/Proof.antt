@@ -1,7 +1,8 @@
 use borrow.Author.Needs.{needs}
 use native.Mathlib.Omega.{arith}
 use Rattle.cursorlater.proofs.StepLaws.{count-small}
-use Rattle.csvlater.proofs.Whole.{tree-never, tree-ready, tree-done}
+use Rattle.later.proofs.ReadLaws.{tree-never}
+use Rattle.csvlater.proofs.Whole.{tree-ready, tree-done}
 use Rattle.csvlater.proofs.tree_left.Statement.{statement}
 use Rattle.csvlater.proofs.tree_left.Tie as tie
 
@@ -25,7 +26,7 @@ returns c =
     let start : tie.Start = search in
     let kids : tie.After-children-at = search in
     let told : tie.After-enum-told = search in
-    absurd (tree-never (start .pre) (kids .children-at .ensures) (told .enum-told .given .1))
+    absurd (tree-never _ _ _ _ (start .pre .few) (kids .children-at .ensures) (told .enum-told .given .1))
 
 returns-2 : tie.Need-returns-2
 returns-2 c =

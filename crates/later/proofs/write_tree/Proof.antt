@@ -22,7 +22,7 @@ write-sections-requires c κs =
 returns : tie.Need-returns
 returns c =
     let start : tie.Start = search in
-    absurd (tree-never _ _ _ _ (start .pre) (c .before .before .children-at .ensures) (c .enum-told .given .1))
+    absurd (tree-never _ _ _ _ (start .pre .fits) (c .before .before .children-at .ensures) (c .enum-told .given .1))
 
 returns-2 : tie.Need-returns-2
 returns-2 c =

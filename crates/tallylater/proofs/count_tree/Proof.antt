@@ -1,7 +1,8 @@
 use native.Mathlib.Omega.{arith}
 use borrow.Author.Needs.{needs}
 use Rattle.cursorlater.proofs.StepLaws.{count-small}
-use Rattle.tallylater.proofs.ReadLaws.{tree-never, tree-ready, tree-done}
+use Rattle.later.proofs.ReadLaws.{tree-never}
+use Rattle.tallylater.proofs.ReadLaws.{tree-ready, tree-done}
 use Rattle.tallylater.proofs.count_tree.Statement.{statement}
 use Rattle.tallylater.proofs.count_tree.Tie as tie
 
@@ -24,7 +25,7 @@ returns : tie.Need-returns
 returns c =
     let start : tie.Start = search in
     let kids : tie.After-children-at = search in
-    absurd (tree-never (start .pre) (kids .children-at .ensures) (c .enum-told .given .1))
+    absurd (tree-never _ _ _ _ (start .pre .few) (kids .children-at .ensures) (c .enum-told .given .1))
 
 returns-2 : tie.Need-returns-2
 returns-2 c =
