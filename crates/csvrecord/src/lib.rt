@@ -10,6 +10,7 @@ use rules::Property;
 use text::label_length;
 use text::put_byte;
 use text::put_decimal;
+use text::put_four;
 use text::put_hex;
 use text::put_six;
 use text::put_text;
@@ -124,28 +125,42 @@ fn put_marked(out: &mut [u8], at: usize, mark: u32) -> usize
     ensures { λ r. ⌜ Wrote (now (out .entry)) at (markedText mark) (now (out .exit)) r ⌝ }
 {
     match mark {
-        0 => put_six(out, at, b',', b'b', b'o', b'o', b'l', b','),
+        0 => {
+            let p = put_four(out, at, b',', b'b', b'o', b'o');
+            put_two(out, p, b'l', b',')
+        }
         1 => {
             let p = put_six(out, at, b',', b'n', b'o', b't', b'd', b'e');
             put_six(out, p, b'f', b'a', b'u', b'l', b't', b',')
         }
         2 => {
-            let p = put_six(out, at, b',', b's', b'h', b'o', b'r', b't');
+            let p = put_four(out, at, b',', b's', b'h', b'o');
+            let p = put_two(out, p, b'r', b't');
             put_byte(out, p, b',')
         }
-        3 => put_six(out, at, b',', b'l', b'o', b'n', b'g', b','),
-        4 => {
-            let p = put_six(out, at, b',', b'd', b'o', b'u', b'b', b'l');
-            put_two(out, p, b'e', b',')
+        3 => {
+            let p = put_four(out, at, b',', b'l', b'o', b'n');
+            put_two(out, p, b'g', b',')
         }
-        5 => put_six(out, at, b',', b'g', b'u', b'i', b'd', b','),
-        6 => put_six(out, at, b',', b't', b'e', b'x', b't', b','),
+        4 => {
+            let p = put_four(out, at, b',', b'd', b'o', b'u');
+            put_four(out, p, b'b', b'l', b'e', b',')
+        }
+        5 => {
+            let p = put_four(out, at, b',', b'g', b'u', b'i');
+            put_two(out, p, b'd', b',')
+        }
+        6 => {
+            let p = put_four(out, at, b',', b't', b'e', b'x');
+            put_two(out, p, b't', b',')
+        }
         7 => {
-            let p = put_six(out, at, b',', b'b', b'i', b'n', b'a', b'r');
-            put_two(out, p, b'y', b',')
+            let p = put_four(out, at, b',', b'b', b'i', b'n');
+            put_four(out, p, b'a', b'r', b'y', b',')
         }
         _ => {
-            let p = put_six(out, at, b',', b'l', b'o', b'o', b's', b'e');
+            let p = put_four(out, at, b',', b'l', b'o', b'o');
+            let p = put_two(out, p, b's', b'e');
             put_byte(out, p, b',')
         }
     }

@@ -1,12 +1,12 @@
 -- Text of letters: units that are a byte each, and need no quotes.
-use Prim.Native.Nat.{ℕ, _+_, _*_, _-_, _<_, _≤_}
+use Prim.Native.Nat.{ℕ, zero, suc, _+_, _*_, _-_, _<_, _≤_}
 use native.Mathlib.Omega.{arith}
-use mathlib.Core.Path.{_≡_, refl, sym, ap, _∙_}
-use mathlib.Core.Bool.{Bool, true, false, cond, _&&_}
+use mathlib.Core.Path.{_≡_, refl, sym, ap, subst, _∙_}
+use mathlib.Core.Bool.{Bool, true, false, cond, not, _&&_}
 use mathlib.Core.List.{List, [], _∷_, _++_}
-use lib.Dec.{ltb, leb, eqb}
+use lib.Dec.{ltb, leb}
 use lib.ListN.{length, drop, length-drop}
-use borrow.Author.Tests.{ltb-true, ltb-false, leb-true, eqb-true, lt-ltb, le-ltb}
+use borrow.Author.Tests.{ltb-true, ltb-false, leb-true, lt-ltb, le-ltb}
 use Rattle.rules.specs.Lists.{all}
 use Rattle.rules.specs.Bytes.{byte, u16}
 use Rattle.rules.specs.Utf16.{isHigh}
@@ -16,20 +16,20 @@ use Rattle.rules.specs.Csv.{comma, quote, cr, lf, isData, doubled, fieldText}
 use Rattle.csvlaws.proofs.CsvPlain.{data-byte}
 use Rattle.csvlaws.proofs.Utf8Laws.{high-then}
 use Rattle.utf16.proofs.Units.{two}
-use Rattle.csvtext.specs.Units.{waiting, unitText, unitData, isLetter, lows}
+use Rattle.csvtext.specs.Units.{waiting, unitText, unitData, isLetter, Past, lows}
 use Rattle.csvtext.proofs.UnitLaws.{textFrom, dataFrom, text-all, data-all, text-step, data-step, text-end, data-end, first-half, ends-other, ends-data, scalar-alone, field-plain}
 
 -- ---- as the code finds it out
 module _ (u : ℕ) where
-  pub letter-low : u < 0x2D → eqb u 0x20 ≡ isLetter u
+  pub no-letter : u < 0x2D → false ≡ isLetter u
   unfolding isLetter
-  letter-low h = rw (lt-ltb u 0x2D h)
+  no-letter h = rw (lt-ltb u 0x2D h)
 
   pub letter-high : 0x2D ≤ u → leb u 0x7F ≡ isLetter u
   unfolding isLetter
   letter-high h = rw (le-ltb u 0x2D h)
 
--- ---- what a letter is
+-- ---- what letters and the space are
 record Letter (u : ℕ) : Type 0 where
   small : u < 0x80
   is-data : isData u ≡ true
@@ -39,14 +39,15 @@ letter : (u : ℕ) → isLetter u ≡ true → Letter u
 unfolding isLetter
 letter u e = go (ltb u 0x2D) refl e
   where
-    go : (b : Bool) → ltb u 0x2D ≡ b → cond b (eqb u 0x20) (leb u 0x7F) ≡ true → Letter u
-    go true h k =
-        let z = eqb-true u 0x20 k in
-        record { small = omega arith; is-data = data-byte u (λ w. omega arith) (λ w. omega arith) (λ w. omega arith) (λ w. omega arith); not-quote = λ w. omega arith }
+    go : (b : Bool) → ltb u 0x2D ≡ b → (not b && leb u 0x7F) ≡ true → Letter u
+    go true h k = absurd (let z : _≡_ {A = ℕ} 0 1 = cc in omega arith)
     go false h k =
         let z = ltb-false u 0x2D h in
         let y = leb-true u 0x7F k in
         record { small = omega arith; is-data = data-byte u (λ w. omega arith) (λ w. omega arith) (λ w. omega arith) (λ w. omega arith); not-quote = λ w. omega arith }
+
+space : (u : ℕ) → u ≡ 0x20 → Letter u
+space u z = record { small = omega arith; is-data = data-byte u (λ w. omega arith) (λ w. omega arith) (λ w. omega arith) (λ w. omega arith); not-quote = λ w. omega arith }
 
 two-bytes : (s : List ℕ) (i : ℕ) → u16 s i ≡ byte s i + 256 * byte s (i + 1)
 unfolding u16
@@ -100,10 +101,7 @@ module _ (s : List ℕ) where
   pub plainly-end : (i : ℕ) → length s ≤ i + 1 → Plainly i
   plainly-end i h = record { no-quotes = data-end s i 0 h; is-lows = text-end s i 0 h ∙ sym (lows-end i h) }
 
-  module _ (i : ℕ) (h : i + 1 < length s) (e : isLetter (u16 s i) ≡ true) where
-    its : Letter (u16 s i)
-    its = letter (u16 s i) e
-
+  module _ (i : ℕ) (h : i + 1 < length s) (its : Letter (u16 s i)) where
     alone : isHigh (u16 s i) ≡ false
     alone = not-high (u16 s i) (its .small)
 
@@ -122,11 +120,43 @@ module _ (s : List ℕ) where
     its-data : unitData 0 (u16 s i) ≡ true
     its-data = ends-data 0 (u16 s i) alone ∙ ap isData self ∙ its .is-data
 
-    pub plainly-more : Plainly (i + 2) → Plainly i
+    plainly-more : Plainly (i + 2) → Plainly i
     plainly-more k = record {
       no-quotes = data-step s i 0 h ∙ (λ j. its-data j && dataFrom (none-waits j) (drop (i + 2) s)) ∙ k .no-quotes;
       is-lows = text-step s i 0 h ∙ (λ j. its-text j ++ textFrom (none-waits j) (drop (i + 2) s)) ∙ ap (λ l. byte s i ∷ l) (k .is-lows) ∙ sym (lows-more i h);
     }
 
+  pub plainly-space : (i : ℕ) → i + 1 < length s → u16 s i ≡ 0x20 → Plainly (i + 2) → Plainly i
+  plainly-space i h e k = plainly-more i h (space (u16 s i) e) k
+
+  letters-plainly : (n from : ℕ) → ((k : ℕ) → k < n → isLetter (u16 s (from + 2 * k)) ≡ true) → from + 2 * n ≤ length s → Plainly (from + 2 * n) → Plainly from
+  letters-plainly zero from f l h = let e : from + 2 * 0 ≡ from = omega arith in subst Plainly e h
+  letters-plainly (suc n) from f l h =
+      let e : from + 2 * suc n ≡ from + 2 * n + 2 = omega arith in
+      letters-plainly n from (λ k j. f k (omega arith)) (omega arith)
+      (plainly-more (from + 2 * n) (omega arith) (letter (u16 s (from + 2 * n)) (f n (omega arith))) (subst Plainly e h))
+
+  pub past-plainly : {from r : ℕ} → Past s from r → Plainly r → Plainly from
+  past-plainly {from = from} p h = letters-plainly (p .count) from (p .letters) (omega (arith, p .there, p .inside)) (subst Plainly (p .there) h)
+
   pub plainly-all : Plainly 0 → fieldText (utf8 s) ≡ lows s
   plainly-all k = field-plain (utf8 s) (sym (data-all s) ∙ k .no-quotes) ∙ sym (text-all s) ∙ k .is-lows
+
+-- ---- letters, one more
+pub past-none : (s : List ℕ) (from : ℕ) → from ≤ length s → Past s from from
+past-none s from h = record { count = 0; there = omega arith; inside = h; letters = λ k l. absurd (omega arith) }
+
+pub past-more : {s : List ℕ} {from i : ℕ} → Past s from i → i + 1 < length s → isLetter (u16 s i) ≡ true → Past s from (i + 2)
+past-more {s = s} {from = from} {i = i} p h e = record {
+  count = p .count + 1;
+  there = omega (arith, p .there);
+  inside = omega arith;
+  letters = λ k l. go k l (ltb k (p .count)) refl;
+}
+  where
+    go : (k : ℕ) → k < p .count + 1 → (b : Bool) → ltb k (p .count) ≡ b → isLetter (u16 s (from + 2 * k)) ≡ true
+    go k l true t = p .letters k (ltb-true k (p .count) t)
+    go k l false t =
+        let z = ltb-false k (p .count) t in
+        let q : from + 2 * k ≡ i = omega (arith, p .there) in
+        ap (λ (n : ℕ). isLetter (u16 s n)) q ∙ e

@@ -16,16 +16,16 @@ ghost use Rattle.rules.specs.Scalars.{scalar};
 ghost use Rattle.rules.specs.Utf8.{utf8Of, utf8};
 ghost use Rattle.rules.specs.Csv.{isData, doubled, fieldText, hexText};
 ghost use Rattle.text.specs.Writer.{Wrote};
-ghost use Rattle.csvtext.specs.Units.{unitText, unitData, waiting, isLetter, lows};
+ghost use Rattle.csvtext.specs.Units.{unitText, unitData, waiting, isLetter, Past, lows};
 
 const QUOTE: u8 = b'"';
 
-// The letters begin after the comma, and end where characters of two bytes begin; the space is one too.
-const SPACE: u16 = 0x20;
-
+// The letters begin after the comma, and end where characters of two bytes begin. The space needs no quotes either.
 const FIRST_LETTER: u16 = 0x2D;
 
 const LAST_LETTER: u16 = 0x7F;
+
+const SPACE: u16 = 0x20;
 
 const QUOTE_SIGN: u32 = 0x22;
 
@@ -177,21 +177,36 @@ fn is_letter(u: u16) -> bool
     ensures { λ r. ⌜ r ≡ isLetter u ⌝ }
 {
     if u < FIRST_LETTER {
-        return u == SPACE;
+        return false;
     }
     u <= LAST_LETTER
 }
 
-// Whether a text is told at a glance to be its units' low bytes. Where this is false nothing is told.
+// Skips the letters from `from` on.
+fn past_letters(bytes: &[u8], from: usize) -> usize
+    requires { ⌜ from ≤ length (now bytes) ⌝ }
+    ensures { λ r. ⌜ Past (now (bytes .entry)) from r ⌝ }
+{
+    let mut i = from;
+    while 1 < bytes.len() - i {
+        if !is_letter(u16_inside(bytes, i)) {
+            return i;
+        }
+        i += 2;
+    }
+    i
+}
+
+// Whether a text is told at a glance to be its units' low bytes: letters and spaces. Where this is false nothing is told.
 fn all_letters(bytes: &[u8]) -> bool
     ensures { λ r. ⌜ (r ≡ true → fieldText (utf8 (now (bytes .entry))) ≡ lows (now (bytes .entry))) ⌝ }
 {
-    let mut i: usize = 0;
+    let mut i = past_letters(bytes, 0);
     while 1 < bytes.len() - i {
-        if !is_letter(u16_inside(bytes, i)) {
+        if u16_inside(bytes, i) != SPACE {
             return false;
         }
-        i += 2;
+        i = past_letters(bytes, i + 2);
     }
     true
 }

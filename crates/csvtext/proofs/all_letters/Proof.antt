@@ -1,13 +1,12 @@
 use borrow.Author.Needs.{needs}
 use native.Mathlib.Omega.{arith}
 use mathlib.Core.Path.{_≡_, refl, sym, ap, _∙_}
-use mathlib.Core.Bool.{Bool, true, false, not}
+use mathlib.Core.Bool.{true, false}
 use mathlib.Core.List.{List}
 use Prim.Native.Nat.{ℕ, _+_, _-_, _≤_}
 use lib.ListN.{length}
 use Rattle.rules.specs.Bytes.{u16}
-use Rattle.csvtext.specs.Units.{isLetter}
-use Rattle.csvtext.proofs.LetterLaws.{Plainly, plainly-end, plainly-more, plainly-all}
+use Rattle.csvtext.proofs.LetterLaws.{Plainly, plainly-end, plainly-space, past-plainly, plainly-all}
 use Rattle.csvtext.proofs.all_letters.Statement.{statement}
 use Rattle.csvtext.proofs.all_letters.Tie as tie
 
@@ -22,21 +21,18 @@ Inv-loop bytes i₀ i = Left bytes i
 abbrev μ-loop : tie.MeasureT-loop
 μ-loop bytes i₀ i = length bytes - i
 
+past-letters-requires : tie.Need-past-letters-requires Inv-loop μ-loop
+past-letters-requires c κs = omega arith
+
 loop-holds : tie.Need-loop-holds Inv-loop μ-loop
-loop-holds c = record { inside = omega arith; rest = λ k. k }
+loop-holds c =
+    let start : tie.Start Inv-loop μ-loop = search in
+    let first : tie.After-past-letters Inv-loop μ-loop = search in
+    let p = first .past-letters .ensures in
+    record { inside = p .inside; rest = past-plainly (start .args .bytes .now) p }
 
 sub-loop : tie.Need-sub-loop Inv-loop μ-loop
 sub-loop c =
-    let turn : tie.At-loop Inv-loop μ-loop = search in
-    omega (arith, turn .loop .inv .inside)
-
-add-i : tie.Need-add-i Inv-loop μ-loop
-add-i c =
-    let turn : tie.At-loop Inv-loop μ-loop = search in
-    omega (arith, turn .loop .inv .inside)
-
-loop-less : tie.Need-loop-less Inv-loop μ-loop
-loop-less c =
     let turn : tie.At-loop Inv-loop μ-loop = search in
     omega (arith, turn .loop .inv .inside)
 
@@ -45,24 +41,38 @@ u16-inside-requires c κs =
     let turn : tie.At-loop Inv-loop μ-loop = search in
     omega (arith, turn .loop .inv .inside)
 
-yes : (t : Bool) → not t ≡ false → t ≡ true
-yes true e = refl
-yes false e = sym e
-
 returns : tie.Need-returns Inv-loop μ-loop
 returns c = λ e. absurd (let z : _≡_ {A = ℕ} 0 1 = cc in omega arith)
+
+add-past-letters : tie.Need-add-past-letters Inv-loop μ-loop
+add-past-letters c =
+    let turn : tie.At-loop Inv-loop μ-loop = search in
+    omega (arith, turn .loop .inv .inside)
+
+past-letters-requires-2 : tie.Need-past-letters-requires-2 Inv-loop μ-loop
+past-letters-requires-2 c κs =
+    let turn : tie.At-loop Inv-loop μ-loop = search in
+    omega (arith, turn .loop .inv .inside)
+
+loop-less : tie.Need-loop-less Inv-loop μ-loop
+loop-less c =
+    let turn : tie.At-loop Inv-loop μ-loop = search in
+    let next : tie.After-past-letters2 Inv-loop μ-loop = search in
+    let p = next .past-letters2 .ensures in
+    omega (arith, turn .loop .inv .inside, p .there, p .inside)
 
 loop-again : tie.Need-loop-again Inv-loop μ-loop
 loop-again c =
     let turn : tie.At-loop Inv-loop μ-loop = search in
     let start : tie.Start Inv-loop μ-loop = search in
     let unit : tie.After-u16-inside Inv-loop μ-loop = search in
-    let told : tie.After-is-letter Inv-loop μ-loop = search in
-    let other : tie.Else1 Inv-loop μ-loop = search in
+    let told : tie.Else1 Inv-loop μ-loop = search in
+    let next : tie.After-past-letters2 Inv-loop μ-loop = search in
+    let p = next .past-letters2 .ensures in
     let b = start .args .bytes .now in
     let l = turn .loop in
-    let e : isLetter (u16 b (l .i)) ≡ true = sym (told .is-letter .ensures ∙ ap isLetter (unit .u16-inside .ensures)) ∙ yes _ (other .if1 .left) in
-    record { inside = omega (arith, l .inv .inside); rest = λ k. l .inv .rest (plainly-more b (l .i) (omega (arith, l .inv .inside)) e k) }
+    let e : u16 b (l .i) ≡ 0x20 = omega (arith, unit .u16-inside .ensures, told .if1 .left) in
+    record { inside = p .inside; rest = λ k. l .inv .rest (plainly-space b (l .i) (omega (arith, l .inv .inside)) e (past-plainly b p k)) }
 
 returns-2 : tie.Need-returns-2 Inv-loop μ-loop
 returns-2 c =
@@ -77,12 +87,13 @@ all-letters-spec =
     (tie.spec
     Inv-loop
     μ-loop
+    past-letters-requires
     loop-holds
     sub-loop
     u16-inside-requires
-    (λ c κs. search needs)
     returns
-    add-i
+    add-past-letters
+    past-letters-requires-2
     loop-less
     loop-again
     returns-2)

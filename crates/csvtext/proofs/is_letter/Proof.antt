@@ -1,13 +1,13 @@
 use borrow.Author.Needs.{needs}
 use native.Mathlib.Omega.{arith}
-use Rattle.csvtext.proofs.LetterLaws.{letter-low, letter-high}
+use Rattle.csvtext.proofs.LetterLaws.{no-letter, letter-high}
 use Rattle.csvtext.proofs.is_letter.Statement.{statement}
 use Rattle.csvtext.proofs.is_letter.Tie as tie
 
 returns : tie.Need-returns
 returns c =
     let start : tie.Start = search in
-    letter-low (start .args .u) (omega arith)
+    no-letter (start .args .u) (omega arith)
 
 returns-2 : tie.Need-returns-2
 returns-2 c =
