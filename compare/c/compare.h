@@ -71,6 +71,10 @@ void compare_panel_bench(compare_read_blob_t *read, compare_read_blob_t *check);
 /* Writes so many random Blobs of a seed as comma-separated text by the library, and what is written to a file; false where one differs. */
 typedef oskuramos_answer compare_write_csv_t(const uint8_t *, size_t, const uint8_t *, size_t, uint32_t *, size_t, uint32_t *, size_t, uint8_t *, size_t);
 bool compare_write_csv(compare_write_csv_t *write_csv, size_t count, uint64_t seed, const char *file);
+
+/* Times the library's writer of comma-separated text beside its reading. */
+void compare_write_csv_bench(compare_read_blob_t *read, compare_write_csv_t *write_csv);
+
 /* Counts so many random streams of a seed by the library into records of totals; false where one differs. */
 bool compare_totals(oskuramos_answer (*count)(oskuramos_totals *, const uint8_t *, size_t, const uint8_t *, size_t, uint32_t, uint32_t),
                     size_t n, uint64_t seed);

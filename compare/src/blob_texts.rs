@@ -2,12 +2,13 @@
 //! texts hold quotes, commas, CR, LF, NUL and signs outside the basic plane.
 
 use crate::cases::{random, rng::Rng};
-use crate::large::CAnswer;
-use crate::oracle;
+use crate::large::{CAnswer, ReadBlob};
 use crate::plain::blob_text::{self, Record};
 use crate::plain::{self, codes::Codes, Answer};
+use crate::{long, oracle};
 use std::collections::BTreeMap;
 use std::io::{self, Write};
+use std::time::Instant;
 
 pub type WriteCsv = unsafe extern "C" fn(*const u8, usize, *const u8, usize, *mut u32, usize, *mut u32, usize, *mut u8, usize) -> CAnswer;
 
@@ -102,7 +103,10 @@ fn room(rng: &mut Rng, table: &[u8], stream: &[u8]) -> Lent {
         3 => exact + rng.below(40),
         _ => exact,
     };
-    [near(exact[0], 30), near(exact[1], 30), near(exact[2], 8)]
+    let (controls, properties, bytes) = (near(exact[0], 30), near(exact[1], 30), near(exact[2], 8));
+    // as much as makes measuring needless, a byte less, or a little more
+    let much = ample(stream, properties / plain::PROPERTY_WORDS);
+    [controls, properties, [bytes, bytes, bytes, much, much - 1, much + 9][rng.below(6)]]
 }
 
 /// The library's answer and all that is lent, between guards; and the records.
@@ -155,6 +159,58 @@ fn called(library: WriteCsv, table: &[u8], stream: &[u8], [c, p, b]: Lent) -> Re
         ));
     }
     Ok((answer.number, records))
+}
+
+/// Readings of a stream and writings of its text, by turns: so many runs, of which the least counts.
+const RUNS: usize = 101;
+
+/// Times the writer beside the reading of the same stream, in room to the byte and in much, and prints how many readings one call takes.
+pub fn bench(read: ReadBlob, library: WriteCsv) {
+    let table = oracle::codes().bytes();
+    let streams = [
+        ("Access 2000 form, 60 controls", long::form2000(60, 0)),
+        ("Access 2000 form, 10,000 controls", long::form2000(10_000, 0)),
+        ("later tree, 10,000 nodes", long::tree(10_000, 0)),
+    ];
+    for (name, stream) in &streams {
+        let found = Codes::parse(&table).and_then(|codes| plain::reading(&codes, stream)).expect("a reading");
+        let rows = plain::rows(&found);
+        let text = blob_text::text(&blob_text::records(&found, stream));
+        let mut controls = vec![0; plain::CONTROL_WORDS * rows.controls.len()];
+        let mut properties = vec![0; plain::PROPERTY_WORDS * rows.properties.len()];
+        let mut out = vec![0; ample(stream, rows.properties.len())];
+        let mut least = [f64::INFINITY; 3];
+        for _ in 0..RUNS {
+            for (way, least) in least.iter_mut().enumerate() {
+                let room = if way == 1 { text.len() } else { out.len() };
+                let (c, p) = ((controls.as_mut_ptr(), controls.len()), (properties.as_mut_ptr(), properties.len()));
+                let start = Instant::now();
+                // SAFETY: each slice is lent as its pointer and its length, and those that are written overlap nothing.
+                let answer = unsafe {
+                    if way == 0 {
+                        read(table.as_ptr(), table.len(), stream.as_ptr(), stream.len(), c.0, c.1, p.0, p.1)
+                    } else {
+                        library(table.as_ptr(), table.len(), stream.as_ptr(), stream.len(), c.0, c.1, p.0, p.1, out.as_mut_ptr(), room)
+                    }
+                };
+                *least = least.min(start.elapsed().as_secs_f64() * 1e6);
+                let must = if way == 0 { rows.answer } else { Answer { number: 0, counts: [text.len() as u32, 0, 0] } };
+                assert_eq!(answer.answer(), must);
+            }
+        }
+        assert!(out[..text.len()] == text[..], "{name}: another text");
+        let [reading, exact, much] = least;
+        println!(
+            "{name}: read {reading:.1} us; room to the byte {exact:.1} us, {:.2} readings; much room {much:.1} us, {:.2} readings",
+            exact / reading,
+            much / reading
+        );
+    }
+}
+
+/// Room in which no text of so many rows of such a stream is measured first.
+fn ample(stream: &[u8], properties: usize) -> usize {
+    34 + 94 * properties + 2 * stream.len()
 }
 
 #[cfg(test)]

@@ -176,6 +176,13 @@ pub unsafe extern "C" fn compare_write_csv(
         false
     })
 }
+
+/// Times the writer of comma-separated text beside the reading.
+#[no_mangle]
+pub extern "C" fn compare_write_csv_bench(read: large::ReadBlob, write_csv: blob_texts::WriteCsv) {
+    blob_texts::bench(read, write_csv);
+}
+
 /// Counts random streams by the library's function into records of totals; false where one differs.
 #[no_mangle]
 pub extern "C" fn compare_totals(count: totals::Count, n: usize, seed: u64) -> bool {
