@@ -160,8 +160,7 @@ pub fn put_two(out: &mut [u8], at: usize, a: u8, b: u8) -> usize
         set_two(out, at, a, b);
         return at + 2;
     }
-    let p = put_byte(out, at, a);
-    put_byte(out, p, b)
+    put_each(out, at, &[a, b])
 }
 
 pub fn put_four(out: &mut [u8], at: usize, a: u8, b: u8, c: u8, d: u8) -> usize
@@ -171,8 +170,7 @@ pub fn put_four(out: &mut [u8], at: usize, a: u8, b: u8, c: u8, d: u8) -> usize
         set_four(out, at, a, b, c, d);
         return at + 4;
     }
-    let p = put_two(out, at, a, b);
-    put_two(out, p, c, d)
+    put_each(out, at, &[a, b, c, d])
 }
 
 pub fn put_six(out: &mut [u8], at: usize, a: u8, b: u8, c: u8, d: u8, e: u8, f: u8) -> usize
@@ -182,8 +180,7 @@ pub fn put_six(out: &mut [u8], at: usize, a: u8, b: u8, c: u8, d: u8, e: u8, f: 
         set_six(out, at, a, b, c, d, e, f);
         return at + 6;
     }
-    let p = put_four(out, at, a, b, c, d);
-    put_two(out, p, e, f)
+    put_each(out, at, &[a, b, c, d, e, f])
 }
 
 // A byte at a time.

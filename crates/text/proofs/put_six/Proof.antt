@@ -4,7 +4,6 @@ use mathlib.Core.Path.{sym, _∙_}
 use Prim.Native.Nat.{_+_}
 use lib.ListN.{length}
 use borrow.Author.Tests.{leb-true}
-use Rattle.text.proofs.Chain.{_⨟_}
 use Rattle.text.proofs.put_six.Statement.{statement}
 use Rattle.text.proofs.put_six.Tie as tie
 
@@ -21,12 +20,6 @@ add-result c =
     let told : tie.Then1 = search in
     omega (arith, leb-true (start .args .at + 6) (length (start .args .out .now)) (sym (asked .has-room .ensures) ∙ told .if1 .taken))
 
-returns-2 : tie.Need-returns-2
-returns-2 c =
-    let first : tie.After-put-four = search in
-    let second : tie.After-put-two = search in
-    first .put-four .ensures ⨟ second .put-two .ensures
-
 pub put-six-spec : {M : Type 1} → statement M
 put-six-spec =
     tie.close
@@ -36,7 +29,7 @@ put-six-spec =
     add-result
     (λ c. search needs)
     (λ c. search needs)
-    (λ c κs. search needs)
+    (λ c. search needs)
     (λ c κs. search needs)
     (λ c. search needs)
-    returns-2)
+    (λ c. search needs))

@@ -4,7 +4,6 @@ use mathlib.Core.Path.{sym, _∙_}
 use Prim.Native.Nat.{_+_}
 use lib.ListN.{length}
 use borrow.Author.Tests.{leb-true}
-use Rattle.text.proofs.Chain.{_⨟_}
 use Rattle.text.proofs.put_two.Statement.{statement}
 use Rattle.text.proofs.put_two.Tie as tie
 
@@ -21,12 +20,6 @@ add-result c =
     let told : tie.Then1 = search in
     omega (arith, leb-true (start .args .at + 2) (length (start .args .out .now)) (sym (asked .has-room .ensures) ∙ told .if1 .taken))
 
-returns-2 : tie.Need-returns-2
-returns-2 c =
-    let first : tie.After-put-byte = search in
-    let second : tie.After-put-byte2 = search in
-    first .put-byte .ensures ⨟ second .put-byte2 .ensures
-
 pub put-two-spec : {M : Type 1} → statement M
 put-two-spec =
     tie.close
@@ -36,7 +29,7 @@ put-two-spec =
     add-result
     (λ c. search needs)
     (λ c. search needs)
-    (λ c κs. search needs)
+    (λ c. search needs)
     (λ c κs. search needs)
     (λ c. search needs)
-    returns-2)
+    (λ c. search needs))
