@@ -60,7 +60,7 @@ fn over(u: u16, base: u32) -> u32
 }
 
 // The character that ends with the unit `u`, after the first half `high`, or 0 where none waits.
-fn scalar(high: u16, u: u16) -> u32
+pub fn scalar(high: u16, u: u16) -> u32
     ensures { λ r. ⌜ r ≡ scalar high u ⌝ }
 {
     if high == 0 {
@@ -70,14 +70,14 @@ fn scalar(high: u16, u: u16) -> u32
 }
 
 // The first half that waits after the unit `u`.
-fn waiting(u: u16) -> u16
+pub fn waiting(u: u16) -> u16
     ensures { λ r. ⌜ r ≡ waiting u ⌝ }
 {
     if is_high(u) { u } else { 0 }
 }
 
 // ---- written
-fn put_character(out: &mut [u8], at: usize, c: u32) -> usize
+pub fn put_character(out: &mut [u8], at: usize, c: u32) -> usize
     requires { ⌜ c < 0x200000 ⌝ }
     ensures { λ r. ⌜ Wrote (now (out .entry)) at (utf8Of c) (now (out .exit)) r ⌝ }
 {

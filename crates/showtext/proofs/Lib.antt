@@ -1,0 +1,3 @@
+-- Laws that the functions' proofs cite, and worked examples.
+pub mod ShownLaws
+mod Worked

@@ -1,0 +1,2 @@
+-- What the writers of texts and values say.
+pub mod Shown
