@@ -72,7 +72,7 @@ pub fn put_owner(out: &mut [u8], at: usize, owner: Owner) -> usize
     }
 }
 
-fn put_name_or_id(out: &mut [u8], at: usize, name: &[u8], id: u32) -> usize
+pub fn put_name_or_id(out: &mut [u8], at: usize, name: &[u8], id: u32) -> usize
     ensures { λ r. ⌜ Wrote (now (out .entry)) at (orId (now (name .entry)) id) (now (out .exit)) r ⌝ }
 {
     if name.len() == 0 {

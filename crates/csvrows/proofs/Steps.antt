@@ -112,7 +112,7 @@ pub record ControlsLeft (stream controls rows : List ℕ) (count first : ℕ) (o
   pub few : next + manyFrom controls n left ≤ most
   pub rest : Remains old at (controlsText stream controls rows 0 count first) now p (controlsText stream controls rows n left next)
 
-many-step : (controls : List ℕ) (n left : ℕ) → 0 < left → manyFrom controls n left ≡ word (controlAt controls n) 5 + manyFrom controls (n + 1) (left - 1)
+pub many-step : (controls : List ℕ) (n left : ℕ) → 0 < left → manyFrom controls n left ≡ word (controlAt controls n) 5 + manyFrom controls (n + 1) (left - 1)
 unfolding manyFrom
 many-step controls n zero h = absurd (not-suc-le-zero h)
 many-step controls n (suc k) h = rw (sub-one (suc k)) refl
