@@ -17,7 +17,7 @@ ghost use Prim.Native.Nat.{ℕ, _≤_, _<_};
 ghost use lib.ListN.{length};
 ghost use Rattle.text.specs.Writer.{Wrote};
 ghost use Rattle.tabletext.specs.Input.{Began};
-ghost use Rattle.showform.specs.Printed.{partsShown, shownIn, zeros, smallInfos, smallControls, smallProperties, largeInfos, largeControls, largeProperties, shownFor, textRoom, printed, mostRead, Ready, Refused};
+ghost use Rattle.showform.specs.Printed.{partsShown, shownIn, zeros, smallInfos, smallControls, smallProperties, largeInfos, largeControls, largeProperties, printed, mostRead, Ready, Refused};
 
 // The longest Blob and the longest TypeInfo that are read.
 const LONGEST_STREAM: usize = 4194304;
@@ -207,7 +207,7 @@ fn show_long(input: &[u8])
 }
 
 // `head` is the start of the input; `whole` says that it is all that is read.
-// As it calls itself it is compiled apart, so that a small form doesn't need its stack of 77 MB.
+// As it calls itself it is compiled apart, so that a small form doesn't need its stack of 85 MB.
 fn show_large(head: &[u8], whole: bool)
     requires { ⌜ length (now head) ≤ mostRead ⌝ }
 {

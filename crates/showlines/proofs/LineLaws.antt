@@ -4,9 +4,8 @@ use native.Mathlib.Omega.{arith}
 use native.Mathlib.Nat.{not-suc-le-zero}
 use native.Mathlib.Numerals.{sub-one}
 use mathlib.Core.Path.{_≡_, refl, sym, ap, _∙_}
-use mathlib.Core.Bool.{Bool, true, false, cond}
+use mathlib.Core.Bool.{true, false}
 use mathlib.Core.List.{List, [], _∷_, _++_}
-use mathlib.Core.Option.{Option, none, some}
 use borrow.Author.Tests.{lt-ltb, le-ltb, eq-eqb, ne-eqb}
 use lib.Bits.{bitOr}
 use lib.Dec.{eqb}
@@ -29,7 +28,6 @@ use Rattle.fields.proofs.Tables.{absent, control-types}
 use Rattle.text.specs.Writer.{Wrote}
 use Rattle.showtext.specs.Shown.{quoted, looseText}
 use Rattle.showlines.specs.Lines.{laterKind, readingKind, readings, readingText, objects, objectLine, blanks, owner, objectOwner, headerMark, orType, storedType, controlOwner, scopeText, isUnmapped, unmappedText, keyText, orCode, typeText, nameText}
-use Rattle.showlines.specs.declared.Owner.{Owner}
 
 -- ---- which reading
 module _ (s : List ℕ) where

@@ -1,36 +1,32 @@
 -- What is shown of a reading, and that its rows can be counted, also after its controls were paired.
-use Prim.Native.Nat.{ℕ, zero, suc, _+_, _*_, _<_, _≤_}
+use Prim.Native.Nat.{ℕ, zero, suc, _+_, _*_, _≤_}
 use native.Mathlib.Omega.{arith}
 use mathlib.Core.Path.{_≡_, refl, sym, ap, ap₂, _∙_}
 use mathlib.Core.Bool.{Bool, true, false, cond}
-use mathlib.Core.List.{List, [], _++_}
+use mathlib.Core.List.{List}
 use mathlib.Core.Option.{some}
 use borrow.Author.Tests.{eq-eqb, ne-eqb}
 use lib.Dec.{ltb}
 use lib.ListN.{length}
-use Rattle.rules.specs.Lists.{text}
-use Rattle.rules.specs.Digits.{decimal}
 use Rattle.rules.specs.Answer.{answer, refusal, badRows, longest}
 use Rattle.rules.specs.CodeTable.{layout}
-use Rattle.rules.specs.Reading.{Reading, properties, controlRows}
+use Rattle.rules.specs.Reading.{properties}
 use Rattle.rules.specs.ReadLater.{readLater}
-use Rattle.rules.specs.Rows.{controlWidth, propertyWidth, room, rowAt, written}
+use Rattle.rules.specs.Rows.{controlWidth, propertyWidth, room}
 use Rattle.rules.specs.Blob.{Outcome, refused, read, speaks2000, outcome, outcomeLater, Exit, exitBy, exit, exitLater}
-use Rattle.rules.specs.TypeInfo.{TypeInfoExit, typeInfoExit}
+use Rattle.rules.specs.TypeInfo.{typeInfoExit}
 use Rattle.rules.specs.Pairing.{infosIn, typesSet, mayPair, PairExit, pairExit}
 use Rattle.rules.specs.Listing.{word, answerLine}
 use Rattle.rules.specs.declared.Answer.{Answer}
 use Rattle.rules.proofs.PairingLaws.{word-at, other-stays}
 use Rattle.listing.proofs.Printed.{Stated, stated-if, fit-stated, outcome-stated}
 use Rattle.names.specs.Lookup.{Lent}
-use Rattle.text.specs.Writer.{Wrote}
-use Rattle.text.proofs.Chain.{_⨟_, wrote-as}
 use Rattle.blob.specs.Exit.{exited}
 use Rattle.csvrows.specs.Rows.{controlAt, manyFrom}
 use Rattle.csvrows.proofs.SheetLaws.{rows-many}
 use Rattle.showlines.specs.Lines.{readingKind}
 use Rattle.showlines.specs.Rows.{slicesText, most}
-use Rattle.showlines.specs.Shown.{countsOf, shownBy, pairedExit, infoLine, pairedBy, shownPaired, ReadReady}
+use Rattle.showlines.specs.Shown.{countsOf, shownBy, pairedExit, infoLine, shownPaired, ReadReady}
 
 -- ---- refused, or read
 module _ (t s : List ℕ) (e : Exit) where

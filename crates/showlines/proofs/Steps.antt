@@ -16,7 +16,7 @@ use Rattle.rows.specs.Get.{PropertyOf, ControlOf}
 use Rattle.rows.specs.Put.{controlWords}
 use Rattle.rows.specs.declared.ControlRow.{ControlRow}
 use Rattle.text.specs.Writer.{Wrote}
-use Rattle.text.proofs.Chain.{_⨟_, wrote-as}
+use Rattle.text.proofs.Chain.{wrote-as}
 use Rattle.text.proofs.Remains.{Remains, all-remains, on, done}
 use Rattle.csvrows.specs.Rows.{controlAt, manyFrom}
 use Rattle.csvrows.proofs.Steps.{many-step}

@@ -1,6 +1,6 @@
 -- Worked examples: lines by hand.
 use mathlib.Core.Path.{_≡_, refl}
-use mathlib.Core.List.{[], _∷_, _++_}
+use mathlib.Core.List.{[], _∷_}
 use Rattle.rules.specs.Lists.{concat, find, text}
 use Rattle.rules.specs.Digits.{digit, decimalBy, decimal, hex, signedDecimal}
 use Rattle.rules.specs.NameTables.{numberNames, controlTypeNames}
@@ -14,7 +14,7 @@ use Rattle.rules.specs.Value.{signed}
 use Rattle.rules.specs.Csv.{orId, hexText}
 use Rattle.rules.specs.Listing.{number32}
 use Rattle.showtext.specs.Shown.{within, isTurning, isHidden, written, spelled, letters, quoted, cutMark, firstBytes, bytesText, looseText, valueBy}
-use Rattle.showlines.specs.Lines.{readingText, firstLine, objectLine, blanks, owner, objectOwner, headerMark, storedType, controlOwner, scopeText, isUnmapped, unmappedText, keyText, propertyLine, orCode, typeText, nameText, controlLine}
+use Rattle.showlines.specs.Lines.{readingText, firstLine, blanks, owner, objectOwner, headerMark, storedType, controlOwner, scopeText, isUnmapped, unmappedText, keyText, propertyLine, orCode, typeText, nameText, controlLine}
 use Rattle.showlines.specs.Rows.{markOf, markedFrom, unmappedIn}
 
 first : firstLine 0 9 43 2 ≡ text "Access 2000 form, 9 controls, 43 properties, 2 unmapped\n"

@@ -13,7 +13,6 @@ use utf16::is_high;
 use values::put_value;
 use values::value_bytes;
 ghost use mathlib.Core.Path.{_≡_};
-ghost use mathlib.Core.List.{_++_};
 ghost use Prim.Native.Nat.{_<_, min};
 ghost use Rattle.rules.specs.Reading.{propertyRow};
 ghost use Rattle.text.specs.Writer.{Wrote};
