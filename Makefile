@@ -1,7 +1,7 @@
 # The library for C.
 #
 #     make                                proves what is left to prove and writes target/staticlib/liboskuramos.a (needs `rt`)
-#     make install PREFIX=$HOME/.local    header, archive, code table, pkg-config file; DESTDIR goes before every path
+#     make install PREFIX=$HOME/.local    header, archive, code table, pkg-config file, manual page; DESTDIR goes before every path
 #     make uninstall PREFIX=$HOME/.local
 #     make check                          calls the archive from C and from Rust
 #
@@ -11,6 +11,7 @@ PREFIX ?= /usr/local
 INCLUDEDIR ?= $(PREFIX)/include
 LIBDIR ?= $(PREFIX)/lib
 DATADIR ?= $(PREFIX)/share
+MANDIR ?= $(DATADIR)/man
 INSTALL ?= install
 
 archive = target/staticlib/liboskuramos.a
@@ -21,6 +22,7 @@ library = $(DESTDIR)$(LIBDIR)/liboskuramos.a
 described = $(DESTDIR)$(LIBDIR)/pkgconfig/oskuramos.pc
 codes = $(DESTDIR)$(DATADIR)/oskuramos/access2000.codes
 licences = $(DESTDIR)$(DATADIR)/doc/oskuramos
+manual = $(DESTDIR)$(MANDIR)/man1/oskuramos.1
 
 .PHONY: all check install uninstall
 all:
@@ -40,11 +42,12 @@ install: $(archive)
 	$(INSTALL) -m 644 $(archive) "$(library)"
 	$(INSTALL) -m 644 data/access2000.codes "$(codes)"
 	$(INSTALL) -m 644 LICENSE-MIT LICENSE-APACHE NOTICE "$(licences)"
+	$(INSTALL) -D -m 644 man/oskuramos.1 "$(manual)"
 	sed -e 's|@PREFIX@|$(PREFIX)|' -e 's|@INCLUDEDIR@|$(INCLUDEDIR)|' -e 's|@LIBDIR@|$(LIBDIR)|' -e 's|@DATADIR@|$(DATADIR)|' \
 	    -e 's|@VERSION@|$(version)|' include/oskuramos.pc.in > "$(described)"
 	chmod 644 "$(described)"
 
 uninstall:
-	rm -f "$(header)" "$(library)" "$(described)" "$(codes)"
+	rm -f "$(header)" "$(library)" "$(described)" "$(codes)" "$(manual)"
 	rm -f "$(licences)/LICENSE-MIT" "$(licences)/LICENSE-APACHE" "$(licences)/NOTICE"
 	rmdir "$(DESTDIR)$(DATADIR)/oskuramos" "$(licences)" 2> /dev/null || true
