@@ -1,7 +1,7 @@
 # The library for C.
 #
 #     make                                proves what is left to prove and writes target/staticlib/liboskuramos.a (needs `rt`)
-#     make install PREFIX=$HOME/.local    header, archive, code table, pkg-config file, manual page; DESTDIR goes before every path
+#     make install PREFIX=$HOME/.local    header, archive, code table, pkg-config file, manual page and bash completion; DESTDIR goes before every path
 #     make uninstall PREFIX=$HOME/.local
 #     make check                          calls the archive from C and from Rust
 #
@@ -23,6 +23,7 @@ described = $(DESTDIR)$(LIBDIR)/pkgconfig/oskuramos.pc
 codes = $(DESTDIR)$(DATADIR)/oskuramos/access2000.codes
 licences = $(DESTDIR)$(DATADIR)/doc/oskuramos
 manual = $(DESTDIR)$(MANDIR)/man1/oskuramos.1
+completion = $(DESTDIR)$(DATADIR)/bash-completion/completions/oskuramos
 
 .PHONY: all check install uninstall
 all:
@@ -43,11 +44,12 @@ install: $(archive)
 	$(INSTALL) -m 644 data/access2000.codes "$(codes)"
 	$(INSTALL) -m 644 LICENSE-MIT LICENSE-APACHE NOTICE "$(licences)"
 	$(INSTALL) -D -m 644 man/oskuramos.1 "$(manual)"
+	$(INSTALL) -D -m 644 completion/oskuramos.bash "$(completion)"
 	sed -e 's|@PREFIX@|$(PREFIX)|' -e 's|@INCLUDEDIR@|$(INCLUDEDIR)|' -e 's|@LIBDIR@|$(LIBDIR)|' -e 's|@DATADIR@|$(DATADIR)|' \
 	    -e 's|@VERSION@|$(version)|' include/oskuramos.pc.in > "$(described)"
 	chmod 644 "$(described)"
 
 uninstall:
-	rm -f "$(header)" "$(library)" "$(described)" "$(codes)" "$(manual)"
+	rm -f "$(header)" "$(library)" "$(described)" "$(codes)" "$(manual)" "$(completion)"
 	rm -f "$(licences)/LICENSE-MIT" "$(licences)/LICENSE-APACHE" "$(licences)/NOTICE"
 	rmdir "$(DESTDIR)$(DATADIR)/oskuramos" "$(licences)" 2> /dev/null || true
