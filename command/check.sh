@@ -130,7 +130,7 @@ verb_file() { # FILE
     { IFS= read -r answer && read -r _ type mark start size; } <"$scratch/said" || :
     case $answer in
     "answer 0 1 "*)
-        printf 'yes %s\n' "$1"
+        printf 'yes %s\n' "$1" 2>/dev/null
         return 0
         ;;
     "answer 0 0 "*) ;;
@@ -143,6 +143,6 @@ verb_file() { # FILE
     row=${answer#answer 0 0 }
     row=${row%% *}
     why=$(what_broke "$rule" "$row" "$type" "$mark")
-    printf 'no %s: control %s %s: rule %s: %s%s\n' "$1" "$row" "$(shown_name "$mark" "$start" "$size")" "$rule" "$(rule_words "$rule")" "${why:+; $why}"
+    printf 'no %s: control %s %s: rule %s: %s%s\n' "$1" "$row" "$(shown_name "$mark" "$start" "$size")" "$rule" "$(rule_words "$rule")" "${why:+; $why}" 2>/dev/null
     return 1
 }

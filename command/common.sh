@@ -18,7 +18,8 @@ version() {
 scratch=
 beside=
 trap '[ -z "$scratch" ] || rm -rf "$scratch"; [ -z "$beside" ] || rm -f -- "$beside"' EXIT
-trap 'exit 2' HUP INT TERM
+# What is printed by the shell itself says 2>/dev/null: it would tell of a pipe that nobody reads any more.
+trap 'exit 2' HUP INT PIPE TERM
 
 # Makes the folder `scratch`, which is removed at the end.
 need_scratch() {

@@ -64,7 +64,7 @@ verb_file() { # FILE
         found=later words="the later layout" other="Access 2000" why="it begins with $first, and the layout byte is $layout"
         [ -n "$first" ] || why="it is empty"
     fi
-    printf '%s %s %s\n' "$found" "${first:--}" "$1"
+    printf '%s %s %s\n' "$found" "${first:--}" "$1" 2>/dev/null
     [ "$found" = "${expected:-$found}" ] && return 0
     say "$(called "$1") was refused: it speaks for $words, and $other is expected ($why); see in your register which file this is"
     return 1

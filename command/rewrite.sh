@@ -144,6 +144,6 @@ verb_file() { # FILE
             word=rewritten
         fi
     fi
-    printf '%s %s %s %s\n' "$word" "$had" "$has" "$1"
+    printf '%s %s %s %s\n' "$word" "$had" "$has" "$1" 2>/dev/null
     [ "$word" != long ]
 }

@@ -189,11 +189,11 @@ verb_end() {
     numbered 38 39 "$(printf 'unmapped\nmapped')" | with_bars "properties"
     numbered 40 48 "$(printf '%s\n' "$mark_words" | tr ' ' '\n')" | with_bars "values by kind" only
     if [ -s "$scratch/refused" ]; then
-        echo "refused, by answer"
+        echo "refused, by answer" 2>/dev/null
         sort -s -n -k 1,1 "$scratch/refused" | sed 's/^/  /'
     fi
     if [ -s "$scratch/codes" ]; then
-        echo "codes that the table lacks, by scope"
+        echo "codes that the table lacks, by scope" 2>/dev/null
         LC_ALL=C sort "$scratch/codes" | uniq -c | awk '{ printf "  %-10s %-18s %s %8d\n", ($2 == 2 ? $3 " " $4 : $3), $5, $6, $1 }'
     fi
 }
