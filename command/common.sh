@@ -132,10 +132,22 @@ show_progress() { # TOTAL START
     done
 }
 
+# The programs are for x86-64, with the kit's loader and C library; on another processor the kit has an emulator. Found once.
+loader=
+find_loader() {
+    [ -z "$loader" ] || return 0
+    command -v rt >/dev/null || die "the Rattle kit's command rt is not in PATH; CONTRIBUTING.md, \"What you need\", says what it is"
+    tools=$(dirname "$(dirname "$(rt doc)")")/on/$(uname -m)/toolchain
+    loader=$tools/lib/ld-linux-x86-64.so.2
+    emulator=$tools/bin/qemu-x86_64
+    [ -e "$loader" ] || die "the kit has no loader at $loader"
+    [ -x "$emulator" ] || emulator=
+}
+
 # Proves and builds a program where it is missing or older than a source.
 make_ready() { # CRATE
+    find_loader
     program=$root/target/bin/$1
-    command -v rt >/dev/null || die "the Rattle kit's command rt is not in PATH; CONTRIBUTING.md, \"What you need\", says what it is"
     if [ -x "$program" ] && [ -z "$(find "$root/crates" "$root/crates.txt" -newer "$program" -type f | head -n 1)" ]; then
         return
     fi
@@ -151,13 +163,8 @@ make_ready() { # CRATE
     touch "$program"
 }
 
-# Runs a built program: it is for x86-64, with the kit's loader and C library; on another processor the kit has an emulator.
+# Runs a built program.
 run_program() { # CRATE
-    tools=$(dirname "$(dirname "$(rt doc)")")/on/$(uname -m)/toolchain
-    loader=$tools/lib/ld-linux-x86-64.so.2
-    emulator=$tools/bin/qemu-x86_64
-    [ -e "$loader" ] || die "the kit has no loader at $loader"
-    [ -x "$emulator" ] || emulator=
     ${emulator:+"$emulator"} "$loader" --library-path "$tools/lib" "$root/target/bin/$1"
 }
 
