@@ -159,7 +159,8 @@ oskuramos_answer oskuramos_pair(const uint8_t *stream, size_t stream_length, uin
    digits each. A field is quoted where it holds a comma, a quote, CR or LF, and its quotes are doubled; only text can. Each record ends with CR LF.
    No NUL is written after the text, and text may hold one.
    Answers 0 with the length written, 0, 0, or 5, 8, 4, 6, 7 as oskuramos_read_blob, and then 13 where the text doesn't fit the buffer or has more than
-   4,294,967,295 bytes. A refusal, 13 too, writes no row and no byte. Rows, words and bytes after what is written keep their values. */
+   4,294,967,295 bytes. A refusal, 13 too, writes no row and no byte. Rows, words and bytes after what is written keep their values.
+   Room of 34 bytes, 94 for each property row lent and twice the stream's length holds every text, and is fastest: the text isn't measured first. */
 oskuramos_answer oskuramos_write_csv(const uint8_t *table, size_t table_length, const uint8_t *stream, size_t stream_length,
                                      uint32_t *controls, size_t controls_length, uint32_t *properties, size_t properties_length,
                                      uint8_t *out, size_t out_length);

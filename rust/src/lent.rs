@@ -120,6 +120,7 @@ pub fn differences(older: &[u8], newer: &[u8], stream: &[u8], rows: &mut [Differ
 
 /// Reads a Blob by a code table into rows, and writes its properties as comma-separated text; says how many bytes that has. A refusal, also
 /// [`Refused::NoRoomForSheet`] where the text doesn't fit, writes no row and no byte. What stands after rows and text keeps its values.
+/// Room of 34 bytes, 94 for each property row lent and twice the stream's length holds every text, and is fastest: the text isn't measured first.
 /// [`write_csv`](crate::write_csv()) does the same with room of its own.
 pub fn write_csv(
     table: &[u8],

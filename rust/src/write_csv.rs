@@ -8,8 +8,7 @@ use crate::{lent, Refused};
 /// name or, where it has none, its id in four digits of hex. Word and value are as they are listed, but for text, which is whole and in UTF-8, and bytes,
 /// which are in hex. Only text can need quotes. Each record ends with CR LF.
 ///
-/// Refused are [`TooLong`](Refused::TooLong), [`BadTable`](Refused::BadTable) and [`NoReading`](Refused::NoReading), in this order, and
-/// [`NoRoomForSheet`](Refused::NoRoomForSheet) where the text has more than 4,294,967,295 bytes.
+/// Refused are [`TooLong`](Refused::TooLong), [`BadTable`](Refused::BadTable) and [`NoReading`](Refused::NoReading), in this order.
 ///
 /// ```
 /// use oskuramos::{write_csv, ACCESS_2000_CODES};
@@ -27,17 +26,10 @@ pub fn write_csv(table: &[u8], stream: &[u8]) -> Result<Vec<u8>, Refused> {
     };
     let mut controls = vec![[0; lent::CONTROL_WORDS]; needed.controls];
     let mut properties = vec![[0; lent::PROPERTY_WORDS]; needed.properties];
-    // most texts fit this; a value takes up to twice its bytes, a record some hundred more
-    let mut text = vec![0; 64 + 64 * needed.properties + 2 * stream.len()];
-    loop {
-        match lent::write_csv(table, stream, &mut controls, &mut properties, &mut text) {
-            Err(Refused::NoRoomForSheet) if text.len() < u32::MAX as usize => text.resize(2 * text.len(), 0),
-            Err(refused) => return Err(refused),
-            Ok(length) => {
-                text.truncate(length);
-                text.shrink_to_fit();
-                return Ok(text);
-            }
-        }
-    }
+    // every text fits this: a value takes up to twice its bytes, a record 94 more, the header 34
+    let mut text = vec![0; 34 + 94 * needed.properties + 2 * stream.len()];
+    let length = lent::write_csv(table, stream, &mut controls, &mut properties, &mut text)?;
+    text.truncate(length);
+    text.shrink_to_fit();
+    Ok(text)
 }
