@@ -18,7 +18,7 @@ and its name), the first rule that it breaks, and what broke it. The rules:
   5  every Left, Top, Width or Height is a short, and no Width or Height is negative
   6  no control stands deeper than level 7
 Answer, control and rule come from a proved program. The words are plain code, and what broke the rule is taken from the lines of
-./oskuramos list; of a Blob that is too large for it that is left out. Letters of a name that aren't printing ASCII are shown as \u and
+./oskuramos list and ./oskuramos show; of a Blob that is too large for these that is left out. Letters of a name that aren't printing ASCII are shown as \u and
 four digits of hex, of a name that isn't UTF-16 as a backslash and two.
 A Blob has at most 16,777,216 bytes, 16,384 controls and 262,144 properties. One that is refused doesn't stop the others, and has no line.
 Exit status: 0 all yes; 1 a Blob breaks a rule; 2 a Blob or the code table was refused, or a file couldn't be read.
@@ -48,6 +48,7 @@ verb_ready() {
     [ "$table_size" -le "$longest_table" ] || die "$table is no code table: it has more than $longest_table bytes"
     make_ready panelsay
     make_ready bloblist
+    make_ready showform
     large_stack
     { four_bytes "$table_size" && cat -- "$table_file"; } >"$scratch/head"
 }
@@ -89,6 +90,22 @@ shown_name() { # MARK START SIZE
         }'
 }
 
+# The first control with the name of control ROW, from the lines of ./oskuramos show.
+same_name() { # ROW
+    { cat -- "$scratch/head" && four_bytes 0 && cat -- "$taken"; } | run_program showform >"$scratch/shown" || return 0
+    awk -v row="$1" '
+        $1 ~ /^#/ {
+            n = substr($1, 2) + 0
+            name = $0
+            sub(/^ *#[0-9]+ (type )?[^ ]+ /, "", name)
+            if (n < row) names[n] = name
+            else {
+                for (i = 0; i < row; i++) if (names[i] == name) { printf "control %d has this name", i; exit }
+                exit
+            }
+        }' "$scratch/shown"
+}
+
 # What broke a rule, from the lines of a listing.
 what_broke() { # RULE ROW TYPE MARK
     case $1 in
@@ -101,7 +118,7 @@ what_broke() { # RULE ROW TYPE MARK
         return
         ;;
     3)
-        printf 'an earlier control has this name'
+        same_name "$2"
         return
         ;;
     esac

@@ -33,7 +33,7 @@ def box(sources):
 BROKEN = [
     ("no-type", 1, "its type is 0001", [make.named_2000(0x01, "odd")]),
     ("no-name", 2, "is numbered", [make.entry(make.LABEL, [])]),
-    ("same-name", 3, "an earlier control has this name", [label("lbl"), label("lbl")]),
+    ("same-name", 3, "control 1 has this name", [label("lbl"), label("lbl")]),
     ("no-source", 4, "it has none", [box([])]),
     ("two-sources", 4, "it has 2", [box(["A", "B"])]),
     ("no-letters", 4, "it has one that is empty", [box([""])]),
