@@ -34,7 +34,6 @@ pub struct Left {
 // After the records of the run at `at`, of each of which the owner's fields take `owner` bytes.
 fn run_left(
     table: &[u8],
-    hints: &mut [u8; HINTS],
     body: Body,
     s: &[u8],
     at: usize,
@@ -84,7 +83,7 @@ fn node_left(
         number: n,
         type_code: type_code(table, is_report(s), entry_type),
     });
-    run_left(table, hints, body, s, at + 2, index, letters, owner, all)
+    run_left(table, body, s, at + 2, index, letters, owner, all)
 }
 
 // After the records of what is reported of the top list, which has `n` entries from `at` on.
@@ -125,17 +124,7 @@ pub fn sheet_left(table: &[u8], s: &[u8], index: &[u32], letters: &[u8], all: us
     list_scopes(table, &mut scopes);
     let body = find_scope(table, &mut hints, &scopes, object_scope(s), 0);
     let owner = owner_size(Owner::Object);
-    let own = run_left(
-        table,
-        &mut hints,
-        body,
-        s,
-        OBJECT_RUN,
-        index,
-        letters,
-        owner,
-        all,
-    );
+    let own = run_left(table, body, s, OBJECT_RUN, index, letters, owner, all);
     let left = own.left;
     match head(s, own.at) {
         Opens::Listed { count, next } => top_left(

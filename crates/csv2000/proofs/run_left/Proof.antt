@@ -17,10 +17,10 @@ use Rattle.csv2000.proofs.run_left.Statement.{statement}
 use Rattle.csv2000.proofs.run_left.Tie as tie
 
 abbrev Inv-loop : tie.InvT-loop
-Inv-loop table hints₀ body s at index letters owner all p₀ left₀ p left = Taking table body s at owner all p left
+Inv-loop table body s at index letters owner all p₀ left₀ p left = Taking table body s at owner all p left
 
 abbrev μ-loop : tie.MeasureT-loop
-μ-loop table hints₀ body s at index letters owner all p₀ left₀ p left = length s - p
+μ-loop table body s at index letters owner all p₀ left₀ p left = length s - p
 
 -- a property starts here, in the stream that is lent at the start
 abbrev start-of : tie.Else1 Inv-loop μ-loop → tie.Start Inv-loop μ-loop
