@@ -76,15 +76,19 @@ module _ (c : ℕ) where
 
     pub a-sign : c < 0x7F → false ≡ isHidden c
     unfolding isHidden
-    a-sign k = rw (first-over, under 0x7F 0x9F k) (before-marks (omega arith))
+    a-sign k = rw (first-over, under 0x7F 0x9F k, ne-eqb c 0x061C (λ e. omega arith)) (before-marks (omega arith))
 
     pub delete-on : 0x7F ≤ c → c ≤ 0x9F → true ≡ isHidden c
     unfolding isHidden
     delete-on k l = rw (first-over, inside 0x7F 0x9F k l)
 
-    pub after-controls : 0x9F < c → isTurning c ≡ isHidden c
+    pub a-letter-mark : 0x9F < c → c ≡ 0x061C → true ≡ isHidden c
     unfolding isHidden
-    after-controls k = rw (first-over, over 0x7F 0x9F (omega arith) k)
+    a-letter-mark k e = rw (first-over, over 0x7F 0x9F (omega arith) k, eq-eqb c 0x061C e)
+
+    pub after-controls : 0x9F < c → ¬ (c ≡ 0x061C) → isTurning c ≡ isHidden c
+    unfolding isHidden
+    after-controls k n = rw (first-over, over 0x7F 0x9F (omega arith) k, ne-eqb c 0x061C n)
 
 -- ---- a character
 module _ (c : ℕ) where

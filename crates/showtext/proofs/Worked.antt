@@ -16,8 +16,8 @@ escapes : quoted (0x61 ∷ 0 ∷ 0x22 ∷ 0 ∷ 0x5C ∷ 0 ∷ 0x0A ∷ 0 ∷ 0x
 unfolding quoted letters concat scalars scalarsFrom scalar spelled written isHidden isTurning within utf8Of hex digit
 escapes = refl
 
--- U+200E, U+202E, U+2066 and U+FEFF are hidden; U+2010 and U+2070 aren't
-turning : quoted (0x0E ∷ 0x20 ∷ 0x2E ∷ 0x20 ∷ 0x66 ∷ 0x20 ∷ 0xFF ∷ 0xFE ∷ []) ≡ text "\"\\u200E\\u202E\\u2066\\uFEFF\""
+-- U+061C, U+200E, U+202E, U+2066 and U+FEFF are hidden; U+2010 and U+2070 aren't
+turning : quoted (0x1C ∷ 0x06 ∷ 0x0E ∷ 0x20 ∷ 0x2E ∷ 0x20 ∷ 0x66 ∷ 0x20 ∷ 0xFF ∷ 0xFE ∷ []) ≡ text "\"\\u061C\\u200E\\u202E\\u2066\\uFEFF\""
 unfolding quoted letters concat scalars scalarsFrom scalar spelled written isHidden isTurning within utf8Of hex digit
 turning = refl
 

@@ -22,9 +22,9 @@ within first last c = leb first c && leb c last
 unfoldable pub isTurning : ℕ → Bool
 isTurning c = within 0x200E 0x200F c || (within 0x2028 0x202E c || (within 0x2066 0x2069 c || eqb c 0xFEFF))
 
--- control characters and these are never written as they are
+-- control characters, the mark of Arabic letters and these are never written as they are
 unfoldable pub isHidden : ℕ → Bool
-isHidden c = within 0x00 0x1F c || (within 0x7F 0x9F c || isTurning c)
+isHidden c = within 0x00 0x1F c || (within 0x7F 0x9F c || (eqb c 0x061C || isTurning c))
 
 -- `\u` and four digits for what is hidden, all else in UTF-8
 unfoldable pub written : ℕ → List ℕ

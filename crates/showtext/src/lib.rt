@@ -21,6 +21,9 @@ ghost use Rattle.showtext.specs.Shown.{isTurning, isHidden, written, spe
 // Of more bytes than these the first are shown.
 const MOST_SHOWN: u32 = 32;
 
+// The mark of Arabic letters, which turns what stands beside it.
+const LETTER_MARK: u32 = 0x061C;
+
 // ---- characters
 // Marks that turn a line round, lines and paragraphs, isolates, and the mark of byte order.
 fn is_turning(c: u32) -> bool
@@ -57,6 +60,9 @@ fn is_hidden(c: u32) -> bool
         return false;
     }
     if c <= 0x9F {
+        return true;
+    }
+    if c == LETTER_MARK {
         return true;
     }
     is_turning(c)
