@@ -30,9 +30,9 @@ const OBJECT_BYTE: usize = 8;
 const REPORT: u8 = 0x97;
 
 // Joined by OR to a header code, of a form and of a report.
-const FORM_HEADER: u32 = 0x1800;
+pub const FORM_HEADER: u32 = 0x1800;
 
-const REPORT_HEADER: u32 = 0x1900;
+pub const REPORT_HEADER: u32 = 0x1900;
 
 fn name_id(entry_type: u16) -> u8
     ensures { λ r. ⌜ r ≡ nameId «entry_type» ⌝ }

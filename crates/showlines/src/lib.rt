@@ -1,7 +1,13 @@
 // A Blob shown to a person: lines with what it is, its controls and their properties, written into a lent buffer.
+use codetable::CODE_SIZE;
+use codetable::HEADER_AT;
+use codetable::HEADER_COUNT_AT;
+use countlater::OBJECT_AT;
 use csvrecord::put_name_or_id;
 use fields::put_end;
 use listing::answer_line;
+use node2000::FORM_HEADER;
+use node2000::REPORT_HEADER;
 use node2000::is_report;
 use numbers::byte_at;
 use numbers::u16_at;
@@ -53,19 +59,6 @@ const ENTRY: u32 = 2;
 
 const NO_SCOPE: u32 = 3;
 
-// No shorter stream of the later layout has a tree.
-const SHORTEST_LATER: usize = 14;
-
-// Joined by OR to a header code, of a form and of a report.
-const FORM_HEADER: u32 = 0x1800;
-
-const REPORT_HEADER: u32 = 0x1900;
-
-// In a code table, where the number of header codes stands, and the codes.
-const HEADER_COUNT_AT: usize = 1;
-
-const HEADER_AT: usize = 4;
-
 // No table of names has an id above this one.
 const LAST_NAMED: u32 = 0xffff;
 
@@ -88,7 +81,7 @@ pub struct Counts {
 fn later_kind(stream: &[u8]) -> u32
     ensures { λ r. ⌜ r ≡ laterKind (now (stream .entry)) ⌝ }
 {
-    if stream.len() < SHORTEST_LATER {
+    if stream.len() < OBJECT_AT {
         return TOO_SHORT;
     }
     let counts = countlater::count(stream);
@@ -188,7 +181,7 @@ fn stored_type(table: &[u8], mark: u32, type_code: u32) -> u32
         if bit_or(mark, code) == type_code {
             return code;
         }
-        at += 2;
+        at += CODE_SIZE;
         left -= 1;
     }
     type_code
