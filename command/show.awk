@@ -119,9 +119,10 @@ function json_property(key, value,    part) {
 # ---- lines
 function paint(s, how) { return colour ? "\033[" how "m" s "\033[0m" : s }
 
+# Ids such as 00E1 are compared as text: as numbers 00E1 and 00E4 are both 0.
 function wanted(key) {
     if (want == "unmapped") return key ~ /^!! /
-    return by_id ? id[row] == want : key == want
+    return by_id ? id[row] "" == want "" : key "" == want ""
 }
 
 BEGIN {

@@ -27,7 +27,8 @@ two blanks further in than what it stands in:
   #3 TextBox "txtVolt"           a control: number, type and name. type 1B77 is a type without a name; Control_7 has no name of its own;
                                  loose 3 bytes 6F6464 is a name that isn't UTF-16
   Left = 900                     a property: its name, or its id in four hex digits, and its value
-  !! unmapped code 2F of form    a code that the table lacks: the code as stored, and the scope in which it was looked for
+  !! unmapped code 2F of form    a code that the table lacks: the code as stored, and the scope by the control's type (entry 006D). For a header or
+                                 footer that is the first header code of the table that gives its type; ./oskuramos diff has the type as stored
 Values: yes and no; set (that it is there says that a setting isn't at its default); numbers; a double as decimal, with its bits; GUIDs; a text
 whole, in quotes, as UTF-8 with the escapes of JSON; bytes by their number and in hex, and .. where only the first 32 are shown.
 What looks like no form, or like a part of one, is told on standard error: no control and no property, a scan, the beginning of a TypeInfo, of a
@@ -35,7 +36,8 @@ database or of text. Several Blobs get a line `file` with the name each, and a l
 standard error); one that is refused doesn't stop the others.
 The lines come from a proved program. Decimals of doubles, --only, --json, colours, warnings and totals are made by this command; that is plain code.
 A Blob has at most 4,194,304 bytes, 16,384 controls and 262,144 properties, and what is shown of it 50,331,648 bytes.
-Exit status: 0 all shown, whether --only found something or not; 1 a Blob, the code table or TypeInfo was refused; 2 a file couldn't be read.
+Exit status: 0 all shown, whether --only found something or not; 1 a Blob, the code table or TypeInfo was refused; 2 a file couldn't be read,
+or the code table has more than 65,536 bytes.
 
     ./oskuramos show examples/form-2000.blob
     ./oskuramos show --only unmapped examples/*.blob
@@ -117,8 +119,9 @@ verb_ready() { # BLOB..
     if [ -n "$info" ]; then
         take_file "$info" "$longest" || exit 2
         info_file=$taken
+        [ "$(size_of "$info_file")" -gt 0 ] || { refused "$(called "$info")" "answer 1 "; exit 1; }
         [ "$(size_of "$info_file")" -le "$longest" ] || { refused "$(called "$info")" "answer 5 "; exit 1; }
-        [ "$table_size" -gt 0 ] || die "$table is no code table: it is empty"
+        [ "$table_size" -gt 0 ] || { refused "$table" "answer 8 "; exit 1; }
     fi
     make_ready showform
     if [ "$mode" = json ] || [ -n "$by_id" ]; then make_ready bloblist; fi
@@ -224,6 +227,7 @@ list_rows() {
 }
 
 failed() { # PROGRAM FILE
+    [ "$mode" != json ] || no_object "$2" null "the program $1 failed"
     say "the program $1 failed on $(called "$2"); a long stream needs a stack of $stack_kb KB, and the limit here is $(ulimit -s) (ulimit -Hs)"
     return 2
 }
