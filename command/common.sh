@@ -169,7 +169,7 @@ run_program() { # CRATE
 }
 
 # Runs a program on standard input and passes on what it prints; its first line is `answer` and a number, and the status is 1 where that isn't 0.
-# `scratch` is there already: behind a pipe this is a shell of its own.
+# `scratch` is there already: after a pipe this is a shell of its own.
 answer_of() { # CRATE FILE
     if ! run_program "$1" >"$scratch/printed"; then
         say "the program $1 failed on $2; a long stream needs a stack of $stack_kb KB, and the limit here is $(ulimit -s) (ulimit -Hs)"
