@@ -9,7 +9,6 @@ use mathlib.Core.Option.{Option, none, some}
 use borrow.Author.Tests.{ltb-false, eq-eqb, ne-eqb, not-false}
 use lib.Dec.{ltb}
 use lib.ListN.{length, getD, length-append}
-use Rattle.rules.specs.Lists.{text}
 use Rattle.rules.specs.Answer.{answer, refusal, longest, otherHead}
 use Rattle.rules.specs.CodeTable.{wellFormed, scopes}
 use Rattle.rules.specs.Join.{sameHead}
@@ -22,21 +21,15 @@ use Rattle.rules.specs.declared.Answer.{Answer}
 use Rattle.rules.proofs.ListLaws.{and-l, and-r}
 use Rattle.blob.specs.Exit as blob
 use Rattle.differences.specs.Exit.{exited}
-use Rattle.coderows.specs.declared.Row as sought
-use Rattle.coderows.specs.declared.Row.the-variants.{Tied, Untied}
-use Rattle.tablebytes.specs.Rows.{tieOf}
 use Rattle.succession.specs.Lacks.{scopesLack}
 use Rattle.succession.specs.Found.{asLack}
-use Rattle.succession.specs.declared.Lack.{Lack}
-use Rattle.tabletext.specs.Text.{rowLine, scopeName, typeRemark}
-use Rattle.tabletext.proofs.Longest.{scope-name-short, type-short, row-short}
-use Rattle.joinwhy.specs.Why.{why}
-use Rattle.joinwhy.proofs.Longest.{why-short}
+use Rattle.joinwhy.specs.Why.{lackText, why}
+use Rattle.joinwhy.proofs.Longest.{lack-short, why-short}
 use Rattle.text.specs.Writer.{Wrote}
 use Rattle.text.proofs.Chain.{nothing, _⨟_}
 use Rattle.listing.specs.Shown.{linesTo}
 use Rattle.listing.proofs.Longest.{Word32, lines-short}
-use Rattle.difflist.specs.Lines.{tie, differenceLine, otherLine, lackText, whyNot}
+use Rattle.difflist.specs.Lines.{differenceLine, whyNot}
 use Rattle.difflist.specs.Listed.{named, saidBy, said, mostSaid, Written}
 use Rattle.difflist.proofs.Words.{line-short}
 
@@ -70,32 +63,7 @@ module _ (older newer s : List ℕ) (most : ℕ) where
       by-cases (λ a. a .number ≡ 0 → a .first ≤ most)
       (λ e. omega arith) (λ e. omega arith) (λ w e. omega arith) (λ e. omega arith) (λ n m e. absurd (omega arith)) (λ n m l e. l)
 
--- ---- why not, in at most 131 bytes: a scope's line has 41, a row's 45
-other-short : (id : ℕ) (o : sought.Row) → length (otherLine id o) ≤ 45
-unfolding otherLine
-other-short id Untied = omega arith
-other-short id (Tied target kind) = row-short (tie id target kind)
-
-lack-short : (l : Lack) → length (lackText l) ≤ 131
-unfolding lackText
-lack-short l = go (l .found)
-  where
-    go : (b : Bool)
-        → length (cond b (scopeName (l .kind) (l .code) ++ (typeRemark (l .kind) (l .code) ++ (text "\n" ++ (rowLine (tieOf (l .row)) ++ otherLine (l .row .id) (l .other))))) []) ≤ 131
-    go true =
-        simp length-append
-        (omega (arith, scope-name-short (l .kind) (l .code), type-short (l .kind) (l .code) (ltb (l .kind) 2) refl, row-short (tieOf (l .row)), other-short (l .row .id) (l .other)))
-    go false = omega arith
-
-pub lack-none : (l : Lack) → l .found ≡ false → lackText l ≡ []
-unfolding lackText
-lack-none l e = rw e
-
-pub lack-some : (l : Lack) → l .found ≡ true
-    → lackText l ≡ scopeName (l .kind) (l .code) ++ (typeRemark (l .kind) (l .code) ++ (text "\n" ++ (rowLine (tieOf (l .row)) ++ otherLine (l .row .id) (l .other))))
-unfolding lackText
-lack-some l e = rw e
-
+-- ---- why not, in at most 131 bytes
 why-not-short : (older newer : List ℕ) → wellFormed older ≡ true → wellFormed newer ≡ true → length (whyNot older newer) ≤ 131
 unfolding whyNot
 why-not-short older newer w v = go (sameHead older newer)

@@ -8,7 +8,8 @@ use Rattle.coderows.specs.declared.Row.the-variants.{Tied, Untied}
 use Rattle.tabletext.specs.Text.{rowLine, kindWord, markOf, remark, scopeName, typeRemark}
 use Rattle.succession.specs.declared.Lack.{Lack}
 use Rattle.succession.specs.Found.{rowFrom}
-use Rattle.difflist.specs.Lines.{spaced, differenceLine, otherLine, lackText}
+use Rattle.joinwhy.specs.Why.{otherLine, lackText}
+use Rattle.difflist.specs.Lines.{spaced, differenceLine}
 
 -- a property of control 1 of two, whose row begins with type 109, name mark 0, start 57, length 14
 control-named : differenceLine (152 ∷ 0 ∷ 20 ∷ 12 ∷ 1 ∷ 1 ∷ 0 ∷ 4294967295 ∷ 109 ∷ 0 ∷ 57 ∷ 14 ∷ 2 ∷ 3 ∷ 1 ∷ 0 ∷ []) 0 (4 ∷ 1 ∷ 221 ∷ 2 ∷ 109 ∷ 32989 ∷ 27 ∷ 6 ∷ 73 ∷ 8 ∷ [])

@@ -14,18 +14,13 @@ use Rattle.rules.specs.Lists.{text}
 use Rattle.rules.specs.Answer.{otherHead}
 use Rattle.rules.specs.Bytes.{part}
 use Rattle.rules.specs.Digits.{decimal}
-use Rattle.rules.specs.CodeTable.{Tie, scopes}
+use Rattle.rules.specs.CodeTable.{scopes}
 use Rattle.rules.specs.Join.{sameHead}
 use Rattle.rules.specs.Rows.{controlWidth}
 use Rattle.rules.specs.Listing.{word}
-use Rattle.coderows.specs.declared.Row as sought
-use Rattle.coderows.specs.declared.Row.the-variants.{Tied, Untied}
-use Rattle.tablebytes.specs.Rows.{tieOf}
-use Rattle.tabletext.specs.Text.{rowLine, scopeName, typeRemark}
-use Rattle.joinwhy.specs.Why.{why}
+use Rattle.joinwhy.specs.Why.{lackText, why}
 use Rattle.succession.specs.Lacks.{scopesLack}
 use Rattle.succession.specs.Found.{asLack}
-use Rattle.succession.specs.declared.Lack.{Lack}
 
 -- ---- differences
 -- words in decimal, each after a blank
@@ -38,20 +33,5 @@ unfoldable pub differenceLine : List ℕ → ℕ → List ℕ → List ℕ
 differenceLine controls n row = text "D" ++ (spaced row ++ (spaced (part controls (word row 1 * controlWidth) 4) ++ text "\n"))
 
 -- ---- why not
-abbrev pub tie : ℕ → ℕ → ℕ → Tie
-tie id target kind = record { id = id; target = target; kind = kind }
-
--- what the newer table has for an id
-unfoldable pub otherLine : ℕ → sought.Row → List ℕ
-otherLine id Untied = text "none\n"
-otherLine id (Tied target kind) = rowLine (tie id target kind)
-
--- the scope, the older table's row, the newer's
-unfoldable pub lackText : Lack → List ℕ
-lackText l =
-    cond (l .found)
-    (scopeName (l .kind) (l .code) ++ (typeRemark (l .kind) (l .code) ++ (text "\n" ++ (rowLine (tieOf (l .row)) ++ otherLine (l .row .id) (l .other)))))
-    []
-
 unfoldable pub whyNot : List ℕ → List ℕ → List ℕ
 whyNot older newer = cond (sameHead older newer) (lackText (asLack (scopesLack newer (scopes older)))) (why otherHead older newer)

@@ -14,14 +14,9 @@ use rows::PROPERTY_WIDTH;
 use rules::BAD_TABLE;
 use rules::LONGEST;
 use rules::OTHER_HEAD;
-use succession::Lack;
 use succession::first_lack;
-use tabletext::put_row;
-use tabletext::put_scope_name;
-use tabletext::put_type_remark;
 use text::put_byte;
 use text::put_decimal;
-use text::put_text;
 ghost use mathlib.Core.Path.{_≡_};
 ghost use mathlib.Core.Bool.{true};
 ghost use mathlib.Core.List.{List};
@@ -34,7 +29,7 @@ ghost use Rattle.rules.specs.Listing.{word};
 ghost use Rattle.text.specs.Writer.{Wrote};
 ghost use Rattle.listing.specs.Shown.{linesTo};
 ghost use Rattle.tabletext.specs.Input.{Began};
-ghost use Rattle.difflist.specs.Lines.{spaced, differenceLine, otherLine, lackText, whyNot};
+ghost use Rattle.difflist.specs.Lines.{spaced, differenceLine, whyNot};
 ghost use Rattle.difflist.specs.Listed.{said, listedAfter, listed, listedOf, mostRead, mostSaid, zeros, smallRows, smallControls, smallProperties, smallSaid, largeRows, largeControls, largeProperties, largeSaid, Ready, Written};
 
 // One byte more is read than two tables and the longest stream have with the lengths, so that a longer one is told.
@@ -164,38 +159,6 @@ fn difference_lines(out: &mut [u8], at: usize, rows: &[u32], count: u32, control
 }
 
 // ---- why the newer table is no successor
-// What the newer table has for an id.
-fn put_other(out: &mut [u8], at: usize, id: u8, other: coderows::Row) -> usize
-    ensures { λ r. ⌜ Wrote (now (out .entry)) at (otherLine id other) (now (out .exit)) r ⌝ }
-{
-    let coderows::Row::Tied { target, kind } = other else {
-        return put_text(out, at, b"none\n");
-    };
-    put_row(out, at, id as usize, target as usize, kind as usize)
-}
-
-// A scope, the older table's row, and what the newer has for its id.
-fn put_lack(out: &mut [u8], at: usize, lack: Lack) -> usize
-    ensures { λ r. ⌜ Wrote (now (out .entry)) at (lackText lack) (now (out .exit)) r ⌝ }
-{
-    if !lack.found {
-        return at;
-    }
-    let p = put_scope_name(out, at, lack.kind as u32, lack.code as u32);
-    let p = put_type_remark(out, p, lack.kind as u32, lack.code);
-    let p = put_byte(out, p, b'\n');
-    let row = lack.row;
-    let other = lack.other;
-    let p = put_row(
-        out,
-        p,
-        row.id as usize,
-        row.target as usize,
-        row.kind as usize,
-    );
-    put_other(out, p, row.id, other)
-}
-
 fn put_why_not(out: &mut [u8], at: usize, older: &[u8], newer: &[u8]) -> usize
     requires { ⌜ wellFormed (now newer) ≡ true ⌝ }
     ensures { λ r. ⌜ Wrote (now (out .entry)) at (whyNot (now (older .entry)) (now (newer .entry))) (now (out .exit)) r ⌝ }
@@ -204,7 +167,7 @@ fn put_why_not(out: &mut [u8], at: usize, older: &[u8], newer: &[u8]) -> usize
         return joinwhy::put_why(out, at, OTHER_HEAD, older, newer);
     }
     let lack = first_lack(older, newer);
-    put_lack(out, at, lack)
+    joinwhy::put_lack(out, at, lack)
 }
 
 // ---- all that is said

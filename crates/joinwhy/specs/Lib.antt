@@ -1,3 +1,2 @@
 -- Why two code tables can't be joined, and how the code says it.
 pub mod Why
-pub mod Found

@@ -12,15 +12,20 @@
 --     60 0037 number  # Top
 use Prim.Native.Nat.{ℕ}
 use mathlib.Core.Path.{_≡_}
-use mathlib.Core.Bool.{cond, _&&_}
+use mathlib.Core.Bool.{false, cond, _&&_}
 use mathlib.Core.List.{List, [], _∷_, _++_}
 use mathlib.Core.Option.{Option, none, some}
 use lib.Dec.{eqb}
-use Rattle.rules.specs.Lists.{_>>=_, text, find}
+use Rattle.rules.specs.Lists.{text}
 use Rattle.rules.specs.Answer.{otherHead, twoRows}
 use Rattle.rules.specs.Digits.{hex}
-use Rattle.rules.specs.CodeTable.{Tie, Scope, layout, header, scopes, wellFormed, isTied, scopeRows, Holds}
-use Rattle.rules.specs.Join.{sameRow}
+use Rattle.rules.specs.CodeTable.{Tie, layout, header, scopes, wellFormed, Holds}
+use Rattle.coderows.specs.declared.Row as sought
+use Rattle.coderows.specs.declared.Row.the-variants.{Tied, Untied}
+use Rattle.tablebytes.specs.Rows.{tieOf}
+use Rattle.succession.specs.Lacks.{Lack, scopesOther}
+use Rattle.succession.specs.Found.{asLack}
+use Rattle.succession.specs.declared.Lack as told
 use Rattle.tabletext.specs.Text.{rowLine, scopeName, typeRemark}
 
 -- ---- 16
@@ -32,49 +37,36 @@ unfoldable pub headLine : List ℕ → List ℕ
 headLine t = text "layout " ++ (hex 2 (layout t) ++ (text " header" ++ (codeWords (header t) ++ text "\n")))
 
 -- ---- 17
--- a scope, a row that one table has there, and the other's with the same id
-pub record Clash : Type 0 where
-  pub kind : ℕ
-  pub code : ℕ
-  pub row : Tie
-  pub other : Tie
-
--- what rows have for the id of r, where it is not the same row
-unfoldable pub against : List Tie → Tie → Option Tie
-against rs r = find (isTied (r .id)) rs >>= λ r′. cond (sameRow r r′) none (some r′)
-
-unfoldable pub orElse : {A : Type 0} → Option A → Option A → Option A
-orElse none y = y
-orElse (some x) y = some x
-
--- the first of rs that clashes with one of rs′, the rows of the same scope in the other table
-unfoldable pub rowsClash : ℕ → ℕ → List Tie → List Tie → Option Clash
-rowsClash kind code rs′ [] = none
-rowsClash kind code rs′ (r ∷ rs) =
-    orElse (against rs′ r >>= λ r′. some (record { kind = kind; code = code; row = r; other = r′ })) (rowsClash kind code rs′ rs)
-
--- the first row of these scopes that clashes with one of the table t′
-unfoldable pub scopesClash : List ℕ → List Scope → Option Clash
-scopesClash t′ [] = none
-scopesClash t′ (s ∷ ss) = orElse (rowsClash (s .kind) (s .code) (scopeRows t′ (s .kind) (s .code)) (s .rows)) (scopesClash t′ ss)
-
--- of two well-formed tables
-unfoldable pub firstClash : List ℕ → List ℕ → Option Clash
-firstClash t t′ = cond (wellFormed t && wellFormed t′) (scopesClash t′ (scopes t)) none
+-- of two well-formed tables the first row of t for whose scope and id t′ has another
+unfoldable pub firstClash : List ℕ → List ℕ → Option Lack
+firstClash t t′ = cond (wellFormed t && wellFormed t′) (scopesOther false t′ (scopes t)) none
 
 -- what is found is that "one scope and id has two different rows"
-pub record Clashes (t t′ : List ℕ) (c : Clash) : Type 0 where
+pub record Clashes (t t′ : List ℕ) (c : Lack) : Type 0 where
+  pub another : Tie
+  pub is-other : c .other ≡ some another
   pub in-one : Holds t (c .kind) (c .code) (c .row)
-  pub in-other : Holds t′ (c .kind) (c .code) (c .other)
-  pub one-id : c .row .id ≡ c .other .id
-  pub differ : ¬ (c .row ≡ c .other)
+  pub in-other : Holds t′ (c .kind) (c .code) another
+  pub one-id : c .row .id ≡ another .id
+  pub differ : ¬ (c .row ≡ another)
 
-unfoldable pub clashLines : Option Clash → List ℕ
-clashLines none = []
-clashLines (some c) = scopeName (c .kind) (c .code) ++ (typeRemark (c .kind) (c .code) ++ (text "\n" ++ (rowLine (c .row) ++ rowLine (c .other))))
+abbrev pub tie : ℕ → ℕ → ℕ → Tie
+tie id target kind = record { id = id; target = target; kind = kind }
+
+-- what the other table has for an id: of a clash never none
+unfoldable pub otherLine : ℕ → sought.Row → List ℕ
+otherLine id Untied = text "none\n"
+otherLine id (Tied target kind) = rowLine (tie id target kind)
+
+-- the scope, the one table's row, the other's
+unfoldable pub lackText : told.Lack → List ℕ
+lackText l =
+    cond (l .found)
+    (scopeName (l .kind) (l .code) ++ (typeRemark (l .kind) (l .code) ++ (text "\n" ++ (rowLine (tieOf (l .row)) ++ otherLine (l .row .id) (l .other)))))
+    []
 
 -- ---- what is said where joining t and t′ gives this answer
 unfoldable pub why : ℕ → List ℕ → List ℕ → List ℕ
 why number t t′ =
     cond (eqb number otherHead) (headLine t ++ headLine t′)
-    (cond (eqb number twoRows) (clashLines (firstClash t t′)) [])
+    (cond (eqb number twoRows) (lackText (asLack (firstClash t t′))) [])

@@ -1,7 +1,7 @@
 -- What the functions ask, and what they find, in the terms of the definition.
 use Prim.Native.Nat.{ℕ, _+_, _*_, _<_, _^_}
 use mathlib.Core.Path.{_≡_}
-use mathlib.Core.Bool.{Bool, true, false, _&&_}
+use mathlib.Core.Bool.{Bool, true, false, not, _&&_}
 use mathlib.Core.Option.{Option, none, some}
 use mathlib.Core.List.{List}
 use lib.Dec.{eqb}
@@ -13,11 +13,11 @@ use Rattle.tablebytes.specs.declared.Row.{Row}
 use Rattle.succession.specs.declared.Lack as told
 use Rattle.succession.specs.Lacks.{Lack}
 
--- rows of the older table, and those of the newer in the same scope: their ids ascend
-pub record TwoRows (start n : ℕ) (newer : List ℕ) (from rows : ℕ) : Type 0 where
+-- rows of the one table, and those of the other in the same scope: their ids ascend
+pub record TwoRows (start n : ℕ) (other : List ℕ) (from rows : ℕ) : Type 0 where
   pub ends : start + 4 * n < 2 ^ 59
   pub theirs-end : from + 4 * rows < 2 ^ 60
-  pub sorted : look.Sorted (tiesAt newer from rows)
+  pub sorted : look.Sorted (tiesAt other from rows)
 
 -- a well-formed table, and the list of its scopes
 pub record ListedTable (t xs : List ℕ) : Type 0 where
@@ -30,10 +30,10 @@ rowFrom id target kind = record { id = id; target = target; kind = kind }
 abbrev pub asRow : Tie → Row
 asRow r = rowFrom (r .id) (r .target) (r .kind)
 
--- what was found for a row's id is this row
-unfoldable pub isHeld : Row → sought.Row → Bool
-isHeld r Untied = false
-isHeld r (Tied x k) = eqb x (r .target) && eqb k (r .kind)
+-- what was found for a row's id is this row; or nothing, where that doesn't count
+unfoldable pub isHeld : Bool → Row → sought.Row → Bool
+isHeld missing r Untied = not missing
+isHeld missing r (Tied x k) = eqb x (r .target) && eqb k (r .kind)
 
 unfoldable pub asLack : Option Lack → told.Lack
 asLack none = record { found = false; kind = 0; code = 0; row = rowFrom 0 0 0; other = Untied }

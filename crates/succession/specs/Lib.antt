@@ -1,3 +1,3 @@
--- Which row of an older code table a newer hasn't, and how the code says it.
+-- For which row of a code table another has another or none, and how the code says it.
 pub mod Lacks
 pub mod Found

@@ -1,4 +1,4 @@
-// Whether a newer code table succeeds an older, and where it doesn't, the first row of the older that it hasn't.
+// The first row of a code table for which another has another row or none; whether a newer table succeeds an older.
 use coderows::SCOPE_LIST_WORDS;
 use coderows::list_scopes;
 use coderows::scope_near;
@@ -21,10 +21,10 @@ ghost use mathlib.Core.Bool.{true};
 ghost use mathlib.Core.Option.{none};
 ghost use Rattle.rules.specs.CodeTable as t;
 ghost use Rattle.rules.specs.Differences.{succeeds};
-ghost use Rattle.succession.specs.Lacks.{rowsLack, scopesLack};
+ghost use Rattle.succession.specs.Lacks.{rowsOther, scopesOther, scopesLack};
 ghost use Rattle.succession.specs.Found.{TwoRows, ListedTable, isHeld, asLack};
 
-// A row of the older table, and what the newer has for its scope and id; or none.
+// A row of the one table, and what the other has for its scope and id; or none.
 pub struct Lack {
     pub found: bool,
     pub kind: u8,
@@ -50,12 +50,12 @@ fn no_lack() -> Lack
     }
 }
 
-// What was found for a row's id is this row.
-fn is_held(row: Row, other: coderows::Row) -> bool
-    ensures { λ r. ⌜ r ≡ isHeld row other ⌝ }
+// What was found for a row's id is this row; or nothing, where that doesn't count.
+fn is_held(row: Row, other: coderows::Row, missing: bool) -> bool
+    ensures { λ r. ⌜ r ≡ isHeld missing row other ⌝ }
 {
     let coderows::Row::Tied { target, kind } = other else {
-        return false;
+        return !missing;
     };
     if target != row.target {
         return false;
@@ -63,33 +63,34 @@ fn is_held(row: Row, other: coderows::Row) -> bool
     kind == row.kind
 }
 
-// The first of n rows of a scope that the newer table hasn't among its own in that scope.
-fn rows_lack(
-    older: &[u8],
+// The first of n rows of a scope for which the other table has another there, or none where that counts.
+fn rows_other(
+    one: &[u8],
     start: usize,
     n: usize,
-    newer: &[u8],
+    other: &[u8],
     from: usize,
     rows: usize,
     kind: u8,
     code: u16,
+    missing: bool,
 ) -> Lack
-    requires { ⌜ TwoRows start n (now newer) from rows ⌝ }
-    ensures { λ r. ⌜ r ≡ asLack (rowsLack kind code (t.tiesAt (now (newer .entry)) from rows) (t.tiesAt (now (older .entry)) start n)) ⌝ }
+    requires { ⌜ TwoRows start n (now other) from rows ⌝ }
+    ensures { λ r. ⌜ r ≡ asLack (rowsOther missing kind code (t.tiesAt (now (other .entry)) from rows) (t.tiesAt (now (one .entry)) start n)) ⌝ }
 {
     let mut place = start;
     let mut left = n;
     while 0 < left {
-        let row = row_at(older, place);
-        let sought = seek_row(newer, from, rows, row.id as usize);
-        let other = sought.row;
-        if !is_held(row, other) {
+        let row = row_at(one, place);
+        let sought = seek_row(other, from, rows, row.id as usize);
+        let there = sought.row;
+        if !is_held(row, there, missing) {
             return Lack {
                 found: true,
                 kind,
                 code,
                 row,
-                other,
+                other: there,
             };
         }
         place += ROW_SIZE;
@@ -98,25 +99,25 @@ fn rows_lack(
     no_lack()
 }
 
-// The first row of the older table that the newer hasn't, whose scopes are listed.
-fn scopes_lack(older: &[u8], newer: &[u8], listed: &[u32; SCOPE_LIST_WORDS]) -> Lack
-    requires { ⌜ ListedTable (now newer) (now listed) ⌝ }
-    ensures { λ r. ⌜ r ≡ asLack (scopesLack (now (newer .entry)) (t.scopes (now (older .entry)))) ⌝ }
+// The same of a whole table, where the other's scopes are listed.
+fn scopes_other(one: &[u8], other: &[u8], listed: &[u32; SCOPE_LIST_WORDS], missing: bool) -> Lack
+    requires { ⌜ ListedTable (now other) (now listed) ⌝ }
+    ensures { λ r. ⌜ r ≡ asLack (scopesOther missing (now (other .entry)) (t.scopes (now (one .entry)))) ⌝ }
 {
-    let scopes = u16_number(older, SCOPE_COUNT_AT);
-    let contents = HEADER_AT + CODE_SIZE * byte_number(older, HEADER_COUNT_AT);
+    let scopes = u16_number(one, SCOPE_COUNT_AT);
+    let contents = HEADER_AT + CODE_SIZE * byte_number(one, HEADER_COUNT_AT);
     let mut place = contents;
     let mut body = contents + SCOPE_SIZE * scopes;
     let mut left = scopes;
     while 0 < left {
-        let kind = byte_number(older, place) as u8;
-        let code = u16_number(older, place + CODE_AT) as u16;
-        let n = u16_number(older, place + ROW_COUNT_AT);
-        let scope = scope_near(newer, listed, kind, code, 0);
+        let kind = byte_number(one, place) as u8;
+        let code = u16_number(one, place + CODE_AT) as u16;
+        let n = u16_number(one, place + ROW_COUNT_AT);
+        let scope = scope_near(other, listed, kind, code, 0);
         let theirs = scope.body;
         let from = theirs.start as usize;
         let rows = theirs.count as usize;
-        let lack = rows_lack(older, body, n, newer, from, rows, kind, code);
+        let lack = rows_other(one, body, n, other, from, rows, kind, code, missing);
         if lack.found {
             return lack;
         }
@@ -127,14 +128,22 @@ fn scopes_lack(older: &[u8], newer: &[u8], listed: &[u32; SCOPE_LIST_WORDS]) -> 
     no_lack()
 }
 
+// The first row of a table for which the other, which is well formed, has another in the same scope with the same id; or none, where `missing` is true.
+pub fn first_other(one: &[u8], other: &[u8], missing: bool) -> Lack
+    requires { ⌜ t.wellFormed (now other) ≡ true ⌝ }
+    ensures { λ r. ⌜ r ≡ asLack (scopesOther missing (now (other .entry)) (t.scopes (now (one .entry)))) ⌝ }
+{
+    let mut listed = [0; SCOPE_LIST_WORDS];
+    list_scopes(other, &mut listed);
+    scopes_other(one, other, &listed, missing)
+}
+
 // The first row of the older table that the newer, which is well formed, hasn't.
 pub fn first_lack(older: &[u8], newer: &[u8]) -> Lack
     requires { ⌜ t.wellFormed (now newer) ≡ true ⌝ }
     ensures { λ r. ⌜ r ≡ asLack (scopesLack (now (newer .entry)) (t.scopes (now (older .entry)))) ⌝ }
 {
-    let mut listed = [0; SCOPE_LIST_WORDS];
-    list_scopes(newer, &mut listed);
-    scopes_lack(older, newer, &listed)
+    first_other(older, newer, true)
 }
 
 // The newer table, which is well formed, has the older's layout byte and header codes, and every row of it.

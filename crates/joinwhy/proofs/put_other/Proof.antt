@@ -1,7 +1,7 @@
 use borrow.Author.Needs.{needs}
-use Rattle.difflist.specs.Lines.{otherLine}
-use Rattle.difflist.proofs.put_other.Statement.{statement}
-use Rattle.difflist.proofs.put_other.Tie as tie
+use Rattle.joinwhy.specs.Why.{otherLine}
+use Rattle.joinwhy.proofs.put_other.Statement.{statement}
+use Rattle.joinwhy.proofs.put_other.Tie as tie
 
 returns : tie.Need-returns
 unfolding otherLine

@@ -1,9 +1,9 @@
 use borrow.Author.Needs.{needs}
 use borrow.Author.Tests.{not-true, not-false}
 use Rattle.text.proofs.Chain.{nothing, _⨟_}
-use Rattle.difflist.proofs.Answers.{lack-none, lack-some}
-use Rattle.difflist.proofs.put_lack.Statement.{statement}
-use Rattle.difflist.proofs.put_lack.Tie as tie
+use Rattle.joinwhy.proofs.Heads.{lack-none, lack-some}
+use Rattle.joinwhy.proofs.put_lack.Statement.{statement}
+use Rattle.joinwhy.proofs.put_lack.Tie as tie
 
 returns : tie.Need-returns
 returns c =
