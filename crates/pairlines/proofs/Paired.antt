@@ -244,8 +244,8 @@ module _ (layout : ℕ) (t s is cs ps : List ℕ) (ta : Answer) (is′ : List �
               }
 
 -- ---- an input by its parts
-pub input-written : (input : List ℕ) (layout size : ℕ) (t s : List ℕ) (infoRoom controlRoom propertyRoom : ℕ) → layout ≡ u32 input 0 → size ≡ u32 input 4
+pub input-written : (input : List ℕ) {layout size : ℕ} {t s : List ℕ} (infoRoom controlRoom propertyRoom : ℕ) → layout ≡ u32 input 0 → size ≡ u32 input 4
     → t ≡ part input 8 size → s ≡ drop (8 + size) input → {old new : List ℕ} {most e : ℕ}
     → Written old (pairPrinted layout t s infoRoom controlRoom propertyRoom) most new e → Written old (pairListed input infoRoom controlRoom propertyRoom) most new e
 unfolding pairListed
-input-written input layout size t s infoRoom controlRoom propertyRoom l z te se w = rw (l, te, se, z) at w
+input-written input infoRoom controlRoom propertyRoom l z te se w = rw (l, te, se, z) at w

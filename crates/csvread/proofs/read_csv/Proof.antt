@@ -29,9 +29,12 @@ returns-2 c =
     let e = uncounted _ (sym (after-count .count .ensures) ∙ told .enum-told .given .1) in
     shown (none-exit _ _ _ (fields-read _ (else1 .if1 .left) ∙ e)) (c .refused2 .ensures) refl refl
 
--- what was counted
+-- what was counted, in the text that is lent at the start
+abbrev start-of : tie.After-known-told → tie.Start
+start-of c = search
+
 abbrev text-of : tie.After-known-told → List ℕ
-text-of c = now (c .before .before .before .before .before .before .before .before .args .text)
+text-of c = now (start-of c .args .text)
 
 counts-are : (c : tie.After-known-told) → counted (readFrom Start 0 (text-of c)) ≡ some (c .before .bytes .given .0 .0, c .before .bytes .given .0 .1 .0)
 counts-are c =
@@ -56,14 +59,23 @@ returns-4 c =
     let l = rw (after-countable2 .countable2 .ensures) at (then3 .if3 .taken) in
     shown (full-exit _ _ _ _ _ (fields-read _ (else1 .if1 .left)) (counts-are read) (inr l)) (c .refused4 .ensures) refl refl
 
--- there is room
-bytes-fit : (c : tie.Else3) → c .before .before .before .before .before .bytes .given .0 .0 ≤ countable (length (now (c .before .before .before .before .before .before .before .before .before .before .before .before .args .out)))
+-- there is room for what was counted
+abbrev told-of : tie.Else3 → tie.After-known-told
+told-of c = search
+
+abbrev out-of : tie.Else3 → List ℕ
+out-of c = now (start-of (told-of c) .args .out)
+
+abbrev fields-of : tie.Else3 → List ℕ
+fields-of c = now (start-of (told-of c) .args .fields)
+
+bytes-fit : (c : tie.Else3) → told-of c .before .bytes .given .0 .0 ≤ countable (length (out-of c))
 bytes-fit c =
     let else2 : tie.Else2 = search in
     let after-countable : tie.After-countable = search in
     rw (after-countable .countable .ensures) at (else2 .if2 .left)
 
-fields-fit : (c : tie.Else3) → c .before .before .before .before .before .bytes .given .0 .1 .0 ≤ countable (room fieldWidth (now (c .before .before .before .before .before .before .before .before .before .before .before .before .args .fields)))
+fields-fit : (c : tie.Else3) → told-of c .before .bytes .given .0 .1 .0 ≤ countable (room fieldWidth (fields-of c))
 fields-fit c =
     let after-countable2 : tie.After-countable2 = search in
     rw (after-countable2 .countable2 .ensures) at (c .if3 .left)
@@ -77,12 +89,12 @@ write-requires c κs =
 cast-t16 : tie.Need-cast-t16
 cast-t16 c =
     let else3 : tie.Else3 = search in
-    record { fits = omega (arith, bytes-fit else3, countable-most (length (now (c .before .before .before .before .before .before .before .before .before .before .before .before .before .before .before .before .before .before .before .args .out)))) }
+    record { fits = omega (arith, bytes-fit else3, countable-most (length (out-of else3))) }
 
 cast-t17 : tie.Need-cast-t17
 cast-t17 c =
     let else3 : tie.Else3 = search in
-    record { fits = omega (arith, fields-fit else3, countable-most (room fieldWidth (now (c .before .before .before .before .before .before .before .before .before .before .before .before .before .before .before .before .before .before .before .args .fields)))) }
+    record { fits = omega (arith, fields-fit else3, countable-most (room fieldWidth (fields-of else3))) }
 
 same-length : tie.Need-same-length
 same-length c = let after-write : tie.After-write = search in after-write .write .kept .1 .0

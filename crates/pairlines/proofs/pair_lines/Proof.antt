@@ -118,7 +118,8 @@ same-length-9 : tie.Need-same-length-9
 unfolding later-of known2-of pair-of
 same-length-9 c =
     let shown : tie.After-lines = search in
-    later-of (known2-of (pair-of shown)) .read-later .kept .1 .1 .1 .0
+    let (_, (_, (_, (properties-kept, _)))) = later-of (known2-of (pair-of shown)) .read-later .kept in
+    properties-kept
 
 same-length-10 : tie.Need-same-length-10
 unfolding known-of else1-of later-of known2-of pair-of answered-of answered2-of

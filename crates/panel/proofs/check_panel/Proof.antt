@@ -6,10 +6,10 @@ use Rattle.panel.proofs.check_panel.Tie as tie
 
 -- ---- the places that both ends share
 read-of : tie.After-struct-known → tie.After-read-blob
-read-of c = c .before .before .before .before .before
+read-of c = search
 
 start-of : tie.After-read-blob → tie.Start
-start-of c = c .before .before .before .before .before .before .before
+start-of c = search
 
 returns : tie.Need-returns
 unfolding read-of start-of
@@ -21,9 +21,9 @@ returns c =
 judge-requires : tie.Need-judge-requires
 unfolding read-of start-of
 judge-requires c κs =
-    let known : tie.After-struct-known = c .before .before .before .before .before .before .before in
-    let named : tie.After-index = c .before .before .before .before .before in
-    let spelled : tie.After-letters = c .before .before .before .before in
+    let known : tie.After-struct-known = search in
+    let named : tie.After-index = search in
+    let spelled : tie.After-letters = search in
     let r = read-of known in
     let a = start-of r .args in (
       rows-asked (a .table .now) (a .stream .now) (a .controls .now) (a .properties .now) _ _ _ (r .read-blob .ensures) (omega arith) (omega (arith, known .struct-known .given)),
@@ -33,7 +33,7 @@ judge-requires c κs =
 returns-2 : tie.Need-returns-2
 unfolding read-of start-of
 returns-2 c =
-    let kept : tie.Else1 = c .before .before .before .before .before .before .before in
+    let kept : tie.Else1 = search in
     let r = read-of (kept .before) in
     let a = start-of r .args in
     judged-on (a .table .now) (a .stream .now) (a .controls .now) (a .properties .now) _ _ _ (r .read-blob .ensures) (omega (arith, kept .if1 .left)) _ (c .judge .ensures)

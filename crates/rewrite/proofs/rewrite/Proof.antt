@@ -11,7 +11,11 @@ use Rattle.rewrite.proofs.Walks.{exit-long, exit-bad, exit-text, size-i
 use Rattle.rewrite.proofs.rewrite.Statement.{statement}
 use Rattle.rewrite.proofs.rewrite.Tie as tie
 
-accepted : (c : tie.After-enum-told) → Accepted (now (c .before .before .before .before .before .before .args .stream))
+-- the stream that is lent at the start
+abbrev start-of : tie.After-enum-told → tie.Start
+start-of c = search
+
+accepted : (c : tie.After-enum-told) → Accepted (now (start-of c .args .stream))
 accepted c =
     let after-count : tie.After-count = search in
     let else1 : tie.Else1 = search in
