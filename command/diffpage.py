@@ -3,6 +3,7 @@
 A panel is drawn from the newer table's listing: the nesting of its controls, and their Left, Top, Width and Height, in twips, which count from the
 section that a control stands in. Sections stand one below the other, and so do the pages of a tab control after the first.
 """
+import bisect
 import hashlib
 import html
 
@@ -65,17 +66,15 @@ def boxes_of(controls, records):
 
 
 def give_sizes(box):
-    """What the Blob doesn't say: a holder is as large as what it holds, another control has a usual size."""
-    for child in box.inside:
-        give_sizes(child)
+    """What the Blob doesn't say, once those inside have it: a holder is as large as what it holds, another control has a usual size."""
     placed = [c for c in box.inside if c.left is not None and c.top is not None]
     usual = SIZES.get(box.type, USUAL_SIZE)
     if box.type in HOLDERS and placed:
         if box.left is None or box.top is None:
             box.left, box.top = min(c.left for c in placed) - 120, min(c.top for c in placed) - 240
         usual = (max(c.left + c.width for c in placed) + 120 - box.left, max(c.top + c.height for c in placed) + 120 - box.top)
-    box.width = usual[0] if box.width is None else max(0, box.width)
-    box.height = usual[1] if box.height is None else max(0, box.height)
+    box.width = max(0, usual[0] if box.width is None else box.width)
+    box.height = max(0, usual[1] if box.height is None else box.height)
 
 
 class Block:
@@ -85,36 +84,53 @@ class Block:
         self.box, self.title, self.boxes = box, title, []
 
 
-def blocks_of(top):
-    """A section's block, and after it those of the pages that would lie over another page."""
-    blocks = [Block(top, top.name or top.type)]
-
-    def walk(box, block):
-        pages = [c for c in box.inside if c.type == "Page"]
-        for child in box.inside:
-            if child in pages[1:]:
-                later = Block(child, f"{child.name or 'page'} of {box.name or 'the tab control'}")
-                blocks.append(later)
-                walk(child, later)
-            else:
-                block.boxes.append(child)
-                walk(child, block)
-
-    walk(top, blocks[0])
+def blocks_of(boxes):
+    """Each section's block, and after it those of the pages that would lie over another page. A control comes after the one that holds it."""
+    blocks, block_of, paged = [], [], set()
+    for box in boxes:
+        if box.parent is None:
+            block = Block(box, box.name or box.type)
+        elif box.type == "Page" and box.parent in paged:
+            block = Block(box, f"{box.name or 'page'} of {boxes[box.parent].name or 'the tab control'}")
+        else:
+            block = block_of[box.parent]
+            block.boxes.append(box)
+        if block.box is box:
+            blocks.append(block)
+        elif box.type == "Page":
+            paged.add(box.parent)
+        block_of.append(block)
     return blocks
+
+
+class Beside:
+    """How far right the boxes go that stand beside the others: from starts[n] down to the next start as far as reach[n]."""
+
+    def __init__(self, edge):
+        self.starts, self.reach = [float("-inf")], [edge]
+
+    def put(self, top, end, width):
+        """Sets a box right of all that stands from top to end, and gives its Left."""
+        first, after = bisect.bisect_right(self.starts, top) - 1, bisect.bisect_left(self.starts, end)
+        left = max(self.reach[first:after]) + 180
+        starts, reach = [top], [left + width]
+        if self.starts[first] < top:
+            starts, reach = [self.starts[first]] + starts, [self.reach[first]] + reach
+        if after == len(self.starts) or self.starts[after] > end:
+            starts, reach = starts + [end], reach + [self.reach[after - 1]]
+        self.starts[first:after], self.reach[first:after] = starts, reach
+        return left
 
 
 def set_rest(block):
     """Controls whose Left or Top isn't known stand at the right, beside the others, at their Top where that is known; none over another."""
-    edge = max([b.left + b.width for b in block.boxes if b.left is not None and b.top is not None], default=0)
-    rest, low = [], 0
+    beside = Beside(max([b.left + b.width for b in block.boxes if b.left is not None and b.top is not None], default=0))
+    low = 0
     for box in block.boxes:
         if box.left is not None and box.top is not None:
             continue
         box.top = low if box.top is None else box.top
-        beside = [b.left + b.width for b in rest if b.top < box.top + box.height and box.top < b.top + b.height]
-        box.left = max(beside + [edge]) + 180
-        rest.append(box)
+        box.left = beside.put(box.top, box.top + max(1, box.height), box.width)
         low = max(low, box.top + box.height + 120)
 
 
@@ -154,8 +170,8 @@ def placed(box, offset):
     return box.left // TWIPS + offset[0], box.top // TWIPS + offset[1], max(box.width // TWIPS, 1), max(box.height // TWIPS, 1)
 
 
-def draw_block(block, y, width, edge, numbers, large):
-    """A block from y on: its title, its ground, its boxes. Gives the drawing, the marks that go over everything, and where it ends."""
+def draw_block(block, y, width, edge, least, numbers, large):
+    """A block from y on, with the Left `least` at the edge: its title, its ground, its boxes. Gives the drawing, the marks that go over everything, and where it ends."""
     section = block.box.number("Height") if block.box.type != "Page" else None
     low = min([0] + [b.top for b in block.boxes])
     deep = max([(section or 0)] + [b.top + b.height for b in block.boxes], default=0)
@@ -165,7 +181,7 @@ def draw_block(block, y, width, edge, numbers, large):
            f'<rect class="ground" x="{edge}" y="{ground}" width="{width}" height="{height}"/>']
     marks = []
     for box in block.boxes:
-        place = placed(box, (edge, ground - low // TWIPS))
+        place = placed(box, (edge - least // TWIPS, ground - low // TWIPS))
         number = numbers.get(box.row)
         said = safe(f"{box.name or 'control ' + str(box.row)} ({box.type})")
         out.append(f'<g class="control{" differs" if number else ""}" data-control="{box.row}"><title>{said}</title>{shape(box, *place)}{written(box, *place)}</g>')
@@ -179,28 +195,28 @@ def draw_block(block, y, width, edge, numbers, large):
 def picture(controls, records, numbers):
     """A form as a drawing, and whether it is wide. `numbers` has the mark of each control that differs by its row; None is the form itself."""
     boxes, own = boxes_of(controls, records)
-    tops = [box for box in boxes if box.parent is None]
-    blocks = []
-    for top in tops:
-        for child in top.inside:
-            give_sizes(child)
-        blocks += blocks_of(top)
+    for box in reversed(boxes):
+        if box.parent is not None:
+            give_sizes(box)
+    blocks = blocks_of(boxes)
     for block in blocks:
         set_rest(block)
     kind, shown = own.get("Width", ("", ""))
     reach = max([int(shown) if kind in ("short", "long") else 0] + [b.left + b.width for block in blocks for b in block.boxes])
-    width = max(reach // TWIPS + 8, 160)
+    least = min([0] + [b.left for block in blocks for b in block.boxes])
+    width = max((reach - least) // TWIPS + 8, 160)
     large = max(1, (width + 40) / FIT)
     edge = round(12 * large)
     y, drawn, marks = edge + 4, [], []
     for block in blocks:
-        more, over, y = draw_block(block, y, width, edge, numbers, large)
+        more, over, y = draw_block(block, y, width, edge, least, numbers, large)
         drawn += more
         marks += over
     if numbers.get(None):
         marks.append(mark(numbers[None], 4, edge, width + 2 * edge - 8, y - edge, large, "outline"))
     whole = width + 2 * edge + round(12 * large)
-    head = f'<svg class="panel" viewBox="0 0 {whole} {y + 4}" style="max-width:{whole}px" role="img" aria-label="the panel, with the controls that differ marked">'
+    end = y + 4 + round(9 * (large - 1))
+    head = f'<svg class="panel" viewBox="0 0 {whole} {end}" style="max-width:{whole}px" role="img" aria-label="the panel, with the controls that differ marked">'
     frames, badges = [frame for frame, _ in marks], [badge for _, badge in marks]
     return head + "".join(drawn + frames + badges) + "</svg>", whole > FIT
 
