@@ -4,9 +4,7 @@ Called by command/diff.sh as diff.py ROOT SCRATCH FORM ANYWAY PAGE OLDER OLDER_F
 said: the texts of both tables, whether the newer is a successor, and for each form the lines of `difflist`, or the listings of both tables.
 Exit status: 0 no form differs, 10 some do.
 """
-import csv
 import hashlib
-import io
 import os
 import pathlib
 import struct
@@ -19,7 +17,6 @@ ROOT, SCRATCH = pathlib.Path(sys.argv[1]), pathlib.Path(sys.argv[2])
 SOME_DIFFER = 10
 PROPERTIES, ROWS = ("property", "properties"), ("row", "rows")
 MOST_BYTES = 32  # of a value's bytes no more are shown in words
-csv.field_size_limit(1 << 28)  # a value may be as long as a Blob, in hex
 
 
 # ---- names
@@ -111,6 +108,11 @@ def escaped(c):
     return "\\" + c if c in '"\\' else f"\\u{ord(c):04X}" if ord(c) < 0x10000 else f"\\U{ord(c):08X}"
 
 
+def file_name(name):
+    """A file's name on one line: a byte that isn't UTF-8, a sign that doesn't print and a backslash are escaped."""
+    return "".join(f"\\x{ord(c) - 0xDC00:02X}" if 0xDC80 <= ord(c) <= 0xDCFF else c if c.isprintable() and c != "\\" else escaped(c) for c in name)
+
+
 def guid(data):
     a, b, c = struct.unpack("<IHH", data[:8])
     return f"{{{a:08X}-{b:04X}-{c:04X}-{data[8:10].hex().upper()}-{data[10:].hex().upper()}}}"
@@ -197,36 +199,48 @@ def listed(form, table):
     """The C and P lines of a listing as words, and the records of the comma-separated text: these have the values whole."""
     lines = [line.split() for line in said(f"{table}.list.{form.number}").split("\n")]
     printed = said(f"{table}.csv.{form.number}")
-    records = list(csv.reader(io.StringIO(printed.partition("\n")[2], newline="")))[1:] if printed.startswith("answer 0 ") else []
+    records = fields_of(printed.partition("\n")[2])[1:] if printed.startswith("answer 0 ") else []
     return [w for w in lines if w[:1] == ["C"]], [w for w in lines if w[:1] == ["P"]], records
 
 
-def owner(controls, row):
-    """The control that a property row belongs to, or None for the object's own."""
+def owners(controls, rows):
+    """For each property row the control that it belongs to, or None for the object's own."""
+    out = [None] * rows
     for words in controls:
-        if int(words[5]) <= row < int(words[5]) + int(words[6]):
-            return words
-    return None
+        first, count = int(words[5]), int(words[6])
+        out[first:first + count] = [words] * count
+    return out
 
 
-def value_in(words, records):
-    """The value of a P line, from the comma-separated text where that has it."""
-    row = int(words[1])
-    return records[row][4] if row < len(records) else words[5]
+def names_in(records):
+    """The name of each control that has one, by its number as the records have it."""
+    out = {}
+    for control, _, name, _, shown in records:
+        if name == "Name":
+            out.setdefault(control, shown)
+    return out
 
 
-def shown_row(words, records):
-    """A P line in words."""
+def value_in(record):
+    """A record's value as the lines of `difflist` give it: a flag has none, and a fraction is decimal."""
+    kind, shown = record[3:]
+    return "" if kind == "notdefault" else repr(struct.unpack(">d", bytes.fromhex(shown))[0]) if kind == "double" else shown
+
+
+def shown_row(words, record):
+    """A P line in words, with the value of its record."""
     id, name, kind = words[2:5]
     what = f"{name} ({id})" if name != "-" else f"code {id[2:]} without a meaning ({id})" if id >= "8000" else id
-    return f"{what}, {value_words(kind, value_in(words, records))}"
+    return f"{what}, {value_words(kind, value_in(record))}"
 
 
-def name_in(control, records, first, count):
-    for record in records[first:first + count]:
-        if record[2] == "Name":
-            return record[4]
-    return f"control {control}"
+def control_parts(words):
+    """What a C line says of a control, part by part."""
+    return {
+        "type": f"type {words[2]} ({words[3]})",
+        "name": "no name" if words[4] == "-" else f"a name of length {words[4]}",
+        "properties": f"{many(int(words[6]), *PROPERTIES)} from row {words[5]} on",
+        "nesting": f"level {words[7]}, " + ("in no control" if words[8] == "-" else f"in control {words[8]}")}
 
 
 def by_listings(form):
@@ -237,24 +251,28 @@ def by_listings(form):
         form.remark = (f"read otherwise as a whole: {len(old_controls)} controls and {len(old_rows)} properties under the older table,"
                        f" {len(new_controls)} and {len(new_rows)} under the newer")
         return
+    if len(old_records) != len(old_rows) or len(new_records) != len(new_rows):
+        sys.exit(f"oskuramos: the listing of {form.name} and its comma-separated text haven't as many rows")
+    names = names_in(new_records)
+    names[None] = "the report itself" if form.data[8:9] == b"\x97" else "the form itself"
     for old, new in zip(old_controls, new_controls):
-        if old[2] != new[2]:
-            form.differences.append(anyway("", new, "type", f"type {old[2]} ({old[3]})", f"type {new[2]} ({new[3]})", new_records))
-    own = "the report itself" if form.data[8:9] == b"\x97" else "the form itself"
-    for old, new in zip(old_rows, new_rows):
         if old[2:] != new[2:]:
-            control = owner(new_controls, int(new[1]))
+            older, newer = control_parts(old), control_parts(new)
+            parts = [part for part in newer if older[part] != newer[part]]
+            older, newer = ("; ".join(said_of[part] for part in parts) for said_of in (older, newer))
+            form.differences.append(anyway(names, new, ", ".join(parts), "", "control", newer, older, newer))
+    for old, new, old_record, new_record, control in zip(old_rows, new_rows, old_records, new_records, owners(new_controls, len(new_rows))):
+        if old[2:] != new[2:] or old_record[2:] != new_record[2:]:
             name = next((word for word in (new[3], old[3]) if word != "-"), new[2])
-            form.differences.append(anyway(own, control, name, shown_row(old, old_records), shown_row(new, new_records), new_records, new))
+            form.differences.append(anyway(names, control, name, new[2], new[4], value_in(new_record), shown_row(old, old_record), shown_row(new, new_record)))
 
 
-def anyway(own, control, name, older, newer, records, row=None):
-    number = None if control is None else int(control[1])
-    kind, shown = ("type", newer) if row is None else (row[4], "" if row[4] == "notdefault" else value_in(row, records))
+def anyway(names, control, property, id, kind, value, older, newer):
+    """A row that differs, of the control of a C line, or of the object itself."""
+    number = None if control is None else control[1]
     return Difference(
-        control=number, type=None if control is None else int(control[2], 16),
-        name=own if control is None else name_in(number, records, int(control[5]), int(control[6])),
-        property=name, code="", id=row[2] if row else "", kind=kind, value=shown, bytes="", start="", length="", older=older, newer=newer)
+        control=None if control is None else int(number), type=None if control is None else int(control[2], 16), name=names.get(number, f"control {number}"),
+        property=property, code="", id=id, kind=kind, value=value, bytes="", start="", length="", older=older, newer=newer)
 
 
 # ---- words
@@ -305,9 +323,9 @@ def where(d):
 
 def form_lines(form):
     if form.remark:
-        yield f"{form.name}: {form.remark}"
+        yield f"{file_name(form.name)}: {form.remark}"
         return
-    yield f"{form.name}: {len(form.differences):,} of {many(form.rows, *form.what)} {'differs' if len(form.differences) == 1 else 'differ'}"
+    yield f"{file_name(form.name)}: {len(form.differences):,} of {many(form.rows, *form.what)} {'differs' if len(form.differences) == 1 else 'differ'}"
     for d in form.differences:
         yield f"  {where(d)}: {d.property}"
         yield f"    older: {d.older}"
@@ -316,7 +334,7 @@ def form_lines(form):
 
 def words(older, newer, successor, forms, unread):
     for word, table in (("older", older), ("newer", newer)):
-        yield f"{word}: {table.name}, {many(len(table.rows), 'row', 'rows')}, SHA-256 {table.sha}"
+        yield f"{word}: {file_name(table.name)}, {many(len(table.rows), 'row', 'rows')}, SHA-256 {table.sha}"
     yield from table_lines(older, newer, successor)
     if not forms and not unread:
         return
@@ -326,28 +344,53 @@ def words(older, newer, successor, forms, unread):
             yield from form_lines(form)
     yield ""
     for name, _ in unread:
-        yield f"{name}: couldn't be read or was refused"
+        yield f"{file_name(name)}: couldn't be read or was refused"
     yield verdict(forms, unread)
 
 
-# ---- comma-separated text
+# ---- comma-separated text, of RFC 4180. Python's own reader refuses a text with NUL before 3.11.
+
+def fields_of(text):
+    """The records of a text, each with its fields. Between two quotes that stand together nothing is outside of quotes: they are one quote."""
+    out, record, field = [], [], []
+    parts = text.split('"')
+    for n, part in enumerate(parts):
+        if n % 2:
+            field.append(part)
+        elif part == "" and 0 < n < len(parts) - 1:
+            field.append('"')
+        else:
+            for k, line in enumerate(part.split("\r\n")):
+                if k:
+                    out.append(record + ["".join(field)])
+                    record, field = [], []
+                first, *more = line.split(",")
+                field.append(first)
+                for word in more:
+                    record.append("".join(field))
+                    field = [word]
+    return out
+
+
+def record_of(fields):
+    """A record with its CR LF."""
+    return ",".join('"' + f.replace('"', '""') + '"' if any(c in f for c in ',"\r\n') else f for f in map(str, fields)) + "\r\n"
+
 
 FIELDS = ["file", "control", "control name", "type", "type name", "property", "code", "id", "kind", "value", "bytes", "start", "length", "older shows", "newer shows"]
 
 
 def records(forms):
-    out = io.StringIO(newline="")
-    writer = csv.writer(out)
-    writer.writerow(FIELDS)
+    out = [record_of(FIELDS)]
     for form in forms:
         if form.remark:
-            writer.writerow([form.name] + [""] * 4 + ["the whole form"] + [""] * 8 + [form.remark])
+            out.append(record_of([form.name] + [""] * 4 + ["the whole form"] + [""] * 8 + [form.remark]))
         for d in form.differences:
             own = d.control is None
             type_words = ["", ""] if own else [f"{d.type:04X}", type_name(d.type)]
-            writer.writerow([form.name, "" if own else d.control, d.name] + type_words
-                            + [d.property, d.code, d.id, d.kind, d.value, d.bytes, d.start, d.length, d.older, d.newer])
-    return out.getvalue()
+            out.append(record_of([form.name, "" if own else d.control, d.name] + type_words
+                                 + [d.property, d.code, d.id, d.kind, d.value, d.bytes, d.start, d.length, d.older, d.newer]))
+    return "".join(out)
 
 
 def unread_files(blobs, numbers):
@@ -355,8 +398,7 @@ def unread_files(blobs, numbers):
     out = []
     for number in map(str, range(1, blobs + 1)):
         if number not in numbers:
-            why = said(f"why.{number}").replace("\r\x1b[K", "").strip()
-            out.append((said(f"name.{number}"), why.removeprefix("oskuramos: ")))
+            out.append((said(f"name.{number}"), said(f"why.{number}").strip()))
     return out
 
 

@@ -21,11 +21,13 @@ If so, a form can differ only in properties whose code OLDER lacks and NEWER has
 property: the control's name and type, the property's name, what OLDER shows (the raw code with its bytes) and what NEWER shows. Forms
 that don't differ are counted. A Blob of the later layout (Access 2002 and on) never differs: no code table is asked there.
 Where NEWER isn't a successor (a row was corrected or taken back), it says which row it is, and reads no form: demand 3 doesn't speak of such
-tables. --anyway then compares the two listings row by row.
+tables. --anyway then compares the two listings row by row, the rows of controls and those of properties, with every value whole.
+Tell the spreadsheet that the text of --csv is UTF-8 and all columns are text: it would else take a value such as =[Volt]*2 for a formula of its
+own, and the type 0098 for the number 98. A file's name is printed on one line, with a line break in it as \u000A; --csv has it as it is.
 Which properties differ comes from a proved program, and so do the texts of the tables and the listings. Plain code, not proved, are the
 words, the comma-separated text, the page with its pictures, and the comparison of --anyway.
 A Blob has at most 16,777,216 bytes, 16,384 controls and 262,144 properties, of which 131,072 differ; for a picture, and with --anyway, at
-most 4,194,304 bytes. One that is refused is told and doesn't stop the others. Needs python3.
+most 4,194,304 bytes and 33,554,432 bytes of comma-separated text. One that is refused is told and doesn't stop the others. Needs python3.
 Exit status: 0 no form differs; 1 some do; 2 something couldn't be read or was refused.
 
     ./oskuramos diff examples/auditor/older.codes examples/auditor/newer.codes examples/auditor/*.blob
@@ -129,12 +131,20 @@ keep_form() {
     echo "$number" >>"$scratch/forms"
 }
 
-# Keeps what is said of a file too, for the page.
+# What is said of a file is noted too, for the page.
+noted=
+say() {
+    printf '%s%s: %s\n' "$wipe" "$name" "$*" >&2
+    [ -z "$noted" ] || printf '%s\n' "$*" >>"$noted"
+}
+
 verb_file() { # FILE
     went=0
     printf %s "$1" >"$scratch/name.$number"
-    compare_form "$1" 2>"$scratch/why.$number" || went=$?
-    cat "$scratch/why.$number" >&2
+    noted=$scratch/why.$number
+    : >"$noted"
+    compare_form "$1" || went=$?
+    noted=
     return "$went"
 }
 
@@ -145,6 +155,14 @@ compare_form() { # FILE
             keep bloblist "$one.list" "$scratch/$one" && keep csvout "$one.csv" "$scratch/$one" || return
             IFS= read -r first <"$scratch/$one.list.$number" || first=
             case $first in "answer 0 "*) ;; *) refused "$(called "$1")" "$first" || return 2 ;; esac
+            IFS= read -r first <"$scratch/$one.csv.$number" || first=
+            case $first in
+            "answer 0 "*) ;;
+            *)
+                say "$(called "$1") was refused: its values have more text than can be compared"
+                return 2
+                ;;
+            esac
         done
         keep_form
         return 0

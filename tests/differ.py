@@ -85,25 +85,26 @@ def as_shown(kind, value):
 
 
 def expected(form, older, newer, anyway):
-    """The records that must come: file, control, type, property, id, kind, value; with --anyway the types of controls before them."""
+    """The records that must come: file, control, type, property, id, kind, value; with --anyway the rows of controls before them, without values."""
     out = []
     if anyway:
         for old, new in zip(older[0], newer[0]):
-            if old[2] != new[2]:
-                out.append([str(form), new[1], new[2], "type", "", "type"])
+            if old[2:] != new[2:]:
+                parts = [part for part, a, b in (("type", 2, 4), ("name", 4, 5), ("properties", 5, 7), ("nesting", 7, 9)) if old[a:b] != new[a:b]]
+                out.append([str(form), new[1], new[2], ", ".join(parts), "", "control", ""])
     for row, (old, new) in enumerate(zip(older[1], newer[1])):
-        if old[2:] != new[2:]:
+        if old[2:] != new[2:] or older[2][row][2:] != newer[2][row][2:]:
             control, type_code, name, kind, value = newer[2][row]
             if anyway and new[3] == "-":
                 name = new[2] if old[3] == "-" else old[3]
-            out.append([str(form), control, type_code, name, new[2], kind] + ([] if anyway else [as_shown(kind, value)]))
+            out.append([str(form), control, type_code, name, new[2], kind, as_shown(kind, value)])
     return out
 
 
 def said(older, newer, forms, anyway):
     status, text = run((0, 1), "diff", "--csv", *(["--anyway"] if anyway else []), older, newer, *forms)
     rows = list(csv.reader(io.StringIO(text, newline="")))[1:]
-    records = [[r[0], r[1], r[3], r[5], r[7], r[8]] + ([] if anyway else [r[9]]) for r in rows]
+    records = [[r[0], r[1], r[3], r[5], r[7], r[8], "" if r[8] == "control" else r[9]] for r in rows]
     if status != (1 if records else 0):
         sys.exit(f"differ: FAILED: the exit status is {status} where {len(records)} properties differ")
     return records
