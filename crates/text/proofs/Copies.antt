@@ -39,27 +39,27 @@ then {o = o} {x = x} {n = n} {a = a} q b w e h = subst (λ (m : ℕ). Wrote o a 
 ends : {o x n : List ℕ} {a p : ℕ} (q : ℕ) → Wrote o a x n p → p ≡ q → Wrote o a x n q
 ends {o = o} {x = x} {n = n} {a = a} q w e = subst (λ (m : ℕ). Wrote o a x n m) e w
 
-module _ (o : List ℕ) (at a b : ℕ) where
+module _ {o : List ℕ} {at a b : ℕ} where
   pub two-set : at + 2 ≤ length o → Wrote o at (a ∷ b ∷ []) (set2 o at a b) (at + 2)
   two-set h = ends (at + 2) (then (at + 1) b (chain.byte (omega arith)) refl (simp length-set (omega arith))) (omega arith)
 
-  module _ (c d : ℕ) where
+  module _ {c d : ℕ} where
     pub four-set : at + 4 ≤ length o → Wrote o at (a ∷ b ∷ c ∷ d ∷ []) (set4 o at a b c d) (at + 4)
     four-set h =
         ends (at + 4)
         (then (at + 3) d (then (at + 2) c (two-set (omega arith)) refl (simp length-set (omega arith))) (omega arith) (simp length-set (omega arith)))
         (omega arith)
 
-    module _ (e f : ℕ) where
+    module _ {e f : ℕ} where
       pub six-set : at + 6 ≤ length o → Wrote o at (a ∷ b ∷ c ∷ d ∷ e ∷ f ∷ []) (set6 o at a b c d e f) (at + 6)
       six-set h =
           ends (at + 6)
           (then (at + 5) f (then (at + 4) e (four-set (omega arith)) refl (simp length-set (omega arith))) (omega arith) (simp length-set (omega arith)))
           (omega arith)
 
-      pub eight-set : (g i : ℕ) → at + 8 ≤ length o
+      pub eight-set : {g i : ℕ} → at + 8 ≤ length o
           → Wrote o at (a ∷ b ∷ c ∷ d ∷ e ∷ f ∷ g ∷ i ∷ []) (set (set (set6 o at a b c d e f) (at + 6) g) (at + 7) i) (at + 8)
-      eight-set g i h =
+      eight-set {g = g} {i = i} h =
           ends (at + 8)
           (then (at + 7) i (then (at + 6) g (six-set (omega arith)) refl (simp length-set (omega arith))) (omega arith) (simp length-set (omega arith)))
           (omega arith)

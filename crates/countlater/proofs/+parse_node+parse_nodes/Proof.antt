@@ -21,7 +21,7 @@ abbrev μ-parse-node : Measures 1 parse-node-kinds.ps ℕ
 μ-parse-node κs a = a .1 .1 .0 + a .1 .1 .0 + 1
 
 abbrev μ-parse-nodes : Measures 1 parse-nodes-kinds.ps ℕ
-μ-parse-nodes κs a = a .1 .1 .1 .0 + a .1 .1 .1 .0
+μ-parse-nodes κs a = let (s, (n, (at, (left, _)))) = a in left + left
 
 abbrev parse-node-at : ℕ → In 1 parse-node-kinds.ps
 parse-node-at t = and 1 parse-node-kinds.ps (is 1 parse-node-kinds.ps μ-parse-node t) parse-node.Pre

@@ -45,7 +45,7 @@ slice-write-out-8 c =
 returns : tie.Need-returns
 returns c =
     let start : tie.Start = search in
-    wrote-as (eight-set _ _ _ _ _ _ _ _ _ _ (start .pre .0)) (sym (part-eight (start .args .s .now) (start .args .i) (start .pre .1)))
+    wrote-as (eight-set (start .pre .0)) (sym (part-eight (start .args .s .now) (start .args .i) (start .pre .1)))
 
 same-length : tie.Need-same-length
 same-length c = same (returns c)

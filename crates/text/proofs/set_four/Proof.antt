@@ -23,7 +23,7 @@ slice-write-out-4 c =
 returns : tie.Need-returns
 returns c =
     let start : tie.Start = search in
-    four-set _ _ _ _ _ _ (start .pre)
+    four-set (start .pre)
 
 pub set-four-spec : {M : Type 1} → statement M
 set-four-spec =

@@ -33,7 +33,7 @@ slice-write-out-6 c =
 returns : tie.Need-returns
 returns c =
     let start : tie.Start = search in
-    six-set _ _ _ _ _ _ _ _ (start .pre)
+    six-set (start .pre)
 
 pub set-six-spec : {M : Type 1} → statement M
 set-six-spec =

@@ -13,7 +13,7 @@ slice-write-out-2 c =
 returns : tie.Need-returns
 returns c =
     let start : tie.Start = search in
-    two-set _ _ _ _ (start .pre)
+    two-set (start .pre)
 
 pub set-two-spec : {M : Type 1} → statement M
 set-two-spec =
