@@ -1,1 +1,2 @@
+-- What the readers of a Blob answer.
 pub mod Exit

@@ -1,1 +1,2 @@
+-- What the counting of a later stream answers.
 pub mod Count

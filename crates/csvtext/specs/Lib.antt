@@ -1,1 +1,2 @@
+-- What the contracts say beyond the definitions of rules.
 pub mod Units

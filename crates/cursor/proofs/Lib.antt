@@ -1,3 +1,4 @@
+-- Laws of walks and cursors, whatever the layout; the crates that walk a stream cite them.
 pub mod WalkLaws
 pub mod StackLaws
 pub mod CursorLaws

@@ -1,1 +1,2 @@
+-- What the search for matches says.
 pub mod Match

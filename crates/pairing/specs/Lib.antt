@@ -1,1 +1,2 @@
+-- What the search for a name says.
 pub mod Wanted

@@ -1,1 +1,2 @@
+-- What is counted of a reading, whatever the layout.
 pub mod Places
