@@ -1,1 +1,2 @@
+-- What the records of nodes take of a room.
 pub mod Needs

@@ -1,1 +1,2 @@
+-- When there is room, and what the writer leaves.
 pub mod Sheet

@@ -1,1 +1,2 @@
+-- What the walk that lists differences asks of its callers and leaves.
 pub mod Listing

@@ -1,1 +1,2 @@
+-- What the exported functions hand back, in structs laid out as C's.
 pub mod Handed

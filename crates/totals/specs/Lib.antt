@@ -1,1 +1,2 @@
+-- The record of totals, and what a call leaves in it.
 pub mod Laid
