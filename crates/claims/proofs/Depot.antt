@@ -15,9 +15,8 @@ use Rattle.rules.specs.Answer.{refusal, tooLong, badTable, moreControls, morePr
 use Rattle.rules.specs.CodeTable.{Tie, wellFormed}
 use Rattle.rules.specs.NameTables.{controlTypeNames}
 use Rattle.rules.specs.Names.{nameIn}
-use Rattle.rules.specs.Rows.{controlWidth, propertyWidth, room}
+use Rattle.rules.specs.Rows.{controlWidth, propertyWidth, room, rowsFrom}
 use Rattle.rules.specs.Listing.{word}
-use Rattle.rules.specs.Pairing.{rowsFrom}
 use Rattle.rules.specs.Reading.{Control, Reading, properties, controlRow, controlRowsFrom, controlRows, propertyRow, propertyRows}
 use Rattle.rules.specs.Tree.{Entries}
 use Rattle.rules.specs.Access2000.{Prop, streamOf}

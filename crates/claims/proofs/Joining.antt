@@ -14,8 +14,8 @@ use Rattle.rules.specs.Bytes.{Bytes}
 use Rattle.rules.specs.Answer.{answer}
 use Rattle.rules.specs.CodeTable.{Tie, Scope, scopes, wellFormed, Holds}
 use Rattle.rules.specs.Read2000.{Spot}
-use Rattle.rules.specs.Texts.{TextExit, textExit}
-use Rattle.rules.specs.Join.{joinScopes, scopesAgree, tableBytes, sameHead, joined, refuse, joinExit, result}
+use Rattle.rules.specs.Texts.{TextExit, textExit, refuse}
+use Rattle.rules.specs.Join.{joinScopes, scopesAgree, tableBytes, sameHead, joined, joinExit, result}
 use Rattle.rules.specs.declared.Answer.{Answer}
 use Rattle.rules.proofs.ListLaws.{and-l, and-r, none-some}
 use Rattle.joinlaws.proofs.TableBytesLaws.{layout-back, header-back, scopes-read, table-formed, written-again}

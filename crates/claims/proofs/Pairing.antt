@@ -17,10 +17,10 @@ use Rattle.rules.specs.Texts.{label}
 use Rattle.rules.specs.CodeTable.{wellFormed}
 use Rattle.rules.specs.Access2000.{streamOf}
 use Rattle.rules.specs.ReadLater.{readLater}
-use Rattle.rules.specs.Rows.{controlWidth, propertyWidth, typeInfoWidth, room, rowAt, written}
+use Rattle.rules.specs.Rows.{controlWidth, propertyWidth, typeInfoWidth, room, rowAt, written, rowsFrom}
 use Rattle.rules.specs.TypeInfo.{TypeInfoExit, typeInfoRows, typeInfoAnswer, typeInfoExit}
 use Rattle.rules.specs.Blob.{Exit, refused, speaks2000, is2000, readBy, readingOf, fit, outcome, answerOf, controlsShown, exitBy, exit, outcome2000, outcomeLater, exit2000, exitLater}
-use Rattle.rules.specs.Pairing.{rowsFrom, controlsIn, infosIn, typeOf, markOf, startOf, sizeOf, cutOf, namedBytes, unitsIn, controlName, isAscii, folded, namesMatch, nameMatches, hasName, typeBy, pairedType, typesSet, isNamed, controlOk, mayPair, PairExit, pairExit}
+use Rattle.rules.specs.Pairing.{controlsIn, infosIn, typeOf, markOf, startOf, sizeOf, cutOf, namedBytes, unitsIn, controlName, isAscii, folded, namesMatch, nameMatches, hasName, typeBy, pairedType, typesSet, isNamed, controlOk, mayPair, PairExit, pairExit}
 use Rattle.rules.specs.declared.Answer.{Answer}
 use Rattle.rules.proofs.ListLaws.{and-l, and-r, none-some}
 use Rattle.rules.proofs.OpenBytes.{bytes-open}

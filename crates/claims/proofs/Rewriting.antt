@@ -13,12 +13,12 @@ use borrow.Author.Tests.{lt-ltb, le-ltb, ltb-true, ltb-false}
 use Rattle.rules.specs.Lists.{_>>=_}
 use Rattle.rules.specs.Bytes.{Bytes, byte}
 use Rattle.rules.specs.Answer.{answer, longest}
-use Rattle.rules.specs.Texts.{TextExit, textExit}
+use Rattle.rules.specs.Texts.{TextExit, textExit, refuse}
 use Rattle.rules.specs.Tree.{Entries}
 use Rattle.rules.specs.Access2000.{Prop, streamOf}
 use Rattle.rules.specs.CodeTable.{layout}
 use Rattle.rules.specs.Blob.{is2000}
-use Rattle.rules.specs.Join.{refuse, result}
+use Rattle.rules.specs.Join.{result}
 use Rattle.rules.specs.Rewrite.{treeBytes, rewritten, rewriteBy, rewriteExit}
 use Rattle.rules.specs.declared.Answer.{Answer}
 use Rattle.rules.proofs.ListLaws.{none-some}

@@ -8,11 +8,10 @@ use lib.Dec.{leb, eqb}
 use lib.ListN.{length, length-append}
 use borrow.Author.Tests.{le-leb, lt-leb, leb-true, eq-eqb, eqb-true}
 use Rattle.rules.specs.Lists.{concat}
-use Rattle.rules.specs.Bytes.{Bytes}
+use Rattle.rules.specs.Bytes.{Bytes, twoBytes}
 use Rattle.rules.specs.Tree.{Entry, plain, parent, Entries, end, more}
 use Rattle.rules.specs.Access2000.{Prop}
 use Rattle.rules.specs.Rewrite.{lengthBytes, valueBytes, propertyBytes, runBytes, many, countBytes, entryBytes, entriesBytes, treeBytes}
-use Rattle.rules.specs.Join.{twoBytes}
 use Rattle.claims.specs.Ways.{Way, just, _then_, in-turn, first, second, with, half}
 use Rattle.claims.specs.Grammar.{Property, Item, leaf, branch, Items, one, Stream, size, property, run, count, item, items, stream, number}
 use Rattle.claims.specs.Contents as read

@@ -14,9 +14,8 @@ use Rattle.rules.specs.Answer.{refusal}
 use Rattle.rules.specs.CodeTable.{Tie}
 use Rattle.rules.specs.NameTables.{controlTypeNames}
 use Rattle.rules.specs.Names.{nameIn}
-use Rattle.rules.specs.Rows.{controlWidth, propertyWidth, room}
+use Rattle.rules.specs.Rows.{controlWidth, propertyWidth, room, rowsFrom}
 use Rattle.rules.specs.Listing.{word}
-use Rattle.rules.specs.Pairing.{rowsFrom}
 use Rattle.rules.specs.Read2000.{Spot, tied}
 use Rattle.rules.specs.Blob.{is2000, outcome, answerOf, Exit, exit, spots}
 use Rattle.rules.specs.Totals.{answersCounted, typeNames, typesCounted, marksCounted, addedBy, zeros, Total, at, totalsExit}

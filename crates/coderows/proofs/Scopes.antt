@@ -13,7 +13,7 @@ use Rattle.rules.specs.Bytes.{Bytes, byte, u16}
 use Rattle.rules.specs.CodeTable.{Tie, Scope, key, keyOf, tiesAt, scopesAt, scopes, scopeCount, contentsAt, bodiesAt, isScope, rowsOf, scopeRows}
 use Rattle.coderows.specs.declared.FoundScope.{FoundScope}
 use Rattle.coderows.specs.declared.FoundScope.the-variants.{At, Missing}
-use Rattle.coderows.specs.Look.{Formed, findBy, itemsAt, indexes, keyAt, countAt, countsTo, asFound, KeysAscend, rowsFrom, noRows, bodyRows}
+use Rattle.coderows.specs.Look.{Formed, findBy, itemsAt, indexes, keyAt, countAt, countsTo, asFound, KeysAscend, foundBody, noRows, bodyRows}
 use Rattle.rules.proofs.CodeTableLaws.{formed}
 use Rattle.joinlaws.proofs.JoinedLaws.{u16-small}
 
@@ -129,6 +129,6 @@ module _ {t : List ℕ} {kind code n : ℕ} {p : FoundScope} (S : ScopeSought t 
   unfolding bodyRows tiesAt
   missing-rows e = ap (rowsAt t contents bodies) (sym (found-none index (sym (S .found keys-ascend) ∙ e))) ∙ rows-there
 
-  pub listed-rows : (i : ℕ) → p ≡ At i → bodyRows t (rowsFrom (bodies + 4 * countsTo t contents i) (countAt t contents i)) ≡ scopeRows t kind code
+  pub listed-rows : (i : ℕ) → p ≡ At i → bodyRows t (foundBody (bodies + 4 * countsTo t contents i) (countAt t contents i)) ≡ scopeRows t kind code
   unfolding bodyRows
   listed-rows i e = ap (rowsAt t contents bodies) (sym (found-some index i (sym (S .found keys-ascend) ∙ e))) ∙ rows-there

@@ -77,11 +77,11 @@ pub record SeeksListed (t xs : List ℕ) (n wanted : ℕ) (r : FoundScope) : Typ
   pub inside : (i : ℕ) → r ≡ At i → i < n
 
 -- the rows of a body that was found
-abbrev pub rowsFrom : ℕ → ℕ → Body
-rowsFrom start count = record { start = start; count = count }
+abbrev pub foundBody : ℕ → ℕ → Body
+foundBody start count = record { start = start; count = count }
 
 abbrev pub noRows : Body
-noRows = rowsFrom 0 0
+noRows = foundBody 0 0
 
 unfoldable pub bodyRows : List ℕ → Body → List Tie
 bodyRows t body = tiesAt t (body .start) (body .count)

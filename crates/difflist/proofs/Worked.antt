@@ -5,7 +5,7 @@ use mathlib.Core.List.{[], _∷_}
 use Rattle.rules.specs.Lists.{text}
 use Rattle.rules.proofs.Open.{rules-open}
 use Rattle.coderows.specs.declared.Row.the-variants.{Tied, Untied}
-use Rattle.tabletext.specs.Text.{rowLine, kindWord, markOf, remark, scopeName, typeRemark}
+use Rattle.tabletext.specs.Text.{rowLine, kindWord, kindMark, remark, scopeName, typeRemark}
 use Rattle.succession.specs.declared.Lack.{Lack}
 use Rattle.succession.specs.Found.{rowFrom}
 use Rattle.joinwhy.specs.Why.{otherLine, lackText}
@@ -28,9 +28,9 @@ abbrev box-source : Lack
 box-source = record { found = true; kind = 2; code = 0x6D; row = rowFrom 0xDD 0x1B 1; other = Untied }
 
 row-missing : lackText box-source ≡ text "entry 006D  # TextBox\nDD 001B text  # ControlSource\nnone\n"
-unfolding lackText otherLine scopeName typeRemark remark rowLine kindWord markOf rules-open
+unfolding lackText otherLine scopeName typeRemark remark rowLine kindWord kindMark rules-open
 row-missing = refl
 
 row-other : otherLine 0xDD (Tied 0x11 1) ≡ text "DD 0011 text  # Caption\n"
-unfolding otherLine rowLine kindWord markOf remark rules-open
+unfolding otherLine rowLine kindWord kindMark remark rules-open
 row-other = refl

@@ -7,8 +7,8 @@ use mathlib.Core.List.{List, _++_}
 use lib.ListN.{length}
 use borrow.Author.Tests.{lt-ltb}
 use Rattle.rules.specs.CodeTable.{headerCount, scopes, rowCount, wellFormed}
-use Rattle.rules.specs.Texts.{textExit}
-use Rattle.rules.specs.Join.{joinScopes, scopesAgree, sameHead, tableBytes, joined, refuse, joinExit}
+use Rattle.rules.specs.Texts.{textExit, refuse}
+use Rattle.rules.specs.Join.{joinScopes, scopesAgree, sameHead, tableBytes, joined, joinExit}
 use Rattle.joinlaws.proofs.TableBytesLaws.{contentsBytes, bodiesBytes, length-codesAt}
 use Rattle.joinlaws.proofs.JoinedLaws.{same-head, exit-joins, joined-length, rows-most}
 use Rattle.join.specs.declared.Sized.{Sized}

@@ -7,9 +7,9 @@ use mathlib.Core.List.{List, [], _∷_, _++_}
 use lib.ListN.{length}
 use borrow.Author.Tests.{eq-eqb, ne-eqb}
 use Rattle.rules.specs.Lists.{concat, same}
-use Rattle.rules.specs.Bytes.{u16}
+use Rattle.rules.specs.Bytes.{u16, twoBytes}
 use Rattle.rules.specs.CodeTable.{codesAt, layout, headerCount, header}
-use Rattle.rules.specs.Join.{twoBytes, sameHead}
+use Rattle.rules.specs.Join.{sameHead}
 use Rattle.joinlaws.proofs.TableBytesLaws.{codesBytes, length-codesAt, no-codes}
 use Rattle.joinlaws.proofs.JoinedLaws.{same-true}
 use Rattle.codetable.proofs.Steps.{codes-next}

@@ -6,9 +6,9 @@ use mathlib.Core.Bool.{Bool, true, false, _&&_}
 use mathlib.Core.List.{List, [], _∷_, _++_, map}
 use lib.ListN.{length}
 use Rattle.rules.specs.Lists.{concat, merge, agree, all, ascends}
-use Rattle.rules.specs.Bytes.{byte, u16}
+use Rattle.rules.specs.Bytes.{byte, u16, twoBytes}
 use Rattle.rules.specs.CodeTable.{Tie, Scope, idOf, key, tiesAt, scopes, scopeOk, rowCount, wellFormed}
-use Rattle.rules.specs.Join.{joinRows, joinScope, joinScopes, sameRow, rowsAgree, scopesAgree, twoBytes, scopeBytes}
+use Rattle.rules.specs.Join.{joinRows, joinScope, joinScopes, sameRow, rowsAgree, scopesAgree, scopeBytes}
 use Rattle.rules.proofs.ListLaws.{and-l, and-r}
 use Rattle.rules.proofs.CodeTableLaws.{formed}
 use Rattle.joinlaws.proofs.MergeLaws.{Ascends}

@@ -6,9 +6,9 @@ use mathlib.Core.List.{List, _∷_, _++_, map}
 use lib.Dec.{ltb, eqb}
 use lib.ListN.{length}
 use Rattle.rules.specs.Lists.{all, ascends, agree}
-use Rattle.rules.specs.Bytes.{byte, u16}
+use Rattle.rules.specs.Bytes.{byte, u16, twoBytes}
 use Rattle.rules.specs.CodeTable.{Tie, Scope, idOf, keyOf, key, tiesAt, scopesAt, layout, header, scopes, scopeCount, contentsAt, bodiesAt, scopeOk, rowCount, wellFormed}
-use Rattle.rules.specs.Join.{joinRows, joinScope, joinScopes, sameRow, rowsAgree, scopesAgree, twoBytes}
+use Rattle.rules.specs.Join.{joinRows, joinScope, joinScopes, sameRow, rowsAgree, scopesAgree}
 use Rattle.joinlaws.proofs.JoinTurns.{Turn}
 use Rattle.joinlaws.proofs.TableBytesLaws.{codesBytes}
 use Rattle.tablebytes.specs.Rows.{tieOf}

@@ -8,9 +8,9 @@ use lib.Dec.{lit<}
 use lib.ListN.{length}
 use borrow.Author.Tests.{leb-true}
 use Rattle.rules.specs.Lists.{concat}
-use Rattle.rules.specs.Bytes.{Bytes}
+use Rattle.rules.specs.Bytes.{Bytes, twoBytes}
 use Rattle.rules.specs.CodeTable.{Tie, Scope, tieOk}
-use Rattle.rules.specs.Join.{twoBytes, tieBytes, tiesBytes, scopeBytes, tableBytes}
+use Rattle.rules.specs.Join.{tieBytes, tiesBytes, scopeBytes, tableBytes}
 use Rattle.rules.proofs.ListLaws.{and-l, and-r, all-there}
 use Rattle.joinlaws.proofs.TableBytesLaws.{Fits}
 use Rattle.joinlaws.proofs.JoinLaws.{scope-ok, Good, good-there}

@@ -16,14 +16,14 @@ use Rattle.joinlaws.proofs.TableBytesLaws.{Fits, length-table, table-fo
 use Rattle.joinlaws.proofs.JoinLaws.{codeFits, good-fits}
 
 -- n rows, with the ids from k on
-unfoldable pub rowsFrom : ℕ → ℕ → List Tie
-rowsFrom zero k = []
-rowsFrom (suc n) k = record { id = k; target = 0; kind = 0 } ∷ rowsFrom n (k + 1)
+unfoldable pub tiesFrom : ℕ → ℕ → List Tie
+tiesFrom zero k = []
+tiesFrom (suc n) k = record { id = k; target = 0; kind = 0 } ∷ tiesFrom n (k + 1)
 
 -- n entries, with the codes from k on, each with every id
 unfoldable pub scopesFrom : ℕ → ℕ → List Scope
 scopesFrom zero k = []
-scopesFrom (suc n) k = record { kind = 2; code = k; rows = rowsFrom 253 0 } ∷ scopesFrom n (k + 1)
+scopesFrom (suc n) k = record { kind = 2; code = k; rows = tiesFrom 253 0 } ∷ scopesFrom n (k + 1)
 
 -- all that document 01 lets stand in a table: four header codes, 64 scopes, 253 rows in each
 abbrev pub codes : List ℕ
@@ -36,7 +36,7 @@ unfoldable pub longest : List ℕ
 longest = tableBytes 1 codes full
 
 full-ok : all scopeOk full ≡ true
-unfolding full scopesFrom rowsFrom all tiesOk ascends
+unfolding full scopesFrom tiesFrom all tiesOk ascends
 full-ok = refl
 
 full-keys : ascends 0 (map key full) ≡ true
@@ -52,7 +52,7 @@ unfolding full scopesFrom
 full-length = refl
 
 full-rows : rowCount full ≡ 16192
-unfolding full scopesFrom rowsFrom rowCount
+unfolding full scopesFrom tiesFrom rowCount
 full-rows = refl
 
 codes-ascend : ascends 0 codes ≡ true
@@ -83,7 +83,7 @@ all-bytes (b ∷ s) e zero = ltb-true b 256 (and-l (ltb b 256) (all (λ (c : ℕ
 all-bytes (b ∷ s) e (suc i) = all-bytes s (and-r (ltb b 256) (all (λ (c : ℕ). ltb c 256) s) e) i
 
 small-bytes : all (λ (b : ℕ). ltb b 256) longest ≡ true
-unfolding longest full scopesFrom rowsFrom tableBytes concat all
+unfolding longest full scopesFrom tiesFrom tableBytes concat all
 small-bytes = refl
 
 pub longest-bytes : Bytes longest

@@ -2,7 +2,8 @@
 use Prim.Native.Nat.{ℕ, zero, suc, _+_}
 use mathlib.Core.Path.{_≡_, refl}
 use mathlib.Core.List.{List, [], _∷_, _++_}
-use Rattle.rules.specs.Join.{refuse, joinExit}
+use Rattle.rules.specs.Texts.{refuse}
+use Rattle.rules.specs.Join.{joinExit}
 use Rattle.rules.specs.Dump.{dump}
 use Rattle.rules.proofs.OpenBytes.{bytes-open}
 use Rattle.rules.proofs.OpenTables.{join-open}

@@ -10,9 +10,9 @@ use lib.Dec.{ltb}
 use lib.ListN.{length}
 use Rattle.rules.specs.Lists.{text}
 use Rattle.rules.specs.Answer.{badTable, noRoomForText, otherHead, twoRows, moreScopes}
-use Rattle.rules.specs.Texts.{TextExit, textExit}
+use Rattle.rules.specs.Texts.{TextExit, textExit, refuse}
 use Rattle.rules.specs.CodeTable.{Tie, scopes, wellFormed, rowOf}
-use Rattle.rules.specs.Join.{scopesAgree, joinScopes, sameHead, joined, refuse, joinExit}
+use Rattle.rules.specs.Join.{scopesAgree, joinScopes, sameHead, joined, joinExit}
 use Rattle.rules.proofs.ListLaws.{and-l, and-r, none-some}
 use Rattle.rules.proofs.CodeTableLaws.{found-held, held-found}
 use Rattle.joinlaws.proofs.MergeLaws.{failed}

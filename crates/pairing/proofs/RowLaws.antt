@@ -9,8 +9,8 @@ use borrow.Author.Tests.{le-leb, lt-leb, ne-eqb}
 use lib.Dec.{leb}
 use lib.ListN.{length}
 use Rattle.rules.specs.Lists.{all, find}
-use Rattle.rules.specs.Rows.{rowAt}
-use Rattle.rules.specs.Pairing.{rowsFrom, controlName, typeBy, hasName, pairedType, isNamed, controlOk}
+use Rattle.rules.specs.Rows.{rowAt, rowsFrom}
+use Rattle.rules.specs.Pairing.{controlName, typeBy, hasName, pairedType, isNamed, controlOk}
 use Rattle.rules.proofs.PairingLaws.{same-name}
 use Rattle.rows.specs.Put.{controlWords, infoWords}
 use Rattle.rows.specs.Get.{ControlOf, InfoOf}

@@ -8,9 +8,9 @@ use native.Mathlib.Nat.{zero-add}
 use lib.ListN.{length, getD, drop}
 use lib.Seq.{getD-drop}
 use Rattle.rules.specs.Lists.{keep}
-use Rattle.rules.specs.Rows.{controlWidth, written, rowAt}
+use Rattle.rules.specs.Rows.{controlWidth, written, rowAt, rowsFrom}
 use Rattle.rules.specs.Listing.{word, controlLine, linesFrom}
-use Rattle.rules.specs.Pairing.{rowsFrom, pairedType, typesSet}
+use Rattle.rules.specs.Pairing.{pairedType, typesSet}
 use Rattle.rules.proofs.RowsLaws.{Wide, row-written}
 use Rattle.rules.proofs.PairingLaws.{word-at, other-stays, type-set}
 use Rattle.listing.specs.Shown.{linesTo}

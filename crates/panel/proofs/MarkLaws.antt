@@ -14,7 +14,7 @@ use Rattle.rules.specs.Lists.{all, same}
 use Rattle.rules.specs.Bytes.{byte, part}
 use Rattle.rules.specs.Panel.{isNewName}
 use Rattle.joinlaws.proofs.JoinedLaws.{same-true}
-use Rattle.panel.specs.ByRows.{startOf, sizeOf, bytesAt, namesBefore, ruleOf}
+use Rattle.panel.specs.ByRows.{startAt, sizeAt, bytesAt, namesBefore, ruleOf}
 use Rattle.panel.specs.Marks.{spread, placeBy, placeOf, tagOf, changed, IsMarked, Marked, Noted, Tried}
 use Rattle.panel.proofs.RuleLaws.{Judging}
 
@@ -174,7 +174,7 @@ module _ {s cs : List ℕ} {n : ℕ} {marks : List ℕ} (m : Marked s cs n marks
 pub tried-broken : {s cs ps : List ℕ} {i : ℕ} {marks : List ℕ} (rule : ℕ) → 0 < rule → rule ≡ ruleOf s cs ps i → Tried s cs ps i marks rule
 tried-broken rule z e = record { told = e; marked = λ q. absurd (omega arith) }
 
-pub tried-kept : {s cs ps : List ℕ} {i : ℕ} {marks : List ℕ} (start size : ℕ) {new : Bool} → start ≡ startOf cs i → size ≡ sizeOf cs i → Noted s cs i (part s start size) marks new
+pub tried-kept : {s cs ps : List ℕ} {i : ℕ} {marks : List ℕ} (start size : ℕ) {new : Bool} → start ≡ startAt cs i → size ≡ sizeAt cs i → Noted s cs i (part s start size) marks new
     → 0 ≡ ruleOf s cs ps i → Tried s cs ps i marks 0
 tried-kept {s} {cs} {ps} {i} {marks} start size p q d e = record { told = e; marked = λ z. record { all-places = d .earlier .all-places; set = set-to } }
   where

@@ -13,7 +13,7 @@ use Rattle.rules.specs.Bytes.{byte, part}
 use Rattle.rules.specs.Rows.{controlWidth}
 use Rattle.rules.specs.Panel.{isNewName}
 use Rattle.rows.proofs.GetLaws.{word-in}
-use Rattle.panel.specs.ByRows.{rowOf, startOf, sizeOf, bytesAt, namesBefore}
+use Rattle.panel.specs.ByRows.{rowOf, startAt, sizeAt, bytesAt, namesBefore}
 
 -- ---- lists that are the same
 and-true : (b : Bool) → (b && true) ≡ b
@@ -91,16 +91,16 @@ module _ {s : List ℕ} {p q size k : ℕ} (c : Comparing s p q size k) (hp : p 
 
 -- ---- a row's name, by the words of the slice
 module _ (s cs : List ℕ) (n start size : ℕ) where
-  pub start-is : getD cs (n * 8 + 2) 0 ≡ startOf cs n
+  pub start-is : getD cs (n * 8 + 2) 0 ≡ startAt cs n
   start-is = sym (word-in controlWidth n 2 cs (omega arith))
 
-  pub size-is : getD cs (n * 8 + 3) 0 ≡ sizeOf cs n
+  pub size-is : getD cs (n * 8 + 3) 0 ≡ sizeAt cs n
   size-is = sym (word-in controlWidth n 3 cs (omega arith))
 
-  pub size-other : startOf cs n + sizeOf cs n ≤ length s → start + size ≤ length s → (getD cs (n * 8 + 3) 0 ≡ size → ⊥)
+  pub size-other : startAt cs n + sizeAt cs n ≤ length s → start + size ≤ length s → (getD cs (n * 8 + 3) 0 ≡ size → ⊥)
       → false ≡ same (bytesAt s cs n) (part s start size)
   size-other h k o =
-      let a = part-long s (startOf cs n) (sizeOf cs n) h in
+      let a = part-long s (startAt cs n) (sizeAt cs n) h in
       let b = part-long s start size k in
       sym (other-length (bytesAt s cs n) (part s start size) (λ e. o (size-is ∙ sym a ∙ e ∙ b)))
 

@@ -20,7 +20,7 @@ use Rattle.rules.specs.declared.Name.the-variants.{Text, Numbered, Loose}
 use Rattle.rules.specs.Panel.{hasTypeName, isTextName, nameBytes, isNewName, isFilled, isPlaced, isShallow, kept, firstBroken, rowOr, brokenFrom, broken, verdict}
 use Rattle.rows.specs.Get.{ControlOf, propertiesFrom}
 use Rattle.rows.specs.declared.ControlRow.{ControlRow}
-use Rattle.panel.specs.ByRows.{rowOf, markOf, startOf, sizeOf, nameBy, controlBy, controlsFrom, bytesAt, namesBefore, between, Inside, Rows, Before, ruleOr0, ruleOf}
+use Rattle.panel.specs.ByRows.{rowOf, markAt, startAt, sizeAt, nameBy, controlBy, controlsFrom, bytesAt, namesBefore, between, Inside, Rows, Before, ruleOr0, ruleOf}
 use Rattle.panel.proofs.PropertyLaws.{counted}
 
 -- ---- names by their words
@@ -165,7 +165,7 @@ module _ {s cs ps : List ℕ} {n i : ℕ} (rows : Rows s cs n) (j : Judging s cs
     unfolding ruleOf
     untouched = rule-none tried (λ x q. numbered 1 _ x q) (sym e)
 
-    mark-0 : markOf cs i ≡ 0
+    mark-0 : markAt cs i ≡ 0
     unfolding kept controlBy
     mark-0 = text-mark (word (rowOf cs i) 1) (word (rowOf cs i) 2) (word (rowOf cs i) 3) (second-kept 1 _ _ _ untouched)
 

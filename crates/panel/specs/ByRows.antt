@@ -21,20 +21,20 @@ use Rattle.rows.specs.Get.{shownBy, propertiesFrom}
 abbrev pub rowOf : List ℕ → ℕ → List ℕ
 rowOf cs i = rowAt controlWidth i cs
 
-abbrev pub markOf : List ℕ → ℕ → ℕ
-markOf cs i = word (rowOf cs i) 1
+abbrev pub markAt : List ℕ → ℕ → ℕ
+markAt cs i = word (rowOf cs i) 1
 
-abbrev pub startOf : List ℕ → ℕ → ℕ
-startOf cs i = word (rowOf cs i) 2
+abbrev pub startAt : List ℕ → ℕ → ℕ
+startAt cs i = word (rowOf cs i) 2
 
-abbrev pub sizeOf : List ℕ → ℕ → ℕ
-sizeOf cs i = word (rowOf cs i) 3
+abbrev pub sizeAt : List ℕ → ℕ → ℕ
+sizeAt cs i = word (rowOf cs i) 3
 
-abbrev pub firstOf : List ℕ → ℕ → ℕ
-firstOf cs i = word (rowOf cs i) 4
+abbrev pub firstAt : List ℕ → ℕ → ℕ
+firstAt cs i = word (rowOf cs i) 4
 
-abbrev pub countOf : List ℕ → ℕ → ℕ
-countOf cs i = word (rowOf cs i) 5
+abbrev pub countAt : List ℕ → ℕ → ℕ
+countAt cs i = word (rowOf cs i) 5
 
 -- ---- controls
 abbrev pub nameBy : ℕ → ℕ → ℕ → Name
@@ -56,7 +56,7 @@ controlsFrom cs ps i (suc n) = controlBy (rowOf cs i) ps ∷ controlsFrom cs ps 
 
 -- the bytes that row i names, and those that the rows before row n name, the last of them first
 abbrev pub bytesAt : List ℕ → List ℕ → ℕ → List ℕ
-bytesAt s cs i = part s (startOf cs i) (sizeOf cs i)
+bytesAt s cs i = part s (startAt cs i) (sizeAt cs i)
 
 unfoldable pub namesBefore : List ℕ → List ℕ → ℕ → List (List ℕ)
 namesBefore s cs zero = []
@@ -76,13 +76,13 @@ pub record NextSource (ps : List ℕ) (from to at : ℕ) : Type 0 where
 
 -- ---- what is asked of the rows that are judged
 abbrev pub Inside : List ℕ → List ℕ → ℕ → Type 0
-Inside s cs i = startOf cs i + sizeOf cs i ≤ length s
+Inside s cs i = startAt cs i + sizeAt cs i ≤ length s
 
 -- n rows are lent; what a row with mark 0 names is in the stream; the property rows' numbers have 32 bits
 pub record Rows (s cs : List ℕ) (n : ℕ) : Type 0 where
   pub lent : n * controlWidth ≤ length cs
-  pub named : (i : ℕ) → i < n → markOf cs i ≡ 0 → Inside s cs i
-  pub counted : (i : ℕ) → i < n → firstOf cs i + countOf cs i ≤ 0xFFFFFFFF
+  pub named : (i : ℕ) → i < n → markAt cs i ≡ 0 → Inside s cs i
+  pub counted : (i : ℕ) → i < n → firstAt cs i + countAt cs i ≤ 0xFFFFFFFF
 
 -- the rows before row i are lent, and what they name is in the stream
 pub record Before (s cs : List ℕ) (i : ℕ) : Type 0 where

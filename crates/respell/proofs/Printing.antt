@@ -11,8 +11,7 @@ use lib.ListN.{length, take, drop, replicate, length-replicate}
 use lib.Seq.{take-at}
 use Rattle.rules.specs.Bytes.{Bytes}
 use Rattle.rules.specs.Answer.{answer, refusal, tooLong, noRoomForText, longest}
-use Rattle.rules.specs.Texts.{textExit}
-use Rattle.rules.specs.Join.{refuse}
+use Rattle.rules.specs.Texts.{textExit, refuse}
 use Rattle.rules.specs.Rewrite.{rewritten, rewriteBy, rewriteExit}
 use Rattle.rules.specs.Listing.{answerLine}
 use Rattle.rules.specs.declared.Answer.{Answer}

@@ -9,10 +9,9 @@ use lib.Dec.{eqb}
 use lib.ListN.{length}
 use borrow.Author.Tests.{eqb-true}
 use Rattle.rules.specs.Lists.{_>>=_, concat}
-use Rattle.rules.specs.Bytes.{halfAt}
+use Rattle.rules.specs.Bytes.{halfAt, twoBytes}
 use Rattle.rules.specs.Tree.{Entry, plain, parent, Entries, manyAt, levelsAt}
 use Rattle.rules.specs.Access2000.{Prop, propertyAt, goesOn, runOf, runAt, headAt, closeAt, entryAt, entriesAt, streamOf}
-use Rattle.rules.specs.Join.{twoBytes}
 use Rattle.rules.specs.Rewrite.{propertyBytes, runBytes, many, countBytes, entryBytes, entriesBytes, treeBytes}
 use Rattle.rules.proofs.ListLaws.{Every, every-if, every-then, every-when}
 use Rattle.rules.proofs.Access2000Laws.{property-within, past-end}

@@ -9,10 +9,9 @@ use lib.Dec.{leb, eqb}
 use lib.ListN.{length, drop, length-drop}
 use lib.Seq.{length-take-le}
 use borrow.Author.Tests.{le-leb, lt-leb, leb-true, leb-false, eqb-false}
-use Rattle.rules.specs.Bytes.{Bytes, byte, byteAt, halfAt}
+use Rattle.rules.specs.Bytes.{Bytes, byte, byteAt, halfAt, twoBytes}
 use Rattle.rules.specs.Access2000.{Prop, lengthAt, extentAt, propertyAt, goesOn}
 use Rattle.rules.specs.Read2000.{bytesOf}
-use Rattle.rules.specs.Join.{twoBytes}
 use Rattle.rules.specs.Rewrite.{lengthBytes, valueBytes, propertyBytes}
 use Rattle.rules.proofs.ListLaws.{Every, every-if, every-then, every-when, every-at}
 use Rattle.rules.proofs.Access2000Laws.{Within, property-within}

@@ -8,8 +8,7 @@ use lib.Dec.{ltb}
 use lib.ListN.{length, take, drop}
 use lib.Seq.{take-add, drop-drop, drop-cons}
 use borrow.Author.Tests.{ltb-true}
-use Rattle.rules.specs.Bytes.{Bytes, part, byte, byteAt, halfAt}
-use Rattle.rules.specs.Join.{twoBytes}
+use Rattle.rules.specs.Bytes.{Bytes, part, byte, byteAt, halfAt, twoBytes}
 use Rattle.rules.proofs.ListLaws.{Every, every-if, every-when, every-at}
 use Rattle.rewrite.specs.Pieces.{between}
 

@@ -11,8 +11,7 @@ use borrow.Author.Tests.{lt-ltb, le-ltb}
 use Rattle.rules.specs.Bytes.{Bytes, byte, halfAt}
 use Rattle.rules.specs.Tree.{Entries}
 use Rattle.rules.specs.Answer.{longest}
-use Rattle.rules.specs.Texts.{textExit}
-use Rattle.rules.specs.Join.{refuse}
+use Rattle.rules.specs.Texts.{textExit, refuse}
 use Rattle.rules.specs.Access2000.{Prop, goesOn, streamOf}
 use Rattle.rules.specs.Rewrite.{treeBytes, rewritten, rewriteExit}
 use Rattle.rules.proofs.ListLaws.{every-at}

@@ -5,10 +5,9 @@ use mathlib.Core.Bool.{true, false}
 use mathlib.Core.List.{List, [], _∷_, _++_}
 use mathlib.Core.Option.{Option, none, some}
 use lib.ListN.{length}
-use Rattle.rules.specs.Bytes.{part, halfAt}
+use Rattle.rules.specs.Bytes.{part, halfAt, twoBytes}
 use Rattle.rules.specs.Tree.{Entries}
 use Rattle.rules.specs.Answer.{longest}
-use Rattle.rules.specs.Join.{twoBytes}
 use Rattle.rules.specs.Access2000.{Prop, propertyAt, goesOn, headAt, streamOf}
 use Rattle.rules.specs.Rewrite.{propertyBytes, countBytes, treeBytes}
 use Rattle.rewrite.specs.declared.Piece.{Piece}

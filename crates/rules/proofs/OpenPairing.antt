@@ -1,7 +1,8 @@
 -- Pairing.
 use Prim.Native.Nat.{ℕ}
 use Rattle.rules.specs.Lists.{same}
-use Rattle.rules.specs.Pairing.{rowsFrom, unitsIn, controlName, namesMatch, hasName, pairedType, typesSet, mayPair, pairExit}
+use Rattle.rules.specs.Rows.{rowsFrom}
+use Rattle.rules.specs.Pairing.{unitsIn, controlName, namesMatch, hasName, pairedType, typesSet, mayPair, pairExit}
 use Rattle.rules.proofs.OpenBytes.{bytes-open}
 use Rattle.rules.proofs.OpenTexts.{texts-open}
 

@@ -11,9 +11,9 @@ use lib.Seq.{getD-take, getD-drop, getD-set-same, getD-set-other, set-getD, drop
 use borrow.Author.Tests.{ltb-true, ltb-false, leb-true, le-leb, eqb-true, eqb-false}
 use Rattle.rules.specs.Lists.{all, find}
 use Rattle.rules.specs.Answer.{answer, refusal, badRows}
-use Rattle.rules.specs.Rows.{controlWidth, typeInfoWidth, room, rowAt}
+use Rattle.rules.specs.Rows.{controlWidth, typeInfoWidth, room, rowAt, rowsFrom}
 use Rattle.rules.specs.Listing.{word}
-use Rattle.rules.specs.Pairing.{rowsFrom, controlsIn, infosIn, typeOf, markOf, startOf, sizeOf, controlName, typeBy, hasName, pairedType, typesSet, isNamed, controlOk, mayPair, pairExit}
+use Rattle.rules.specs.Pairing.{controlsIn, infosIn, typeOf, markOf, startOf, sizeOf, controlName, typeBy, hasName, pairedType, typesSet, isNamed, controlOk, mayPair, pairExit}
 use Rattle.rules.proofs.ListLaws.{and-l, and-r}
 
 -- ---- rows by their place

@@ -4,8 +4,8 @@ use mathlib.Core.Path.{_≡_, refl}
 use mathlib.Core.List.{List, [], _∷_, _++_}
 use lib.ListN.{replicate}
 use Rattle.rules.specs.Answer.{answer}
-use Rattle.rules.specs.Texts.{TextExit}
-use Rattle.rules.specs.Join.{refuse, joinExit}
+use Rattle.rules.specs.Texts.{TextExit, refuse}
+use Rattle.rules.specs.Join.{joinExit}
 use Rattle.rules.specs.Dump.{dump}
 use Rattle.rules.proofs.OpenBytes.{bytes-open}
 use Rattle.rules.proofs.OpenTables.{join-open}

@@ -5,7 +5,7 @@ use mathlib.Core.List.{List, _++_}
 use mathlib.Core.Option.{some}
 use lib.ListN.{replicate}
 use Rattle.rules.specs.Answer.{answer}
-use Rattle.rules.specs.Join.{refuse}
+use Rattle.rules.specs.Texts.{refuse}
 use Rattle.rules.specs.Rewrite.{lengthBytes, valueBytes, propertyBytes, many, countBytes, entryBytes, entriesBytes, treeBytes, rewritten, rewriteExit}
 use Rattle.rules.specs.Dump.{dump}
 use Rattle.rules.proofs.OpenBytes.{bytes-open}

@@ -10,16 +10,11 @@ use Rattle.rules.specs.Lists.{_>>=_, all, find, same}
 use Rattle.rules.specs.Bytes.{part}
 use Rattle.rules.specs.Answer.{answer, refusal, badRows}
 use Rattle.rules.specs.Texts.{label}
-use Rattle.rules.specs.Rows.{controlWidth, typeInfoWidth, room, rowAt}
+use Rattle.rules.specs.Rows.{controlWidth, typeInfoWidth, room, rowAt, rowsFrom}
 use Rattle.rules.specs.Listing.{word}
 use Rattle.rules.specs.declared.Answer.{Answer}
 
 -- ---- rows by their words
--- row i of a slice and those after it, n of them
-unfoldable pub rowsFrom : ℕ → ℕ → ℕ → List ℕ → List (List ℕ)
-rowsFrom width i zero words = []
-rowsFrom width i (suc n) words = rowAt width i words ∷ rowsFrom width (i + 1) n words
-
 -- "the rows counted"
 abbrev pub controlsIn : ℕ → List ℕ → List (List ℕ)
 controlsIn n controls = rowsFrom controlWidth 0 n controls

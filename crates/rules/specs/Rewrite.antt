@@ -9,8 +9,8 @@ use lib.Dec.{ltb, leb, eqb}
 use lib.ListN.{length, take}
 use Rattle.rules.specs.Lists.{_>>=_, concat}
 use Rattle.rules.specs.Answer.{noReading, tooLong, longest}
-use Rattle.rules.specs.Texts.{TextExit, textExit}
-use Rattle.rules.specs.Join.{twoBytes, refuse}
+use Rattle.rules.specs.Texts.{TextExit, textExit, refuse}
+use Rattle.rules.specs.Bytes.{twoBytes}
 use Rattle.rules.specs.Tree.{Entry, plain, parent, Entries, end, more}
 use Rattle.rules.specs.Access2000.{Prop, streamOf}
 use Rattle.rules.specs.Read2000.{bytesOf}

@@ -1,6 +1,6 @@
 -- Rows of numbers of 32 bits, put into lent slices.
-use Prim.Native.Nat.{ℕ, _*_, _/_}
-use mathlib.Core.List.{List}
+use Prim.Native.Nat.{ℕ, zero, suc, _+_, _*_, _/_}
+use mathlib.Core.List.{List, [], _∷_}
 use lib.ListN.{length, take, drop}
 use lib.Seq.{sets}
 use Rattle.rules.specs.Lists.{concat}
@@ -35,3 +35,8 @@ written rows old = sets old 0 (concat rows)
 -- row i of a slice
 abbrev pub rowAt : ℕ → ℕ → List ℕ → List ℕ
 rowAt width i words = take width (drop (i * width) words)
+
+-- row i of a slice and those after it, n of them
+unfoldable pub rowsFrom : ℕ → ℕ → ℕ → List ℕ → List (List ℕ)
+rowsFrom width i zero words = []
+rowsFrom width i (suc n) words = rowAt width i words ∷ rowsFrom width (i + 1) n words

@@ -36,6 +36,10 @@ pub record TextExit : Type 0 where
   pub answer : Answer
   pub out : List ℕ
 
+-- a refusal "writes nothing"
+abbrev pub refuse : ℕ → List ℕ → TextExit
+refuse number out = record { answer = refusal number; out = out }
+
 -- "On 0 these .. return the length written as first count, then 0 and 0; bytes beyond stay." "answers 9 if it doesn't fit"; "A refusal writes nothing."
 unfoldable pub textExit : List ℕ → List ℕ → TextExit
 textExit t out =

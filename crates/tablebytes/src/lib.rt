@@ -5,7 +5,8 @@ ghost use mathlib.Core.Path.{_≡_};
 ghost use mathlib.Core.List.{_∷_, _++_};
 ghost use Prim.Native.Nat.{_+_, _<_, _^_};
 ghost use Rattle.rules.specs.CodeTable.{tieAt};
-ghost use Rattle.rules.specs.Join.{twoBytes, tieBytes};
+ghost use Rattle.rules.specs.Bytes.{twoBytes};
+ghost use Rattle.rules.specs.Join.{tieBytes};
 ghost use Rattle.text.specs.Writer.{Wrote};
 ghost use Rattle.tablebytes.specs.Rows.{tieOf};
 

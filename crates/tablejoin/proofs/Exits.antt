@@ -9,9 +9,9 @@ use lib.Dec.{ltb}
 use lib.ListN.{length, take, drop, length-append, length-replicate}
 use lib.Seq.{take-at}
 use Rattle.rules.specs.Answer.{answer, refusal, badTable, noRoomForText, otherHead, twoRows, moreScopes}
-use Rattle.rules.specs.Texts.{TextExit, textExit}
+use Rattle.rules.specs.Texts.{TextExit, textExit, refuse}
 use Rattle.rules.specs.CodeTable.{scopes, wellFormed}
-use Rattle.rules.specs.Join.{joinScopes, scopesAgree, sameHead, joined, refuse, joinExit}
+use Rattle.rules.specs.Join.{joinScopes, scopesAgree, sameHead, joined, joinExit}
 use Rattle.rules.specs.Listing.{answerLine}
 use Rattle.rules.specs.declared.Answer.{Answer}
 use Rattle.rules.proofs.ListLaws.{and-l, and-r}

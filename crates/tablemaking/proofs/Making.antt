@@ -7,7 +7,7 @@ use mathlib.Core.Bool.{true, false}
 use mathlib.Core.List.{List, [], _∷_, _++_}
 use borrow.Author.Tests.{lt-ltb, le-ltb, eq-eqb, ne-eqb}
 use lib.ListN.{length, drop}
-use Rattle.rules.specs.Join.{twoBytes}
+use Rattle.rules.specs.Bytes.{twoBytes}
 use Rattle.text.specs.Writer.{Wrote}
 use Rattle.text.proofs.Written.{all}
 use Rattle.tablelines.specs.Faults.{longText, noRoom}

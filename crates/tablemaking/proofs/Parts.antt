@@ -9,7 +9,8 @@ use types.Run.{OneOf, miss}
 use denote.Enum.Declared.{tagOf}
 use Rattle.rules.specs.Lists.{concat}
 use Rattle.rules.specs.CodeTable.{Tie}
-use Rattle.rules.specs.Join.{twoBytes, tieBytes, tiesBytes, scopeBytes, tableBytes}
+use Rattle.rules.specs.Bytes.{twoBytes}
+use Rattle.rules.specs.Join.{tieBytes, tiesBytes, scopeBytes, tableBytes}
 use Rattle.joinlaws.proofs.TableBytesLaws.{codesBytes, contentsBytes, bodiesBytes}
 use Rattle.text.specs.Writer.{Wrote}
 use Rattle.text.proofs.Remains.{Remains, all-remains, on, done}

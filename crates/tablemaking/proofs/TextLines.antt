@@ -16,7 +16,7 @@ use Rattle.rules.specs.NameTables.{Table, textNames, numberNames, bytesNames, c
 use Rattle.rules.specs.Names.{hasId, nameText, nameIn, namesFor}
 use Rattle.rules.specs.CodeTable.{Tie}
 use Rattle.rules.proofs.ListLaws.{and-l, and-r, all-there, found-there}
-use Rattle.tabletext.specs.Text.{remark, kindWord, markOf, rowLine, scopeName, typeRemark, scopeLine, headerLine}
+use Rattle.tabletext.specs.Text.{remark, kindWord, kindMark, rowLine, scopeName, typeRemark, scopeLine, headerLine}
 use Rattle.tablelines.specs.Words.{onto, linesOf, lineEnd, sign, letter, blank, isBlank, stops, before, onward, word, afterWord, digitOf, byteOf, twoOf, fourOf, rowKindOf}
 use Rattle.tablelines.proofs.WordLaws.{other-length, a-byte, a-code}
 use Rattle.tablelines.specs.Items.{Digit, itemOf, itemIn, itemBy, itemsOf, numberFault, unless, layoutItem, headerItem, plainScopeItem, entryItem, rowItem}
@@ -421,7 +421,7 @@ header-said c rest h = two-words (text "header") [] rest (high-word (text "heade
 pub row-said : (r : Tie) (rest : List ℕ) → r .id < 256 → r .target < 65536 → r .kind ≤ 4 → itemsOf (rowLine r ++ rest) ≡ Row (r .id) (r .target) (r .kind) ∷ itemsOf rest
 unfolding rowLine
 row-said r rest i t k =
-    let mark : ℕ = markOf (r .id) (r .kind) in
+    let mark : ℕ = kindMark (r .id) (r .kind) in
     three-words (hex 2 (r .id)) (nameIn (namesFor mark) (r .target)) rest (two-word (r .id)) (name-plain (namesFor mark) (names-plain mark) (r .target))
     (hex 4 (r .target)) (four-word (r .target)) (kindWord (r .kind)) (kind-word (r .kind))
     (rowLine r ++ rest) (Row (r .id) (r .target) (r .kind)) (simp append-assoc) (row-item (r .id) (r .target) (r .kind) i t k)

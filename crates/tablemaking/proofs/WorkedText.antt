@@ -24,7 +24,7 @@ unfolding lines-open after headerFault scopeFault rowFault belowLayout layoutFau
 made-open = 0
 
 unfoldable pub shown-open : ℕ
-unfolding bytes-open join-open names-open shown.remark shown.kindWord shown.markOf shown.rowLine shown.rowLines shown.scopeName shown.typeRemark shown.scopeLine shown.scopeLines shown.headerLine shown.headerLines shown.tableText
+unfolding bytes-open join-open names-open shown.remark shown.kindWord shown.kindMark shown.rowLine shown.rowLines shown.scopeName shown.typeRemark shown.scopeLine shown.scopeLines shown.headerLine shown.headerLines shown.tableText
 shown-open = 0
 
 -- ---- the example of tabletext/specs/Text.antt: its text, and its table

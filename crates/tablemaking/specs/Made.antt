@@ -7,7 +7,8 @@ use lib.Dec.{ltb, eqb}
 use lib.ListN.{length, drop}
 use Rattle.rules.specs.CodeTable as table
 use Rattle.rules.specs.Lists.{concat}
-use Rattle.rules.specs.Join.{twoBytes, tieBytes, scopeBytes, tableBytes}
+use Rattle.rules.specs.Bytes.{twoBytes}
+use Rattle.rules.specs.Join.{tieBytes, scopeBytes, tableBytes}
 use Rattle.tablelines.specs.Faults.{longText, noRoom}
 use Rattle.tablelines.specs.Items.{itemsOf}
 use Rattle.tablelines.specs.declared.Item.{Item}

@@ -16,7 +16,7 @@ use Rattle.rules.specs.CodeTable.{Tie, codesAt, tieAt, tiesAt, scopesAt}
 use Rattle.text.specs.Writer.{Wrote}
 use Rattle.codetable.specs.Reads.{ReadsRow}
 use Rattle.codetable.specs.declared.RowRead.{RowRead}
-use Rattle.tabletext.specs.Text.{remark, kindWords, kindWord, markOf, rowLine, rowLines, scopeName, typeRemark, scopeLine, scopeLines, headerLine, headerLines, tableText}
+use Rattle.tabletext.specs.Text.{remark, kindWords, kindWord, kindMark, rowLine, rowLines, scopeName, typeRemark, scopeLine, scopeLines, headerLine, headerLines, tableText}
 
 -- ---- names
 pub no-remark : (s : List ℕ) → length s ≡ 0 → remark s ≡ []
@@ -35,12 +35,12 @@ pub a-kind : {o n : List ℕ} {a r kind : ℕ} (k : ℕ) → kind ≡ k → Wrot
 unfolding kindWord
 a-kind k e w = rw e w
 
-pub mark-number : (i k : ℕ) → i ≤ 0xBC → markOf i k ≡ 3
-unfolding markOf
+pub mark-number : (i k : ℕ) → i ≤ 0xBC → kindMark i k ≡ 3
+unfolding kindMark
 mark-number i k h = rw (le-leb i 0xBC h)
 
-pub mark-above : (i k : ℕ) → 0xBC < i → markOf i k ≡ getD (7 ∷ 6 ∷ 5 ∷ 4 ∷ []) k 7
-unfolding markOf
+pub mark-above : (i k : ℕ) → 0xBC < i → kindMark i k ≡ getD (7 ∷ 6 ∷ 5 ∷ 4 ∷ []) k 7
+unfolding kindMark
 mark-above i k h = rw (lt-leb i 0xBC h)
 
 tie-of : {i x k i′ x′ k′ : ℕ} → i ≡ i′ → x ≡ x′ → k ≡ k′ → _≡_ {A = Tie} (record { id = i; target = x; kind = k }) (record { id = i′; target = x′; kind = k′ })

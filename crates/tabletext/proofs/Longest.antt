@@ -23,7 +23,7 @@ use Rattle.listing.specs.Bound.{longestIn, longestType, longestName}
 use Rattle.listing.proofs.Longest.{hex-length, value-name-short}
 use Rattle.listing.proofs.Longest as listed
 use Rattle.tabletext.proofs.Lines.{plainNames, plain-scope, entry-scope}
-use Rattle.tabletext.specs.Text.{remark, kindWords, kindWord, markOf, rowLine, rowLines, scopeName, typeRemark, scopeLine, scopeLines, headerLine, headerLines, tableText}
+use Rattle.tabletext.specs.Text.{remark, kindWords, kindWord, kindMark, rowLine, rowLines, scopeName, typeRemark, scopeLine, scopeLines, headerLine, headerLines, tableText}
 
 -- ---- parts of a line
 -- a name is no longer than what stands in its place in a listing
@@ -57,7 +57,7 @@ type-short k c false e =
 pub row-short : (r : Tie) → length (rowLine r) ≤ 45
 unfolding rowLine
 row-short r =
-    let mark = markOf (r .id) (r .kind) in
+    let mark = kindMark (r .id) (r .kind) in
     simp length-append
     (omega (
       arith,

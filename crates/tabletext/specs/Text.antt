@@ -38,15 +38,15 @@ kindWord kind = getD kindWords kind (text "bytes")
 
 -- the mark whose names a row's target bears: an id up to 0xBC stands before a number (3, Long); above, Text is 6, Guid 5, Double 4,
 -- and Number and Bytes are stored as Binary, 7
-unfoldable pub markOf : ℕ → ℕ → ℕ
-markOf id kind = cond (leb id 0xBC) 3 (getD (7 ∷ 6 ∷ 5 ∷ 4 ∷ []) kind 7)
+unfoldable pub kindMark : ℕ → ℕ → ℕ
+kindMark id kind = cond (leb id 0xBC) 3 (getD (7 ∷ 6 ∷ 5 ∷ 4 ∷ []) kind 7)
 
 unfoldable pub rowLine : Tie → List ℕ
 rowLine r =
     hex 2 (r .id)
     ++ (text " " ++ (hex 4 (r .target)
     ++ (text " " ++ (kindWord (r .kind)
-    ++ (remark (nameIn (namesFor (markOf (r .id) (r .kind))) (r .target))
+    ++ (remark (nameIn (namesFor (kindMark (r .id) (r .kind))) (r .target))
     ++ text "\n")))))
 
 unfoldable pub rowLines : List Tie → List ℕ

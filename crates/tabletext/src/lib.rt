@@ -59,7 +59,7 @@ fn put_kind(out: &mut [u8], at: usize, kind: usize) -> usize
 }
 
 fn mark_of(id: usize, kind: usize) -> u32
-    ensures { λ r. ⌜ r ≡ t.markOf id kind ⌝ }
+    ensures { λ r. ⌜ r ≡ t.kindMark id kind ⌝ }
 {
     if id <= 0xBC {
         return 3;

@@ -5,8 +5,7 @@ use mathlib.Core.Path.{_≡_, refl, ap, ap₂, _∙_}
 use mathlib.Core.List.{List, [], _∷_, _++_}
 use lib.ListN.{length, getD}
 use Rattle.rules.specs.Lists.{concat}
-use Rattle.rules.specs.Rows.{rowAt}
-use Rattle.rules.specs.Pairing.{rowsFrom}
+use Rattle.rules.specs.Rows.{rowAt, rowsFrom}
 use Rattle.rules.proofs.RowsLaws.{Wide, row-of-words}
 
 row-by-row : (w i : ℕ) (rows : List (List ℕ)) (words : List ℕ) → ((k : ℕ) → k < length rows → rowAt w (i + k) words ≡ getD rows k []) → rowsFrom w i (length rows) words ≡ rows

@@ -4,9 +4,8 @@ use mathlib.Core.Bool.{cond}
 use mathlib.Core.List.{List, [], _∷_, _++_}
 use lib.Dec.{ltb}
 use lib.ListN.{length, take, drop}
-use Rattle.rules.specs.Bytes.{u32}
+use Rattle.rules.specs.Bytes.{u32, twoBytes}
 use Rattle.rules.specs.Answer.{refusal, badTable}
-use Rattle.rules.specs.Join.{twoBytes}
 use Rattle.rules.specs.Listing.{answerLine}
 use Rattle.rules.specs.Totals.{totalsExit}
 use Rattle.rules.specs.declared.Totals.{Totals}

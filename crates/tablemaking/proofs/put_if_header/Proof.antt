@@ -1,5 +1,5 @@
 use mathlib.Core.List.{[]}
-use Rattle.rules.specs.Join.{twoBytes}
+use Rattle.rules.specs.Bytes.{twoBytes}
 use Rattle.text.proofs.Chain.{nothing}
 use Rattle.tablemaking.specs.Made.{byPart, codeBytes}
 use Rattle.tablemaking.proofs.Parts.{no-header}
