@@ -2,83 +2,87 @@
 use Prim.Native.Nat.{ℕ, suc, _+_, _-_, _≤_, _<_}
 use native.Mathlib.Omega.{arith}
 use mathlib.Core.Path.{_≡_, sym, ap, _∙_}
-use mathlib.Core.Bool.{Bool, true, false}
+use mathlib.Core.Bool.{Bool, true, false, not}
 use mathlib.Core.List.{List, [], _∷_}
 use mathlib.Core.Option.{Option, none, some}
-use borrow.Author.Tests.{le-leb, lt-leb, ne-eqb}
+use borrow.Author.Tests.{le-leb, lt-leb, ne-eqb, not-true, not-false}
 use lib.Dec.{leb}
 use lib.ListN.{length}
 use Rattle.rules.specs.Lists.{all, find}
 use Rattle.rules.specs.Rows.{rowAt, rowsFrom}
 use Rattle.rules.specs.Pairing.{controlName, typeBy, hasName, pairedType, isNamed, controlOk}
-use Rattle.rules.proofs.PairingLaws.{same-name}
+use Rattle.rules.proofs.PairingLaws.{all-rows, same-name}
 use Rattle.rows.specs.Put.{controlWords, infoWords}
 use Rattle.rows.specs.Get.{ControlOf, InfoOf}
 use Rattle.rows.specs.declared.ControlRow.{ControlRow}
 use Rattle.rows.specs.declared.InfoRow.{InfoRow}
 
--- ---- from row j on, of m
+-- ---- a loop over m rows
 module _ (w m : ℕ) (l : List ℕ) where
+  -- those from row j on
   abbrev pub rest : ℕ → List (List ℕ)
   rest j = rowsFrom w j (m - j) l
 
-  all-whole : (p : List ℕ → Bool) → all p (rowsFrom w 0 m l) ≡ all p (rest 0)
-  all-whole p = let n : m ≡ m - 0 = omega arith in ap (λ (k : ℕ). all p (rowsFrom w 0 k l)) n
+  next-row : (j : ℕ) → j < m → rest j ≡ rowAt w j l ∷ rest (j + 1)
+  unfolding rowsFrom
+  next-row j h = let n : m - j ≡ suc (m - (j + 1)) = omega arith in rw n
 
-  pub find-whole : (p : List ℕ → Bool) → find p (rowsFrom w 0 m l) ≡ find p (rest 0)
-  find-whole p = let n : m ≡ m - 0 = omega arith in ap (λ (k : ℕ). find p (rowsFrom w 0 k l)) n
+  no-row : (j : ℕ) → m ≤ j → rest j ≡ []
+  unfolding rowsFrom
+  no-row j h = let n : m - j ≡ 0 = omega arith in rw n
 
-  module _ (p : List ℕ → Bool) (j : ℕ) where
-    next-row : j < m → rest j ≡ rowAt w j l ∷ rest (j + 1)
-    unfolding rowsFrom
-    next-row h = let n : m - j ≡ suc (m - (j + 1)) = omega arith in rw n
-
-    no-row : m ≤ j → rest j ≡ []
-    unfolding rowsFrom
-    no-row h = let n : m - j ≡ 0 = omega arith in rw n
-
-    pub find-here : j < m → p (rowAt w j l) ≡ true → find p (rest j) ≡ some (rowAt w j l)
-    unfolding find
-    find-here h e = rw (next-row h, e)
-
-    pub find-next : j < m → p (rowAt w j l) ≡ false → find p (rest j) ≡ find p (rest (j + 1))
-    unfolding find
-    find-next h e = rw (next-row h, e)
-
-    pub find-end : m ≤ j → find p (rest j) ≡ none
-    unfolding find
-    find-end h = rw (no-row h)
-
-    all-fails : j < m → p (rowAt w j l) ≡ false → all p (rest j) ≡ false
-    unfolding all
-    all-fails h e = rw (next-row h, e)
-
-    all-next : j < m → p (rowAt w j l) ≡ true → all p (rest j) ≡ all p (rest (j + 1))
-    unfolding all
-    all-next h e = rw (next-row h, e)
-
-    all-end : m ≤ j → all p (rest j) ≡ true
-    unfolding all
-    all-end h = rw (no-row h)
-
--- ---- a loop that judges m rows by p: those from row j on decide
-pub record Judging (w m : ℕ) (l : List ℕ) (p : List ℕ → Bool) (j : ℕ) : Type 0 where
+-- what f says by the test p of the rows from j on, it says of all
+pub record Deciding {A : Type 0} (w m : ℕ) (l : List ℕ) (f : (List ℕ → Bool) → List (List ℕ) → A) (p : List ℕ → Bool) (j : ℕ) : Type 0 where
   pub within : j ≤ m
-  pub decides : all p (rowsFrom w 0 m l) ≡ all p (rest w m l j)
+  pub decides : f p (rowsFrom w 0 m l) ≡ f p (rest w m l j)
 
-module _ {w m : ℕ} {l : List ℕ} {p : List ℕ → Bool} where
-  pub judging-start : Judging w m l p 0
-  judging-start = record { within = omega arith; decides = all-whole w m l p }
+module _ {A : Type 0} {w m : ℕ} {l : List ℕ} {f : (List ℕ → Bool) → List (List ℕ) → A} {p : List ℕ → Bool} where
+  pub all-decide : Deciding w m l f p 0
+  all-decide = let n : m ≡ m - 0 = omega arith in record { within = omega arith; decides = ap (λ (k : ℕ). f p (rowsFrom w 0 k l)) n }
 
-  module _ {j : ℕ} (g : Judging w m l p j) where
-    pub judged-bad : j < m → p (rowAt w j l) ≡ false → false ≡ all p (rowsFrom w 0 m l)
-    judged-bad h e = sym (g .decides ∙ all-fails w m l p j h e)
+  module _ {j : ℕ} (d : Deciding w m l f p j) where
+    first-decides : j < m → f p (rowsFrom w 0 m l) ≡ f p (rowAt w j l ∷ rest w m l (j + 1))
+    first-decides h = d .decides ∙ ap (f p) (next-row w m l j h)
 
-    pub judged-good : j < m → p (rowAt w j l) ≡ true → Judging w m l p (j + 1)
-    judged-good h e = record { within = omega arith; decides = g .decides ∙ all-next w m l p j h e }
+    first-passed : j < m → f p (rowAt w j l ∷ rest w m l (j + 1)) ≡ f p (rest w m l (j + 1)) → Deciding w m l f p (j + 1)
+    first-passed h e = record { within = omega arith; decides = first-decides h ∙ e }
 
-    pub judged-all : m ≤ j → true ≡ all p (rowsFrom w 0 m l)
-    judged-all h = sym (g .decides ∙ all-end w m l p j h)
+    none-left : m ≤ j → f p (rowsFrom w 0 m l) ≡ f p []
+    none-left h = d .decides ∙ ap (f p) (no-row w m l j h)
+
+-- rows judged by p; b is what was said of row j
+module _ {w m : ℕ} {l : List ℕ} {p : List ℕ → Bool} {j : ℕ} (d : Deciding w m l all p j) where
+  pub judged-all : m ≤ j → true ≡ all p (rowsFrom w 0 m l)
+  unfolding all
+  judged-all h = sym (none-left d h)
+
+  module _ (h : j < m) {b : Bool} (said : b ≡ p (rowAt w j l)) where
+    pub judged-bad : not b ≡ true → false ≡ all p (rowsFrom w 0 m l)
+    unfolding all
+    judged-bad e = sym (first-decides d h ∙ rw (sym said ∙ not-true b e))
+
+    pub judged-good : not b ≡ false → Deciding w m l all p (j + 1)
+    unfolding all
+    judged-good e = first-passed d h (rw (sym said ∙ not-false b e))
+
+-- the first of them that p tells
+module _ {w m : ℕ} {l : List ℕ} {p : List ℕ → Bool} {j : ℕ} (d : Deciding w m l find p j) where
+  pub found-nowhere : m ≤ j → find p (rowsFrom w 0 m l) ≡ none
+  unfolding find
+  found-nowhere h = none-left d h
+
+  module _ (h : j < m) {b : Bool} (said : b ≡ p (rowAt w j l)) where
+    pub found-here : b ≡ true → find p (rowsFrom w 0 m l) ≡ some (rowAt w j l)
+    unfolding find
+    found-here e = first-decides d h ∙ rw (sym said ∙ e)
+
+    pub found-later : b ≡ false → Deciding w m l find p (j + 1)
+    unfolding find
+    found-later e = first-passed d h (rw (sym said ∙ e))
+
+-- each of the rows that were judged
+pub each-row : (p : List ℕ → Bool) (w n : ℕ) (l : List ℕ) → all p (rowsFrom w 0 n l) ≡ true → (k : ℕ) → k < n → p (rowAt w k l) ≡ true
+each-row p w n l e k u = let z : k ≡ 0 + k = omega arith in ap (λ (i : ℕ). p (rowAt w i l)) z ∙ all-rows p w l 0 n e k u
 
 -- ---- words by their names
 module _ {row : List ℕ} {r : InfoRow} (i : InfoOf row r) where

@@ -14,10 +14,10 @@ use Rattle.rules.specs.Lists.{all, find}
 use Rattle.rules.specs.Bytes.{part}
 use Rattle.rules.specs.declared.Answer.{Answer}
 use Rattle.rules.specs.Texts.{label, textExit, labelExit}
-use Rattle.rules.specs.Rows.{controlWidth, typeInfoWidth, rowAt}
-use Rattle.rules.specs.Pairing.{controlsIn, infosIn, cutOf, unitsIn, controlName, namesMatch, hasName, typeBy, pairedType, typesSet, isNamed, controlOk}
+use Rattle.rules.specs.Rows.{controlWidth, rowAt}
+use Rattle.rules.specs.Pairing.{controlsIn, cutOf, unitsIn, controlName, namesMatch, hasName, typeBy, pairedType, typesSet, isNamed, controlOk}
 use Rattle.rules.proofs.ListLaws.{and-l, and-r}
-use Rattle.rules.proofs.PairingLaws.{all-rows, row-stays}
+use Rattle.rules.proofs.PairingLaws.{row-stays}
 use Rattle.text.proofs.Digits.{longest-label}
 use Rattle.rows.specs.Put.{controlWords, infoWords}
 use Rattle.rows.specs.Get.{ControlOf}
@@ -26,7 +26,7 @@ use Rattle.rows.specs.declared.InfoRow.{InfoRow}
 use Rattle.pairing.specs.Wanted.{unitsFrom, nameOf, Inside}
 use Rattle.pairing.specs.declared.Wanted.{Wanted}
 use Rattle.pairing.proofs.NameLaws.{and-false, other-length, bytes-are, units-are, odd-none}
-use Rattle.pairing.proofs.RowLaws.{control-ok, control-type}
+use Rattle.pairing.proofs.RowLaws.{each-row, control-ok, control-type}
 
 -- ---- one TypeInfo row
 letters-from : (s : List ℕ) (name : Wanted) (i n : ℕ) → length (unitsFrom s name i n) ≡ n
@@ -58,10 +58,6 @@ module _ (s t : List ℕ) (name : Wanted) (info : InfoRow) where
   pub name-other : info .cut ≡ 0 → info .size ≡ name .letters → namesMatch (nameOf s name) (part t (info .start) (name .letters)) ≡ false
       → false ≡ hasName t (some (nameOf s name)) (infoWords info)
   name-other whole size e = name-compared false whole size (sym e)
-
--- ---- all of them
-pub row-named : (t infos : List ℕ) (m j : ℕ) → all (isNamed t) (infosIn m infos) ≡ true → j < m → isNamed t (rowAt typeInfoWidth j infos) ≡ true
-row-named t infos m j e u = let z : j ≡ 0 + j = omega arith in ap (λ (k : ℕ). isNamed t (rowAt typeInfoWidth k infos)) z ∙ all-rows (isNamed t) typeInfoWidth infos 0 m e j u
 
 -- no name is found nowhere
 none-found : (t : List ℕ) (infos : List (List ℕ)) → find (hasName t none) infos ≡ none
@@ -150,10 +146,7 @@ module _ (s t controls : List ℕ) (infos : List (List ℕ)) (k : ℕ) where
 
   module _ (r : ControlRow) (c : ControlOf (rowAt controlWidth k (typesSet s t infos k controls)) r) where
     pub next-ok : (n : ℕ) → all (controlOk s) (controlsIn n controls) ≡ true → k < n → controlOk s (controlWords r) ≡ true
-    next-ok n e u =
-        let z : k ≡ 0 + k = omega arith in
-        control-ok c s ∙ ap (controlOk s) (row-stays s t infos controls k)
-        ∙ ap (λ (j : ℕ). controlOk s (rowAt controlWidth j controls)) z ∙ all-rows (controlOk s) controlWidth controls 0 n e k u
+    next-ok n e u = control-ok c s ∙ ap (controlOk s) (row-stays s t infos controls k) ∙ each-row (controlOk s) controlWidth n controls e k u
 
     pub next-type : pairedType s t infos (controlWords r) ≡ pairedType s t infos (rowAt controlWidth k controls)
     next-type = control-type c s t infos ∙ ap (pairedType s t infos) (row-stays s t infos controls k)
