@@ -35,8 +35,8 @@ use Rattle.listing.specs.Bound.{longestAnswer, longestControl}
 use Rattle.listing.proofs.Printed.{Stated, stated-if, fit-stated, lines-written}
 use Rattle.listing.proofs.Longest.{Word32, answer-short, control-short, lines-short}
 use Rattle.infolines.proofs.Printed.{read as info-read}
-use Rattle.pairlines.specs.Pairs.{pairedLine, isUnpaired, unpairedLine, countLine, pairedLines, blobPaired, pairPrinted, pairListed, pairMost, longestUnpaired}
-use Rattle.pairlines.specs.Told.{tally, unpairedTo, Written}
+use Rattle.pairlines.specs.Pairs.{pairedLine, isUnpaired, unpairedLine, countLine, pairedLines, blobPaired, pairPrinted, pairListed, longestUnpaired}
+use Rattle.pairlines.specs.Told.{tally, unpairedTo, linesIn, Paired, Listed}
 use Rattle.pairlines.proofs.RowLaws.{rows-back, lines-paired, lines-unpaired, tally-unpaired, tally-kept}
 use Rattle.pairlines.proofs.Longest.{unpaired-most, tally-most, count-short}
 
@@ -91,16 +91,13 @@ module _ (layout : ℕ) (t s is cs ps : List ℕ) (ta : Answer) (is′ : List �
   o = outcomeLater layout s (room controlWidth cs) (room propertyWidth ps)
 
   abbrev whole : List ℕ
-  whole = pairPrinted layout t s (room typeInfoWidth is) (room controlWidth cs) (room propertyWidth ps)
-
-  abbrev most : ℕ
-  most = pairMost (room controlWidth cs)
+  whole = linesIn layout t s is cs ps
 
   whole-is : whole ≡ answerLine ta ++ cond (eqb (ta .number) 0) (blobPaired s t o) []
   unfolding pairPrinted typeInfoExit
   whole-is = ap (λ (x : Answer). answerLine x ++ cond (eqb (x .number) 0) (blobPaired s t o) []) (sym te)
 
-  pub info-refused : Words ta → (ta .number ≡ 0 → ⊥) → {old new : List ℕ} {e : ℕ} → Wrote old 0 (answerLine ta) new e → Written old whole most new e
+  pub info-refused : Words ta → (ta .number ≡ 0 → ⊥) → {old new : List ℕ} {e : ℕ} → Wrote old 0 (answerLine ta) new e → Paired layout t s is cs ps old new e
   info-refused tw h w =
       let q : whole ≡ answerLine ta ++ [] = whole-is ∙ rw (ne-eqb (ta .number) 0 h) in
       record { wrote = rw q (w ⨟ nothing); short = rw q (simp length-append (omega (arith, answer-most ta tw))) }
@@ -122,7 +119,7 @@ module _ (layout : ℕ) (t s is cs ps : List ℕ) (ta : Answer) (is′ : List �
         ∙ rw (eq-eqb (ta .number) 0 z)
         (ap (λ (b : Answer). answerLine ta ++ (answerLine b ++ cond (eqb (b .number) 0) (pairedLines s t (typeInfoRows t) (controlsShown o)) [])) (sym answer-is))
 
-    pub blob-refused : Words ta → Words a → (a .number ≡ 0 → ⊥) → {old b new : List ℕ} {q e : ℕ} → Wrote old 0 (answerLine ta) b q → Wrote b q (answerLine a) new e → Written old whole most new e
+    pub blob-refused : Words ta → Words a → (a .number ≡ 0 → ⊥) → {old b new : List ℕ} {q e : ℕ} → Wrote old 0 (answerLine ta) b q → Wrote b q (answerLine a) new e → Paired layout t s is cs ps old new e
     blob-refused tw aw h v w =
         let f : whole ≡ answerLine ta ++ (answerLine a ++ []) = blob-is ∙ rw (ne-eqb (a .number) 0 h) in
         record { wrote = rw f (v ⨟ w ⨟ nothing); short = rw f (simp length-append (omega (arith, answer-most ta tw, answer-most a aw))) }
@@ -236,7 +233,7 @@ module _ (layout : ℕ) (t s is cs ps : List ℕ) (ta : Answer) (is′ : List �
 
           pub all-read : Words ta → {old b1 b2 b3 new : List ℕ} {p1 p2 p3 e : ℕ} → Wrote old 0 (answerLine ta) b1 p1 → Wrote b1 p1 (answerLine a) b2 p2
               → Wrote b2 p2 (linesTo (controlLine s) controlWidth (a .first) cs″) b3 p3
-              → Wrote b3 p3 (unpairedTo s t (infosIn (ta .first) is′) (a .first) cs″) new e → Written old whole most new e
+              → Wrote b3 p3 (unpairedTo s t (infosIn (ta .first) is′) (a .first) cs″) new e → Paired layout t s is cs ps old new e
           all-read tw w1 w2 w3 w4 =
               record {
                 wrote = rw all-is (w1 ⨟ w2 ⨟ w3 ⨟ w4);
@@ -244,8 +241,7 @@ module _ (layout : ℕ) (t s is cs ps : List ℕ) (ta : Answer) (is′ : List �
               }
 
 -- ---- an input by its parts
-pub input-written : (input : List ℕ) {layout size : ℕ} {t s : List ℕ} (infoRoom controlRoom propertyRoom : ℕ) → layout ≡ u32 input 0 → size ≡ u32 input 4
-    → t ≡ part input 8 size → s ≡ drop (8 + size) input → {old new : List ℕ} {most e : ℕ}
-    → Written old (pairPrinted layout t s infoRoom controlRoom propertyRoom) most new e → Written old (pairListed input infoRoom controlRoom propertyRoom) most new e
+pub input-written : (input is cs ps : List ℕ) {layout size : ℕ} {t s : List ℕ} → layout ≡ u32 input 0 → size ≡ u32 input 4 → t ≡ part input 8 size → s ≡ drop (8 + size) input
+    → {old new : List ℕ} {e : ℕ} → Paired layout t s is cs ps old new e → Listed input is cs ps old new e
 unfolding pairListed
-input-written input infoRoom controlRoom propertyRoom l z te se w = rw (l, te, se, z) at w
+input-written input is cs ps l z te se w = rw (l, te, se, z) at w

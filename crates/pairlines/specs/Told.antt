@@ -4,10 +4,10 @@ use mathlib.Core.Path.{_≡_}
 use mathlib.Core.Bool.{cond}
 use mathlib.Core.List.{List, [], _∷_, _++_}
 use lib.ListN.{length}
-use Rattle.rules.specs.Rows.{controlWidth}
+use Rattle.rules.specs.Rows.{controlWidth, propertyWidth, typeInfoWidth, room}
 use Rattle.text.specs.Writer.{Wrote}
 use Rattle.listing.specs.Shown.{linesTo}
-use Rattle.pairlines.specs.Pairs.{isUnpaired, unpairedLine, countLine}
+use Rattle.pairlines.specs.Pairs.{isUnpaired, unpairedLine, countLine, pairPrinted, pairListed, pairMost}
 use Rattle.pairlines.specs.declared.Told.{Told}
 
 -- one for each of them
@@ -28,3 +28,21 @@ pub record Tells (s t : List ℕ) (infos : List (List ℕ)) (n : ℕ) (row old :
 pub record Written (old text : List ℕ) (most : ℕ) (new : List ℕ) (end : ℕ) : Type 0 where
   pub wrote : Wrote old 0 text new end
   pub short : length text ≤ most
+
+-- ---- by the slices lent for TypeInfo rows, controls and properties
+abbrev pub linesIn : ℕ → List ℕ → List ℕ → List ℕ → List ℕ → List ℕ → List ℕ
+linesIn layout t s infos controls properties = pairPrinted layout t s (room typeInfoWidth infos) (room controlWidth controls) (room propertyWidth properties)
+
+abbrev pub listedIn : List ℕ → List ℕ → List ℕ → List ℕ → List ℕ
+listedIn input infos controls properties = pairListed input (room typeInfoWidth infos) (room controlWidth controls) (room propertyWidth properties)
+
+abbrev pub mostIn : List ℕ → ℕ
+mostIn controls = pairMost (room controlWidth controls)
+
+-- the listing of both streams stands in the buffer
+abbrev pub Paired : ℕ → List ℕ → List ℕ → List ℕ → List ℕ → List ℕ → List ℕ → List ℕ → ℕ → Type 0
+Paired layout t s infos controls properties old new end = Written old (linesIn layout t s infos controls properties) (mostIn controls) new end
+
+-- that of an input does
+abbrev pub Listed : List ℕ → List ℕ → List ℕ → List ℕ → List ℕ → List ℕ → ℕ → Type 0
+Listed input infos controls properties old new end = Written old (listedIn input infos controls properties) (mostIn controls) new end

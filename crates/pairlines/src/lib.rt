@@ -18,14 +18,13 @@ ghost use mathlib.Core.List.{_∷_};
 ghost use Prim.Native.Nat.{_<_, min};
 ghost use lib.ListN.{drop};
 ghost use Rattle.rules.specs.Lists.{all};
-ghost use Rattle.rules.specs.Rows.{controlWidth, propertyWidth, typeInfoWidth, room};
 ghost use Rattle.rules.specs.Pairing.{infosIn, isNamed, controlOk, mayPair};
 ghost use Rattle.rules.specs.Listing.{orDash};
 ghost use Rattle.names.specs.Lookup.{Lent};
 ghost use Rattle.text.specs.Writer.{Wrote};
 ghost use Rattle.rows.specs.Put.{controlWords};
-ghost use Rattle.pairlines.specs.Pairs.{isLetter, unitText, unitsText, shownName, isUnpaired, countLine, pairPrinted, pairListed, pairMost};
-ghost use Rattle.pairlines.specs.Told.{unpairedTo, Tells, Written};
+ghost use Rattle.pairlines.specs.Pairs.{isLetter, unitText, unitsText, shownName, isUnpaired, countLine};
+ghost use Rattle.pairlines.specs.Told.{unpairedTo, Tells, Paired, Listed};
 
 // So many bytes of a loose name are shown, and of one in UTF-16 twice as many.
 const LONGEST_SHOWN: u32 = 255;
@@ -212,7 +211,7 @@ fn pair_lines(
     out: &mut [u8],
 ) -> usize
     requires { ⌜ Lent (now index) (now letters) ⌝ }
-    ensures { λ r. ⌜ Written (now (out .entry)) (pairPrinted layout (now («info_stream» .entry)) (now (stream .entry)) (room typeInfoWidth (now (infos .entry))) (room controlWidth (now (controls .entry))) (room propertyWidth (now (properties .entry)))) (pairMost (room controlWidth (now (controls .entry)))) (now (out .exit)) r ⌝ }
+    ensures { λ r. ⌜ Paired layout (now («info_stream» .entry)) (now (stream .entry)) (now (infos .entry)) (now (controls .entry)) (now (properties .entry)) (now (out .entry)) (now (out .exit)) r ⌝ }
 {
     let t = typeinfo::read_type_info(info_stream, infos);
     let p = answer_line(out, 0, t);
@@ -270,7 +269,7 @@ pub fn write_pairs(
     out: &mut [u8],
 ) -> usize
     requires { ⌜ Lent (now index) (now letters) ⌝ }
-    ensures { λ r. ⌜ Written (now (out .entry)) (pairListed (now (input .entry)) (room typeInfoWidth (now (infos .entry))) (room controlWidth (now (controls .entry))) (room propertyWidth (now (properties .entry)))) (pairMost (room controlWidth (now (controls .entry)))) (now (out .exit)) r ⌝ }
+    ensures { λ r. ⌜ Listed (now (input .entry)) (now (infos .entry)) (now (controls .entry)) (now (properties .entry)) (now (out .entry)) (now (out .exit)) r ⌝ }
 {
     let layout = numbers::u32_at(input, 0);
     let size = numbers::u32_at(input, 4);

@@ -27,8 +27,8 @@ use Rattle.listing.proofs.Placed.{held}
 use Rattle.inputs.specs.Begun.{Begun}
 use Rattle.inputs.proofs.Came.{all-read}
 use Rattle.infolines.proofs.Printed.{same-answer}
-use Rattle.pairlines.specs.Pairs.{infoIn, blobIn, infoRoom, controlRoom, propertyRoom, longestInput, blobPaired, pairPrinted, pairListed, pairListing, pairMost}
-use Rattle.pairlines.specs.Told.{Written}
+use Rattle.pairlines.specs.Pairs.{infoIn, blobIn, infoRoom, controlRoom, propertyRoom, longestInput, blobPaired, pairPrinted, pairListed, pairListing}
+use Rattle.pairlines.specs.Told.{listedIn, mostIn, Listed}
 use Rattle.pairlist.specs.Space.{Roomy}
 
 not-long : (s : List ℕ) → length s ≤ longestInput → pairListing s ≡ pairListed s infoRoom controlRoom propertyRoom
@@ -39,8 +39,7 @@ pub too-long : (s : List ℕ) → longestInput < length s → pairListing s ≡ 
 unfolding pairListing
 too-long s h = rw (lt-ltb longestInput (length s) h)
 
-pub all-printed : {s is cs ps old new : List ℕ} {end : ℕ}
-    → Written old (pairListed s (room typeInfoWidth is) (room controlWidth cs) (room propertyWidth ps)) (pairMost (room controlWidth cs)) new end → Roomy s is cs ps old
+pub all-printed : {s is cs ps old new : List ℕ} {end : ℕ} → Listed s is cs ps old new end → Roomy s is cs ps old
     → (input : List ℕ) → Begun s false input → take end new ≡ pairListing input
 all-printed {s} w r input b =
     held (w .wrote) (omega (arith, w .short, r .for-lines))
@@ -53,7 +52,7 @@ line-is : longestControl ≡ 91
 unfolding longestType longestIn controlTypeNames
 line-is = refl
 
-lines-fit : (cs out : List ℕ) (c : ℕ) → room controlWidth cs ≡ c → 122 + (c * 91 + c * 1544) ≤ length out → pairMost (room controlWidth cs) ≤ length out
+lines-fit : (cs out : List ℕ) (c : ℕ) → room controlWidth cs ≡ c → 122 + (c * 91 + c * 1544) ≤ length out → mostIn cs ≤ length out
 lines-fit cs out c f h = rw (f, line-is) (omega arith)
 
 -- ---- room for every input that is read
@@ -99,7 +98,7 @@ module _ (input is cs ps : List ℕ) (small : length input < 16384) (i : room ty
       same-outcome (blobIn input) (omega (arith, length-drop (8 + u32 input 4) input)) (u32 input 0) (room controlWidth cs) (room propertyWidth ps) controlRoom propertyRoom
       (omega arith) (omega arith) (omega arith) (omega arith)
 
-  small-same : pairListed input (room typeInfoWidth is) (room controlWidth cs) (room propertyWidth ps) ≡ pairListed input infoRoom controlRoom propertyRoom
+  small-same : listedIn input is cs ps ≡ pairListed input infoRoom controlRoom propertyRoom
   unfolding pairListed pairPrinted
   small-same = ap₂ (λ (a : Answer) (o : Outcome). answerLine a ++ cond (eqb (a .number) 0) (blobPaired (blobIn input) (infoIn input) o) []) info-same blob-same
 

@@ -10,10 +10,10 @@ ghost use mathlib.Core.Bool.{true};
 ghost use mathlib.Core.List.{List};
 ghost use Prim.Native.Nat.{ℕ, _*_, _≤_, _<_};
 ghost use lib.ListN.{length};
-ghost use Rattle.rules.specs.Rows.{controlWidth, propertyWidth, typeInfoWidth, room};
+ghost use Rattle.rules.specs.Rows.{controlWidth, propertyWidth, typeInfoWidth};
 ghost use Rattle.inputs.specs.Begun.{Begun};
-ghost use Rattle.pairlines.specs.Pairs.{infoRoom, controlRoom, propertyRoom, longestInput, pairListed, pairListing, pairMost};
-ghost use Rattle.pairlines.specs.Told.{Written};
+ghost use Rattle.pairlines.specs.Pairs.{infoRoom, controlRoom, propertyRoom, longestInput, pairListing};
+ghost use Rattle.pairlines.specs.Told.{Listed};
 ghost use Rattle.pairlist.specs.Space.{Roomy};
 
 // Of the large arrays only the length is told, since a proof that computed with their elements would not end.
@@ -76,7 +76,7 @@ fn write(
     properties: &mut [u32],
     out: &mut [u8],
 ) -> usize
-    ensures { λ r. ⌜ Written (now (out .entry)) (pairListed (now (input .entry)) (room typeInfoWidth (now (infos .entry))) (room controlWidth (now (controls .entry))) (room propertyWidth (now (properties .entry)))) (pairMost (room controlWidth (now (controls .entry)))) (now (out .exit)) r ⌝ }
+    ensures { λ r. ⌜ Listed (now (input .entry)) (now (infos .entry)) (now (controls .entry)) (now (properties .entry)) (now (out .entry)) (now (out .exit)) r ⌝ }
 {
     let index = nametables::index();
     let letters = nametables::letters();

@@ -18,8 +18,8 @@ returns c =
     let info : tie.After-value-bytes = search in
     let size : tie.After-u32-at2 = search in
     let layout = layout-of info in
-    let start = start-of layout in
-    input-written (start .args .input .now) _ _ _ (layout .u32-at .ensures) (size .u32-at2 .ensures) (info .value-bytes .ensures) (stream .behind .ensures) (written .pair-lines .ensures)
+    let a = start-of layout .args in
+    input-written (a .input .now) (a .infos .now) (a .controls .now) (a .properties .now) (layout .u32-at .ensures) (size .u32-at2 .ensures) (info .value-bytes .ensures) (stream .behind .ensures) (written .pair-lines .ensures)
 
 pub write-pairs-spec : {M : Type 1} → statement M
 write-pairs-spec =
