@@ -37,7 +37,8 @@ use Rattle.listing.proofs.Longest.{Word32, answer-short, control-short, lines-s
 use Rattle.infolines.proofs.Printed.{read as info-read}
 use Rattle.pairlines.specs.Pairs.{pairedLine, isUnpaired, unpairedLine, countLine, pairedLines, blobPaired, pairPrinted, pairListed, longestUnpaired}
 use Rattle.pairlines.specs.Told.{tally, unpairedTo, linesIn, Paired, Listed}
-use Rattle.pairlines.proofs.RowLaws.{rows-back, lines-paired, lines-unpaired, tally-unpaired, tally-kept}
+use Rattle.pairlines.proofs.UnpairedLaws.{same-line, same-tally}
+use Rattle.pairlines.proofs.RowLaws.{rows-back, lines-paired, lines-stay, tally-kept}
 use Rattle.pairlines.proofs.Longest.{unpaired-most, tally-most, count-short}
 
 -- ---- what a later Blob's reader gives
@@ -86,7 +87,7 @@ answer-most : (a : Answer) → Words a → length (answerLine a) ≤ longestAnsw
 answer-most a w = answer-short a (w .number) (w .first) (w .second) (w .third)
 
 -- ---- TypeInfo is read
-module _ (layout : ℕ) (t s is cs ps : List ℕ) (ta : Answer) (is′ : List ℕ) (te : ta ≡ typeInfoExit t is .answer) (re : is′ ≡ typeInfoExit t is .rows) where
+module _ (layout : ℕ) (t s is cs ps : List ℕ) {ta : Answer} {is′ : List ℕ} (te : ta ≡ typeInfoExit t is .answer) (re : is′ ≡ typeInfoExit t is .rows) where
   abbrev o : Outcome
   o = outcomeLater layout s (room controlWidth cs) (room propertyWidth ps)
 
@@ -103,7 +104,7 @@ module _ (layout : ℕ) (t s is cs ps : List ℕ) (ta : Answer) (is′ : List �
       record { wrote = rw q (w ⨟ nothing); short = rw q (simp length-append (omega (arith, answer-most ta tw))) }
 
   -- ---- the Blob is read
-  module _ (z : ta .number ≡ 0) (a : Answer) (cs′ ps′ : List ℕ) (x : exited a cs′ ps′ ≡ exitLater layout s cs ps) where
+  module _ (z : ta .number ≡ 0) {a : Answer} {cs′ ps′ : List ℕ} (x : exited a cs′ ps′ ≡ exitLater layout s cs ps) where
     answer-is : a ≡ answerOf o
     unfolding exitLater
     answer-is = ap (λ e. e .answer) x
@@ -169,7 +170,7 @@ module _ (layout : ℕ) (t s is cs ps : List ℕ) (ta : Answer) (is′ : List �
           ap₂ (λ (n : ℕ) (words : List ℕ). linesTo f controlWidth n words) count-is controls-are
           ∙ sym (lines-written f controlWidth (controlsShown o) (given .rows-wide) cs (omega (arith, given .fits)))
 
-      module _ (cs″ : List ℕ) (pe : cs″ ≡ pairExit s cs′ (a .first) t is′ (ta .first) .controls) where
+      module _ {cs″ : List ℕ} (pe : cs″ ≡ pairExit s cs′ (a .first) t is′ (ta .first) .controls) where
         now-is : cs″ ≡ typesSet s t (infosIn (ta .first) is′) (a .first) cs′
         now-is = pe ∙ ap (λ e. e .controls) (pair-yes s cs′ (a .first) t is′ (ta .first) may)
 
@@ -178,27 +179,28 @@ module _ (layout : ℕ) (t s is cs ps : List ℕ) (ta : Answer) (is′ : List �
             may-by s cs″ (a .first) t is′ (ta .first)
             (rw pe (ap (λ e. e .answer .number) (pair-again s cs′ (a .first) t is′ (ta .first)) ∙ never))
 
+        -- lines of the rows as they are now, by what these lines were before the types were set
+        rows-shown : (f : ℕ → List ℕ → List ℕ) (g : List (List ℕ) → ℕ → List ℕ → List ℕ)
+            → linesTo f controlWidth (a .first) (typesSet s t (infosIn (ta .first) is′) (a .first) cs′) ≡ linesTo (g (infosIn (ta .first) is′)) controlWidth (a .first) cs′
+            → linesTo f controlWidth (a .first) cs″ ≡ linesFrom (g (typeInfoRows t)) 0 (controlsShown o)
+        rows-shown f g e =
+            ap (linesTo f controlWidth (a .first)) now-is
+            ∙ e
+            ∙ as-written (g (infosIn (ta .first) is′))
+            ∙ ap (λ (infos : List (List ℕ)). linesFrom (g infos) 0 (controlsShown o)) infos-are
+
         controls-shown : linesTo (controlLine s) controlWidth (a .first) cs″ ≡ linesFrom (pairedLine s t (typeInfoRows t)) 0 (controlsShown o)
-        controls-shown =
-            ap (linesTo (controlLine s) controlWidth (a .first)) now-is
-            ∙ lines-paired s t (infosIn (ta .first) is′) (a .first) cs′ fits
-            ∙ as-written (pairedLine s t (infosIn (ta .first) is′))
-            ∙ ap (λ (infos : List (List ℕ)). linesFrom (pairedLine s t infos) 0 (controlsShown o)) infos-are
+        controls-shown = rows-shown (controlLine s) (pairedLine s t) (lines-paired s t (infosIn (ta .first) is′) (a .first) cs′ fits)
 
         unpaired-shown : linesTo (unpairedLine s t (infosIn (ta .first) is′)) controlWidth (a .first) cs″ ≡ linesFrom (unpairedLine s t (typeInfoRows t)) 0 (controlsShown o)
         unpaired-shown =
-            ap (linesTo (unpairedLine s t (infosIn (ta .first) is′)) controlWidth (a .first)) now-is
-            ∙ lines-unpaired s t (infosIn (ta .first) is′) (a .first) cs′ fits
-            ∙ as-written (unpairedLine s t (infosIn (ta .first) is′))
-            ∙ ap (λ (infos : List (List ℕ)). linesFrom (unpairedLine s t infos) 0 (controlsShown o)) infos-are
+            let infos = infosIn (ta .first) is′ in
+            rows-shown (unpairedLine s t infos) (unpairedLine s t) (lines-stay s t infos (a .first) cs′ fits (unpairedLine s t infos) (same-line s t infos))
 
         counted-shown : length (linesTo (tally s t (infosIn (ta .first) is′)) controlWidth (a .first) cs″) ≡ length (keep (isUnpaired s t (typeInfoRows t)) (controlsShown o))
         counted-shown =
-            ap length
-            (ap (linesTo (tally s t (infosIn (ta .first) is′)) controlWidth (a .first)) now-is
-            ∙ tally-unpaired s t (infosIn (ta .first) is′) (a .first) cs′ fits
-            ∙ as-written (tally s t (infosIn (ta .first) is′))
-            ∙ ap (λ (infos : List (List ℕ)). linesFrom (tally s t infos) 0 (controlsShown o)) infos-are)
+            let infos = infosIn (ta .first) is′ in
+            ap length (rows-shown (tally s t infos) (tally s t) (lines-stay s t infos (a .first) cs′ fits (tally s t infos) (same-tally s t infos)))
             ∙ tally-kept s t (typeInfoRows t) 0 (controlsShown o)
 
         told-shown : unpairedTo s t (infosIn (ta .first) is′) (a .first) cs″

@@ -4,35 +4,22 @@ use mathlib.Core.Bool.{Bool, true, false, cond}
 use mathlib.Core.List.{List, [], _∷_, _++_}
 use Prim.Native.Nat.{ℕ, zero, suc, _+_, _*_, _≤_, _<_}
 use native.Mathlib.Omega.{arith}
-use native.Mathlib.Nat.{zero-add}
 use lib.ListN.{length, getD, drop}
 use lib.Seq.{getD-drop}
 use Rattle.rules.specs.Lists.{keep}
 use Rattle.rules.specs.Rows.{controlWidth, written, rowAt, rowsFrom}
 use Rattle.rules.specs.Listing.{word, controlLine, linesFrom}
-use Rattle.rules.specs.Pairing.{pairedType, typesSet}
-use Rattle.rules.proofs.RowsLaws.{Wide, row-written}
+use Rattle.rules.specs.Pairing.{markOf, startOf, sizeOf, pairedType, typesSet}
+use Rattle.rules.proofs.RowsLaws.{Wide, written-is}
 use Rattle.rules.proofs.PairingLaws.{word-at, other-stays, type-set}
+use Rattle.totallaws.proofs.RowsOf.{rows-from-words}
 use Rattle.listing.specs.Shown.{linesTo}
-use Rattle.pairlines.specs.Pairs.{pairedLine, isUnpaired, unpairedLine}
+use Rattle.pairlines.specs.Pairs.{pairedLine, isUnpaired}
 use Rattle.pairlines.specs.Told.{tally}
-use Rattle.pairlines.proofs.UnpairedLaws.{same-line, same-tally}
 
 -- ---- rows that were written are read back
-module _ (w : ℕ) (words : List ℕ) where
-  later : (k : ℕ) (r : List ℕ) (rows : List (List ℕ)) → ((i : ℕ) → i < length (r ∷ rows) → rowAt w (k + i) words ≡ getD (r ∷ rows) i [])
-      → (i : ℕ) → i < length rows → rowAt w (k + 1 + i) words ≡ getD rows i []
-  later k r rows h i l = let e : k + 1 + i ≡ k + suc i = omega arith in ap (λ (j : ℕ). rowAt w j words) e ∙ h (suc i) (omega arith)
-
-  rows-from : (k : ℕ) (rows : List (List ℕ)) → ((i : ℕ) → i < length rows → rowAt w (k + i) words ≡ getD rows i []) → rowsFrom w k (length rows) words ≡ rows
-  unfolding rowsFrom
-  rows-from k [] h = refl
-  rows-from k (r ∷ rows) h =
-      let z : k ≡ k + 0 = omega arith in
-      ap₂ (λ (x : List ℕ) (y : List (List ℕ)). x ∷ y) (ap (λ (j : ℕ). rowAt w j words) z ∙ h 0 (omega arith)) (rows-from (k + 1) rows (later k r rows h))
-
 pub rows-back : (w : ℕ) (rows : List (List ℕ)) → Wide w rows → (old : List ℕ) → length rows * w ≤ length old → rowsFrom w 0 (length rows) (written rows old) ≡ rows
-rows-back w rows wide old fits = rows-from w (written rows old) 0 rows (λ i l. ap (λ (k : ℕ). rowAt w k (written rows old)) (zero-add i) ∙ row-written w rows wide old fits i l)
+rows-back w rows wide old fits = ap (rowsFrom w 0 (length rows)) (written-is w rows wide old fits) ∙ rows-from-words w rows (drop (length rows * w) old) wide
 
 -- ---- lines that are the same row by row
 lines-same : (f g : ℕ → List ℕ → List ℕ) (w : ℕ) (a b : List ℕ) (n : ℕ) → ((k : ℕ) → k < n → f k (rowAt w k a) ≡ g k (rowAt w k b)) → linesTo f w n a ≡ linesTo g w n b
@@ -78,15 +65,12 @@ module _ (s t : List ℕ) (infos : List (List ℕ)) (n : ℕ) (old : List ℕ) (
   pub lines-paired : linesTo (controlLine s) controlWidth n now ≡ linesTo (pairedLine s t infos) controlWidth n old
   lines-paired = lines-same (controlLine s) (pairedLine s t infos) controlWidth now old n (λ k l. same-control s k _ _ (paired-word k l))
 
-  pub lines-unpaired : linesTo (unpairedLine s t infos) controlWidth n now ≡ linesTo (unpairedLine s t infos) controlWidth n old
-  lines-unpaired =
-      lines-same (unpairedLine s t infos) (unpairedLine s t infos) controlWidth now old n λ k l.
-      same-line s t infos _ _ (other-word k 1 (omega arith) (omega arith)) (other-word k 2 (omega arith) (omega arith)) (other-word k 3 (omega arith) (omega arith)) k
-
-  pub tally-unpaired : linesTo (tally s t infos) controlWidth n now ≡ linesTo (tally s t infos) controlWidth n old
-  tally-unpaired =
-      lines-same (tally s t infos) (tally s t infos) controlWidth now old n λ k l.
-      same-tally s t infos _ _ (other-word k 1 (omega arith) (omega arith)) (other-word k 2 (omega arith) (omega arith)) (other-word k 3 (omega arith) (omega arith)) k
+  -- lines that the mark, the start and the length tell are what they were
+  pub lines-stay : (f : ℕ → List ℕ → List ℕ) → ((a b : List ℕ) → markOf a ≡ markOf b → startOf a ≡ startOf b → sizeOf a ≡ sizeOf b → (k : ℕ) → f k a ≡ f k b)
+      → linesTo f controlWidth n now ≡ linesTo f controlWidth n old
+  lines-stay f same =
+      lines-same f f controlWidth now old n λ k l.
+      same _ _ (other-word k 1 (omega arith) (omega arith)) (other-word k 2 (omega arith) (omega arith)) (other-word k 3 (omega arith) (omega arith)) k
 
 -- ---- how many found no row
 module _ (s t : List ℕ) (infos : List (List ℕ)) where

@@ -79,9 +79,6 @@ module _ (s t : List ℕ) (infos : List (List ℕ)) (a b : List ℕ) (mark : mar
   unfolding tally
   same-tally n = ap (λ (x : Bool). cond x (0 ∷ []) []) same-unpaired
 
-pub row-ok : (s row : List ℕ) (r : ControlRow) → ControlOf row r → controlOk s row ≡ true → controlOk s (controlWords r) ≡ true
-row-ok s row r c e = rw (c .mark, c .start, c .size) e
-
 pub tally-one : (s t : List ℕ) (infos : List (List ℕ)) (n : ℕ) (row : List ℕ) → length (tally s t infos n row) ≤ 1
 unfolding tally
 tally-one s t infos n row = by (isUnpaired s t infos row)

@@ -1,7 +1,7 @@
 use mathlib.Core.Path.{_∙_}
 use native.Mathlib.Omega.{arith}
 use borrow.Author.Needs.{needs}
-use Rattle.pairlines.proofs.Paired.{info-refused, blob-refused, may-again, all-read}
+use Rattle.pairlines.proofs.Paired.{Words, info-refused, blob-refused, may-again, all-read}
 use Rattle.pairlines.proofs.pair_lines.Statement.{statement}
 use Rattle.pairlines.proofs.pair_lines.Tie as tie
 
@@ -39,6 +39,19 @@ pair-of c = search
 paired-of : tie.After-lines → tie.After-slice-known10
 paired-of c = search
 
+-- ---- the numbers of both answers
+info-words : (c : tie.After-struct-known) → Words (info-of c .read-type-info .result)
+unfolding info-of
+info-words c =
+    let g = c .struct-known .given in
+    record { number = omega arith; first = omega arith; second = omega arith; third = omega arith }
+
+blob-words : (c : tie.After-struct-known2) → Words (later-of c .read-later .result)
+unfolding later-of
+blob-words c =
+    let g = c .struct-known2 .given in
+    record { number = omega arith; first = omega arith; second = omega arith; third = omega arith }
+
 -- ---- TypeInfo is refused
 returns : tie.Need-returns
 unfolding start-of info-of answered-of
@@ -46,14 +59,8 @@ returns c =
     let known : tie.After-struct-known = search in
     let info = info-of known in
     let a = start-of info .args in
-    info-refused (a .layout) (a .info-stream .now) (a .stream .now) (a .infos .now) (a .controls .now) (a .properties .now) _ _ (info .read-type-info .ensures .0) (info .read-type-info .ensures .1)
-    record {
-      number = omega (arith, known .struct-known .given);
-      first = omega (arith, known .struct-known .given);
-      second = omega (arith, known .struct-known .given);
-      third = omega (arith, known .struct-known .given);
-    }
-    (λ e. omega arith) (answered-of known .answer-line .ensures)
+    info-refused (a .layout) (a .info-stream .now) (a .stream .now) (a .infos .now) (a .controls .now) (a .properties .now) (info .read-type-info .ensures .0) (info .read-type-info .ensures .1)
+    (info-words known) (λ e. omega arith) (answered-of known .answer-line .ensures)
 
 -- ---- the Blob is refused
 returns-2 : tie.Need-returns-2
@@ -65,21 +72,9 @@ returns-2 c =
     let known = known-of else1 in
     let info = info-of known in
     let a = start-of info .args in
-    blob-refused (a .layout) (a .info-stream .now) (a .stream .now) (a .infos .now) (a .controls .now) (a .properties .now) _ _ (info .read-type-info .ensures .0) (info .read-type-info .ensures .1)
-    (omega (arith, else1 .if1 .left)) _ _ _ (later .read-later .ensures)
-    record {
-      number = omega (arith, known .struct-known .given);
-      first = omega (arith, known .struct-known .given);
-      second = omega (arith, known .struct-known .given);
-      third = omega (arith, known .struct-known .given);
-    }
-    record {
-      number = omega (arith, known2 .struct-known2 .given);
-      first = omega (arith, known2 .struct-known2 .given);
-      second = omega (arith, known2 .struct-known2 .given);
-      third = omega (arith, known2 .struct-known2 .given);
-    }
-    (λ e. omega arith) (answered-of known .answer-line .ensures) (answered2-of known2 .answer-line2 .ensures)
+    blob-refused (a .layout) (a .info-stream .now) (a .stream .now) (a .infos .now) (a .controls .now) (a .properties .now) (info .read-type-info .ensures .0) (info .read-type-info .ensures .1)
+    (omega (arith, else1 .if1 .left)) (later .read-later .ensures)
+    (info-words known) (blob-words known2) (λ e. omega arith) (answered-of known .answer-line .ensures) (answered2-of known2 .answer-line2 .ensures)
 
 -- ---- both are read
 lines-requires : tie.Need-lines-requires
@@ -98,8 +93,8 @@ unpaired-lines-requires c κs =
     let else1 = else1-of later in
     let info = info-of (known-of else1) in
     let a = start-of info .args in
-    may-again (a .layout) (a .info-stream .now) (a .stream .now) (a .infos .now) (a .controls .now) (a .properties .now) _ _ (info .read-type-info .ensures .0) (info .read-type-info .ensures .1)
-    (omega (arith, else1 .if1 .left)) _ _ _ (later .read-later .ensures) (omega (arith, else2 .if2 .left)) _ (paired .pair .ensures .1)
+    may-again (a .layout) (a .info-stream .now) (a .stream .now) (a .infos .now) (a .controls .now) (a .properties .now) (info .read-type-info .ensures .0) (info .read-type-info .ensures .1)
+    (omega (arith, else1 .if1 .left)) (later .read-later .ensures) (omega (arith, else2 .if2 .left)) (paired .pair .ensures .1)
 
 same-length-7 : tie.Need-same-length-7
 unfolding info-of known-of else1-of later-of known2-of pair-of
@@ -142,21 +137,9 @@ returns-3 c =
     let known = known-of else1 in
     let info = info-of known in
     let a = start-of info .args in
-    all-read (a .layout) (a .info-stream .now) (a .stream .now) (a .infos .now) (a .controls .now) (a .properties .now) _ _ (info .read-type-info .ensures .0) (info .read-type-info .ensures .1)
-    (omega (arith, else1 .if1 .left)) _ _ _ (later .read-later .ensures) (omega (arith, else2 .if2 .left)) _ (paired .pair .ensures .1)
-    record {
-      number = omega (arith, known2 .struct-known2 .given);
-      first = omega (arith, known2 .struct-known2 .given);
-      second = omega (arith, known2 .struct-known2 .given);
-      third = omega (arith, known2 .struct-known2 .given);
-    }
-    (λ i. omega (arith, paired-of shown .slice-known10 .given i))
-    record {
-      number = omega (arith, known .struct-known .given);
-      first = omega (arith, known .struct-known .given);
-      second = omega (arith, known .struct-known .given);
-      third = omega (arith, known .struct-known .given);
-    }
+    all-read (a .layout) (a .info-stream .now) (a .stream .now) (a .infos .now) (a .controls .now) (a .properties .now) (info .read-type-info .ensures .0) (info .read-type-info .ensures .1)
+    (omega (arith, else1 .if1 .left)) (later .read-later .ensures) (omega (arith, else2 .if2 .left)) (paired .pair .ensures .1)
+    (blob-words known2) (λ i. omega (arith, paired-of shown .slice-known10 .given i)) (info-words known)
     (answered-of known .answer-line .ensures) (answered2-of known2 .answer-line2 .ensures) (shown .lines .ensures) (told .unpaired-lines .ensures)
 
 pub pair-lines-spec : {M : Type 1} → statement M

@@ -1,12 +1,13 @@
-use mathlib.Core.Path.{_≡_, refl, ap, _∙_}
-use Prim.Native.Nat.{ℕ, _+_, _-_}
+use mathlib.Core.Path.{refl, _∙_}
+use Prim.Native.Nat.{_-_}
 use native.Mathlib.Omega.{arith}
 use borrow.Author.Needs.{needs}
-use Rattle.rules.specs.Rows.{controlWidth, rowAt}
+use Rattle.rules.specs.Rows.{controlWidth}
 use Rattle.rules.specs.Pairing.{infosIn, controlOk}
-use Rattle.rules.proofs.PairingLaws.{fair, all-rows}
+use Rattle.rules.proofs.PairingLaws.{fair}
 use Rattle.text.proofs.Chain.{same}
-use Rattle.pairlines.proofs.UnpairedLaws.{row-ok, Telling, telling-none, telling-more, telling-all}
+use Rattle.pairing.proofs.RowLaws.{each-row, control-ok}
+use Rattle.pairlines.proofs.UnpairedLaws.{Telling, telling-none, telling-more, telling-all}
 use Rattle.pairlines.proofs.unpaired_lines.Statement.{statement}
 use Rattle.pairlines.proofs.unpaired_lines.Tie as tie
 
@@ -25,10 +26,8 @@ tell-requires c κs =
     let test : tie.In-loop Inv-loop μ-loop = search in
     let a = start .args in
     let judged = fair (a .stream .now) (a .controls .now) (a .control-count) (a .info-stream .now) (a .infos .now) (a .info-count) (start .pre) in
-    let z : loop .loop .n ≡ 0 + loop .loop .n = omega arith in
-    let ok = ap (λ (k : ℕ). controlOk (a .stream .now) (rowAt controlWidth k (a .controls .now))) z
-    ∙ all-rows (controlOk (a .stream .now)) controlWidth (a .controls .now) 0 (a .control-count) (judged .controls-ok) (loop .loop .n) (test .loop-test .taken) in
-    (row-ok (a .stream .now) _ _ (read .get-control .ensures) ok, (judged .infos-ok, omega (arith, loop .loop .inv .within, test .loop-test .taken)))
+    let ok = each-row (controlOk (a .stream .now)) controlWidth (a .control-count) (a .controls .now) (judged .controls-ok) (loop .loop .n) (test .loop-test .taken) in
+    (control-ok (read .get-control .ensures) (a .stream .now) ∙ ok, (judged .infos-ok, omega (arith, loop .loop .inv .within, test .loop-test .taken)))
 
 loop-again : tie.Need-loop-again Inv-loop μ-loop
 loop-again c =
