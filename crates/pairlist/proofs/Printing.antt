@@ -28,7 +28,7 @@ use Rattle.inputs.specs.Begun.{Begun}
 use Rattle.inputs.proofs.Came.{all-read}
 use Rattle.infolines.proofs.Printed.{same-answer}
 use Rattle.pairlines.specs.Pairs.{infoIn, blobIn, infoRoom, controlRoom, propertyRoom, longestInput, blobPaired, pairPrinted, pairListed, pairListing}
-use Rattle.pairlines.specs.Told.{listedIn, mostIn, Listed}
+use Rattle.pairlines.specs.Told.{Listed}
 use Rattle.pairlist.specs.Space.{Roomy}
 
 not-long : (s : List ℕ) → length s ≤ longestInput → pairListing s ≡ pairListed s infoRoom controlRoom propertyRoom
@@ -52,17 +52,19 @@ line-is : longestControl ≡ 91
 unfolding longestType longestIn controlTypeNames
 line-is = refl
 
-lines-fit : (cs out : List ℕ) (c : ℕ) → room controlWidth cs ≡ c → 122 + (c * 91 + c * 1544) ≤ length out → mostIn cs ≤ length out
-lines-fit cs out c f h = rw (f, line-is) (omega arith)
+-- ---- room by how many rows it is for
+roomy : {s is cs ps out : List ℕ} (i c p : ℕ) → length is ≡ i * typeInfoWidth → length cs ≡ c * controlWidth → length ps ≡ p * propertyWidth → length s ≤ longestInput
+    → pairListed s i c p ≡ pairListed s infoRoom controlRoom propertyRoom → 122 + (c * 91 + c * 1544) ≤ length out → Roomy s is cs ps out
+roomy {s} {is} {cs} {ps} i c p hi hc hp short same o =
+    let e : room typeInfoWidth is ≡ i = omega arith in
+    let f : room controlWidth cs ≡ c = omega arith in
+    let g : room propertyWidth ps ≡ p = omega arith in
+    record { short = short; same = rw (e, f, g) same; for-lines = rw (f, line-is) (omega arith) }
 
--- ---- room for every input that is read
+-- for every input that is read
 pub large-roomy : {s is cs ps out : List ℕ} → length s ≤ longestInput → length is ≡ infoRoom * typeInfoWidth → length cs ≡ controlRoom * controlWidth → length ps ≡ propertyRoom * propertyWidth
     → 26787962 ≤ length out → Roomy s is cs ps out
-large-roomy {s} {is} {cs} {ps} {out} short i c p o =
-    let e : room typeInfoWidth is ≡ infoRoom = rw i in
-    let f : room controlWidth cs ≡ controlRoom = rw c in
-    let g : room propertyWidth ps ≡ propertyRoom = rw p in
-    record { short = short; same = rw (e, f, g); for-lines = lines-fit cs out controlRoom f (omega arith) }
+large-roomy short i c p o = roomy infoRoom controlRoom propertyRoom i c p short refl (omega arith)
 
 -- ---- little room for a short one: each of its streams has 16,375 bytes at most
 few-rows : (s : List ℕ) → (length (properties (readLater s)) ≤ (length s - 14) / 18) × (length (readLater s .controls) ≤ length (properties (readLater s)))
@@ -85,27 +87,22 @@ module _ (s : List ℕ) (small : length s < 16376) where
   same-outcome layout c p c′ p′ h k h′ k′ =
       ap (λ (o : Outcome). cond (ltb longest (length s)) (refused (refusal tooLong)) (cond (speaks2000 layout s) (refused (refusal otherLayout)) o)) (fits-in c p h k ∙ sym (fits-in c′ p′ h′ k′))
 
-module _ (input is cs ps : List ℕ) (small : length input < 16384) (i : room typeInfoWidth is ≡ 2048) (c : room controlWidth cs ≡ 910) (p : room propertyWidth ps ≡ 910) where
+module _ (input : List ℕ) (small : length input < 16384) where
   info-short : length (infoIn input) < 16376
   info-short = omega (arith, length-take (u32 input 4) (drop 8 input), length-drop 8 input)
 
-  info-same : typeInfoAnswer (infoIn input) (room typeInfoWidth is) ≡ typeInfoAnswer (infoIn input) infoRoom
+  info-same : typeInfoAnswer (infoIn input) 2048 ≡ typeInfoAnswer (infoIn input) infoRoom
   unfolding typeInfoRoom
-  info-same = let h = info-short in same-answer (infoIn input) (omega arith) (room typeInfoWidth is) infoRoom (omega arith) (omega arith)
+  info-same = let h = info-short in same-answer (infoIn input) (omega arith) 2048 infoRoom (omega arith) (omega arith)
 
-  blob-same : outcomeLater (u32 input 0) (blobIn input) (room controlWidth cs) (room propertyWidth ps) ≡ outcomeLater (u32 input 0) (blobIn input) controlRoom propertyRoom
+  blob-same : outcomeLater (u32 input 0) (blobIn input) 910 910 ≡ outcomeLater (u32 input 0) (blobIn input) controlRoom propertyRoom
   blob-same =
-      same-outcome (blobIn input) (omega (arith, length-drop (8 + u32 input 4) input)) (u32 input 0) (room controlWidth cs) (room propertyWidth ps) controlRoom propertyRoom
-      (omega arith) (omega arith) (omega arith) (omega arith)
+      same-outcome (blobIn input) (omega (arith, length-drop (8 + u32 input 4) input)) (u32 input 0) 910 910 controlRoom propertyRoom (omega arith) (omega arith) (omega arith) (omega arith)
 
-  small-same : listedIn input is cs ps ≡ pairListed input infoRoom controlRoom propertyRoom
+  small-same : pairListed input 2048 910 910 ≡ pairListed input infoRoom controlRoom propertyRoom
   unfolding pairListed pairPrinted
   small-same = ap₂ (λ (a : Answer) (o : Outcome). answerLine a ++ cond (eqb (a .number) 0) (blobPaired (blobIn input) (infoIn input) o) []) info-same blob-same
 
 pub small-roomy : {s is cs ps out : List ℕ} → length s < 16384 → length is ≡ 2048 * typeInfoWidth → length cs ≡ 910 * controlWidth → length ps ≡ 910 * propertyWidth
     → 1487972 ≤ length out → Roomy s is cs ps out
-small-roomy {s} {is} {cs} {ps} {out} small i c p o =
-    let e : room typeInfoWidth is ≡ 2048 = rw i in
-    let f : room controlWidth cs ≡ 910 = rw c in
-    let g : room propertyWidth ps ≡ 910 = rw p in
-    record { short = omega arith; same = small-same s is cs ps small e f g; for-lines = lines-fit cs out 910 f (omega arith) }
+small-roomy {s} small i c p o = roomy 2048 910 910 i c p (omega arith) (small-same s small) (omega arith)
