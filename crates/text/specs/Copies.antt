@@ -5,10 +5,8 @@ use lib.ListN.{length}
 use Rattle.rules.specs.Digits.{digit}
 
 -- from i on there are `most` bytes or fewer, and room for them
-pub record Few (out : List ℕ) (at : ℕ) (s : List ℕ) (i most : ℕ) : Type 0 where
-  pub inside : i ≤ length s
-  pub few : length s ≤ i + most
-  pub room : at + (length s - i) ≤ length out
+abbrev pub Few : List ℕ → ℕ → List ℕ → ℕ → ℕ → Type 0
+Few out at s i most = (i ≤ length s) × (length s ≤ i + most) × (at + (length s - i) ≤ length out)
 
 -- the two digits of a number below 100
 abbrev pub tens : ℕ → List ℕ

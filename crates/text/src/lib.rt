@@ -4,8 +4,7 @@ use rules::NO_ROOM_FOR_TEXT;
 use rules::NOT_A_GUID;
 ghost use mathlib.Core.Path.{_≡_};
 ghost use mathlib.Core.List.{[], _∷_, _++_};
-ghost use Prim.Native.Nat.{_+_, _/_, _%_, _≤_, _<_};
-ghost use lib.Dec.{leb};
+ghost use Prim.Native.Nat.{_+_, _-_, _/_, _%_, _^_, _≤_, _<_};
 ghost use lib.ListN.{length, drop};
 ghost use Rattle.rules.specs.Bytes.{part};
 ghost use Rattle.rules.specs.Answer.{refusal, answer};
@@ -38,14 +37,15 @@ pub fn put_byte(out: &mut [u8], at: usize, b: u8) -> usize
     at
 }
 
-// Whether so many bytes have room from `at` on, where there are `size` in all.
-fn has_room(size: usize, at: usize, count: usize) -> bool
-    ensures { λ r. ⌜ r ≡ leb (at + count) size ⌝ }
+// From how many places on so many bytes have room, where there are `size` in all. Of a buffer this is the same at each place.
+fn places(size: usize, count: usize) -> usize
+    requires { ⌜ size < 2 ^ 63 ⌝ }
+    ensures { λ r. ⌜ r ≡ size + 1 - count ⌝ }
 {
     if size < count {
-        return false;
+        return 0;
     }
-    at <= size - count
+    size - count + 1
 }
 
 // ---- several bytes at once, for which there is room
@@ -61,22 +61,16 @@ fn set_four(out: &mut [u8], at: usize, a: u8, b: u8, c: u8, d: u8)
     requires { ⌜ at + 4 ≤ length (now out) ⌝ }
     ensures { λ _. ⌜ Wrote (now (out .entry)) at (a ∷ b ∷ c ∷ d ∷ []) (now (out .exit)) (at + 4) ⌝ }
 {
-    out[at] = a;
-    out[at + 1] = b;
-    out[at + 2] = c;
-    out[at + 3] = d;
+    set_two(out, at, a, b);
+    set_two(out, at + 2, c, d);
 }
 
 fn set_six(out: &mut [u8], at: usize, a: u8, b: u8, c: u8, d: u8, e: u8, f: u8)
     requires { ⌜ at + 6 ≤ length (now out) ⌝ }
     ensures { λ _. ⌜ Wrote (now (out .entry)) at (a ∷ b ∷ c ∷ d ∷ e ∷ f ∷ []) (now (out .exit)) (at + 6) ⌝ }
 {
-    out[at] = a;
-    out[at + 1] = b;
-    out[at + 2] = c;
-    out[at + 3] = d;
-    out[at + 4] = e;
-    out[at + 5] = f;
+    set_four(out, at, a, b, c, d);
+    set_two(out, at + 4, e, f);
 }
 
 // The eight bytes of `s` from `i` on. All are read before one is written: so they are moved at once.
@@ -92,14 +86,8 @@ fn set_eight(out: &mut [u8], at: usize, s: &[u8], i: usize)
     let f = s[i + 5];
     let g = s[i + 6];
     let h = s[i + 7];
-    out[at] = a;
-    out[at + 1] = b;
-    out[at + 2] = c;
-    out[at + 3] = d;
-    out[at + 4] = e;
-    out[at + 5] = f;
-    out[at + 6] = g;
-    out[at + 7] = h;
+    set_four(out, at, a, b, c, d);
+    set_four(out, at + 4, e, f, g, h);
 }
 
 // ---- the bytes of `s` from `i` on, for which there is room: one at most
@@ -156,7 +144,7 @@ fn copy(out: &mut [u8], at: usize, s: &[u8]) -> usize
 pub fn put_two(out: &mut [u8], at: usize, a: u8, b: u8) -> usize
     ensures { λ r. ⌜ Wrote (now (out .entry)) at (a ∷ b ∷ []) (now (out .exit)) r ⌝ }
 {
-    if has_room(out.len(), at, 2) {
+    if at < places(out.len(), 2) {
         set_two(out, at, a, b);
         return at + 2;
     }
@@ -166,7 +154,7 @@ pub fn put_two(out: &mut [u8], at: usize, a: u8, b: u8) -> usize
 pub fn put_four(out: &mut [u8], at: usize, a: u8, b: u8, c: u8, d: u8) -> usize
     ensures { λ r. ⌜ Wrote (now (out .entry)) at (a ∷ b ∷ c ∷ d ∷ []) (now (out .exit)) r ⌝ }
 {
-    if has_room(out.len(), at, 4) {
+    if at < places(out.len(), 4) {
         set_four(out, at, a, b, c, d);
         return at + 4;
     }
@@ -176,7 +164,7 @@ pub fn put_four(out: &mut [u8], at: usize, a: u8, b: u8, c: u8, d: u8) -> usize
 pub fn put_six(out: &mut [u8], at: usize, a: u8, b: u8, c: u8, d: u8, e: u8, f: u8) -> usize
     ensures { λ r. ⌜ Wrote (now (out .entry)) at (a ∷ b ∷ c ∷ d ∷ e ∷ f ∷ []) (now (out .exit)) r ⌝ }
 {
-    if has_room(out.len(), at, 6) {
+    if at < places(out.len(), 6) {
         set_six(out, at, a, b, c, d, e, f);
         return at + 6;
     }
@@ -199,7 +187,7 @@ fn put_each(out: &mut [u8], at: usize, s: &[u8]) -> usize
 pub fn put_text(out: &mut [u8], at: usize, s: &[u8]) -> usize
     ensures { λ r. ⌜ Wrote (now (out .entry)) at (now (s .entry)) (now (out .exit)) r ⌝ }
 {
-    if has_room(out.len(), at, s.len()) {
+    if at < places(out.len(), s.len()) {
         return copy(out, at, s);
     }
     put_each(out, at, s)

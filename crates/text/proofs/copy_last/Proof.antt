@@ -7,15 +7,10 @@ use Rattle.text.proofs.Copies.{drop-one}
 use Rattle.text.proofs.copy_last.Statement.{statement}
 use Rattle.text.proofs.copy_last.Tie as tie
 
-slice-write-out : tie.Need-slice-write-out
-slice-write-out c =
-    let start : tie.Start = search in
-    omega (arith, start .pre .room)
-
 returns : tie.Need-returns
 returns c =
     let start : tie.Start = search in
-    wrote-as (byte (omega (arith, start .pre .room))) (sym (drop-one (start .args .s .now) (start .args .i) (omega arith) (omega (arith, start .pre .few))))
+    wrote-as (byte (omega arith)) (sym (drop-one (start .args .s .now) (start .args .i) (omega arith) (omega arith)))
 
 returns-2 : tie.Need-returns-2
 returns-2 c =
@@ -23,12 +18,4 @@ returns-2 c =
     wrote-as nothing (sym (drop-of-length-le (start .args .s .now) {i = start .args .i} (omega arith)))
 
 pub copy-last-spec : {M : Type 1} → statement M
-copy-last-spec =
-    tie.close
-    (tie.spec
-    (λ c. search needs)
-    slice-write-out
-    (λ c. search needs)
-    (λ c. search needs)
-    returns
-    returns-2)
+copy-last-spec = tie.close (tie.spec (λ c. search needs) (λ c. search needs) (λ c. search needs) (λ c. search needs) returns returns-2)
