@@ -11,7 +11,7 @@ use lib.Seq.{sets, sets-eq}
 use Rattle.rules.specs.Lists.{text}
 use Rattle.rules.specs.Digits.{hex}
 use Rattle.rules.specs.declared.Answer.{Answer}
-use Rattle.rules.specs.Answer.{answer, refusal}
+use Rattle.rules.specs.Answer.{answer, refusal, noRoomForText, notAGuid}
 use Rattle.rules.specs.Texts.{TextExit, hexes, guidText, textExit, guidExit}
 use Rattle.text.specs.Writer.{Buffer, push, write, Wrote}
 
@@ -37,7 +37,7 @@ module _ {o x n : List ℕ} {a b : ℕ} (w : Wrote o a x n b) (h : a + length x 
 
 -- ---- the exit of a writer of a text t
 module _ (t o : List ℕ) where
-  pub no-room-exit : length o < length t → textExit t o ≡ record { answer = refusal 9; out = o }
+  pub no-room-exit : length o < length t → textExit t o ≡ record { answer = refusal noRoomForText; out = o }
   unfolding textExit
   no-room-exit h = rw (lt-ltb (length o) (length t) h)
 
@@ -72,6 +72,6 @@ module _ (g : List ℕ) where
   unfolding guidExit
   guid-exit o h = rw (eq-eqb (length g) 16 h)
 
-  pub no-guid-exit : (o : List ℕ) → (length g ≡ 16 → ⊥) → guidExit g o ≡ record { answer = refusal 10; out = o }
+  pub no-guid-exit : (o : List ℕ) → (length g ≡ 16 → ⊥) → guidExit g o ≡ record { answer = refusal notAGuid; out = o }
   unfolding guidExit
   no-guid-exit o h = rw (ne-eqb (length g) 16 h)

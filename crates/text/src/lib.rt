@@ -211,12 +211,26 @@ fn put_digit(out: &mut [u8], at: usize, n: u32) -> usize
     put_byte(out, at, digit_of(n))
 }
 
-// Two digits, and four.
+fn put_two_digits(out: &mut [u8], at: usize, a: u32, b: u32) -> usize
+    requires { ⌜ (a < 16) × (b < 16) ⌝ }
+    ensures { λ r. ⌜ Wrote (now (out .entry)) at (digit a ∷ digit b ∷ []) (now (out .exit)) r ⌝ }
+{
+    put_two(out, at, digit_of(a), digit_of(b))
+}
+
+fn put_four_digits(out: &mut [u8], at: usize, a: u32, b: u32, c: u32, d: u32) -> usize
+    requires { ⌜ (a < 16) × (b < 16) × (c < 16) × (d < 16) ⌝ }
+    ensures { λ r. ⌜ Wrote (now (out .entry)) at (digit a ∷ digit b ∷ digit c ∷ digit d ∷ []) (now (out .exit)) r ⌝ }
+{
+    put_four(out, at, digit_of(a), digit_of(b), digit_of(c), digit_of(d))
+}
+
+// A number below 100 in two digits, and one below 10000 in four.
 fn put_tens(out: &mut [u8], at: usize, n: u32) -> usize
     requires { ⌜ n < 100 ⌝ }
     ensures { λ r. ⌜ Wrote (now (out .entry)) at (tens n) (now (out .exit)) r ⌝ }
 {
-    put_two(out, at, digit_of(n / 10), digit_of(n % 10))
+    put_two_digits(out, at, n / 10, n % 10)
 }
 
 fn put_thousands(out: &mut [u8], at: usize, n: u32) -> usize
@@ -225,14 +239,7 @@ fn put_thousands(out: &mut [u8], at: usize, n: u32) -> usize
 {
     let q = n / 100;
     let r = n % 100;
-    put_four(
-        out,
-        at,
-        digit_of(q / 10),
-        digit_of(q % 10),
-        digit_of(r / 10),
-        digit_of(r % 10),
-    )
+    put_four_digits(out, at, q / 10, q % 10, r / 10, r % 10)
 }
 
 // A number of four digits at most.
@@ -282,7 +289,7 @@ pub fn put_hex_byte(out: &mut [u8], at: usize, b: u8) -> usize
     ensures { λ r. ⌜ Wrote (now (out .entry)) at (hex 2 b) (now (out .exit)) r ⌝ }
 {
     let n = b as u32;
-    put_two(out, at, digit_of(n / 16 % 16), digit_of(n % 16))
+    put_two_digits(out, at, n / 16 % 16, n % 16)
 }
 
 // The bytes of `g` at two places.
@@ -291,14 +298,7 @@ fn put_pair(out: &mut [u8], at: usize, g: &[u8], i: usize, j: usize) -> usize
 {
     let a = numbers::byte_at(g, i) as u32;
     let b = numbers::byte_at(g, j) as u32;
-    put_four(
-        out,
-        at,
-        digit_of(a / 16 % 16),
-        digit_of(a % 16),
-        digit_of(b / 16 % 16),
-        digit_of(b % 16),
-    )
+    put_four_digits(out, at, a / 16 % 16, a % 16, b / 16 % 16, b % 16)
 }
 
 pub fn put_guid(out: &mut [u8], at: usize, g: &[u8]) -> usize

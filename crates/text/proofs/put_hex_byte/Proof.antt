@@ -5,18 +5,7 @@ use Rattle.text.proofs.put_hex_byte.Tie as tie
 
 returns : tie.Need-returns
 unfolding hex
-returns c =
-    let first : tie.After-digit-of = search in
-    let second : tie.After-digit-of2 = search in
-    let put : tie.After-put-two = search in
-    rw (first .digit-of .ensures, second .digit-of2 .ensures) at (put .put-two .ensures)
+returns c = let put : tie.After-put-two-digits = search in put .put-two-digits .ensures
 
 pub put-hex-byte-spec : {M : Type 1} → statement M
-put-hex-byte-spec =
-    tie.close
-    (tie.spec
-    (λ c κs. search needs)
-    (λ c κs. search needs)
-    (λ c κs. search needs)
-    (λ c. search needs)
-    returns)
+put-hex-byte-spec = tie.close (tie.spec (λ c κs. search needs) (λ c. search needs) returns)

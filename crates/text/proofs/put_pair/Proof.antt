@@ -9,25 +9,12 @@ unfolding hexes hex
 returns c =
     let first : tie.After-byte-at = search in
     let second : tie.After-byte-at2 = search in
-    let a : tie.After-digit-of = search in
-    let b : tie.After-digit-of2 = search in
-    let e : tie.After-digit-of3 = search in
-    let f : tie.After-digit-of4 = search in
-    let put : tie.After-put-four = search in
-    rw (a .digit-of .ensures, b .digit-of2 .ensures, e .digit-of3 .ensures, f .digit-of4 .ensures, first .byte-at .ensures, second .byte-at2 .ensures) at (put .put-four .ensures)
+    let put : tie.After-put-four-digits = search in
+    rw (first .byte-at .ensures, second .byte-at2 .ensures) at (put .put-four-digits .ensures)
 
 pub put-pair-spec : {M : Type 1} → statement M
 put-pair-spec =
     tie.close
     (tie.spec
-    (λ c κs. search needs)
-    (λ c. search needs)
-    (λ c κs. search needs)
-    (λ c. search needs)
-    (λ c κs. search needs)
-    (λ c κs. search needs)
-    (λ c κs. search needs)
-    (λ c κs. search needs)
-    (λ c κs. search needs)
-    (λ c. search needs)
+    (λ c κs. search needs) (λ c. search needs) (λ c κs. search needs) (λ c. search needs) (λ c κs. search needs) (λ c. search needs)
     returns)

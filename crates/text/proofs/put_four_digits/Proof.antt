@@ -1,6 +1,6 @@
 use borrow.Author.Needs.{needs}
-use Rattle.text.proofs.put_thousands.Statement.{statement}
-use Rattle.text.proofs.put_thousands.Tie as tie
+use Rattle.text.proofs.put_four_digits.Statement.{statement}
+use Rattle.text.proofs.put_four_digits.Tie as tie
 
 returns : tie.Need-returns
 returns c =
@@ -11,14 +11,10 @@ returns c =
     let put : tie.After-put-four = search in
     rw (a .digit-of .ensures, b .digit-of2 .ensures, e .digit-of3 .ensures, f .digit-of4 .ensures) at (put .put-four .ensures)
 
-pub put-thousands-spec : {M : Type 1} → statement M
-put-thousands-spec =
+pub put-four-digits-spec : {M : Type 1} → statement M
+put-four-digits-spec =
     tie.close
     (tie.spec
-    (λ c κs. search needs)
-    (λ c κs. search needs)
-    (λ c κs. search needs)
-    (λ c κs. search needs)
-    (λ c κs. search needs)
+    (λ c κs. search needs) (λ c κs. search needs) (λ c κs. search needs) (λ c κs. search needs) (λ c κs. search needs)
     (λ c. search needs)
     returns)
