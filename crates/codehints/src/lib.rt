@@ -6,15 +6,16 @@ use coderows::SCOPE_LIST_WORDS;
 use coderows::row_near;
 use coderows::scope_near;
 use coderows::seek_row;
+use numbers::low_byte;
 use numbers::number_of;
 ghost use mathlib.Core.Path.{_≡_};
 ghost use Prim.Native.Nat.{_<_};
 ghost use Rattle.rules.specs.Lists.{find};
 ghost use Rattle.rules.specs.CodeTable.{tiesAt, isTied};
 ghost use Rattle.coderows.specs.Look.{Listed, Finds, Sorted, bodyRows, asRow};
-ghost use Rattle.codehints.specs.Slots.{RowAsked, RowsAsked};
+ghost use Rattle.codehints.specs.Slots.{slots, RowAsked, RowsAsked};
 
-// Hints for rows, and after them hints for scopes, a byte each.
+// Hints for rows, and after them hints for scopes: the low byte of a place each.
 const ROW_HINTS: usize = 4096;
 
 const SCOPE_HINTS: usize = 256;
@@ -26,20 +27,15 @@ const SPREAD: usize = 11;
 
 fn row_slot(start: usize, id: usize) -> usize
     requires { ⌜ RowAsked start id ⌝ }
-    ensures { λ r. ⌜ r < 4352 ⌝ }
+    ensures { λ r. ⌜ r < slots ⌝ }
 {
     (SPREAD * start + id) % ROW_HINTS
 }
 
 fn scope_slot(code: usize) -> usize
-    ensures { λ r. ⌜ r < 4352 ⌝ }
+    ensures { λ r. ⌜ r < slots ⌝ }
 {
     ROW_HINTS + code % SCOPE_HINTS
-}
-
-// A hint is a byte.
-fn low_byte(n: usize) -> u8 {
-    (n % 256) as u8
 }
 
 // Where the rows of a scope are, in a well-formed table with these scopes.

@@ -43,6 +43,10 @@ unfoldable pub placeIn : List ℕ → ℕ → ℕ
 placeIn [] id = 0
 placeIn (x ∷ ids) id = cond (eqb x id) 0 (suc (placeIn ids id))
 
+-- how many hints are kept, as the code's HINTS says
+abbrev pub slots : ℕ
+slots = 4096
+
 -- a length of 32 bits
 abbrev pub longestName : ℕ
 longestName = 4294967295

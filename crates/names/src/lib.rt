@@ -1,5 +1,7 @@
 // The names of values and of control types, by their ids.
+use numbers::low_byte;
 use rules::Answer;
+use rules::NO_ROOM_FOR_TEXT;
 ghost use mathlib.Core.Path.{_≡_};
 ghost use mathlib.Core.List.{[]};
 ghost use mathlib.Core.Bool.{true};
@@ -11,10 +13,7 @@ ghost use Rattle.rules.specs.NameTables.{textNames, numberNames, bytesNames, co
 ghost use Rattle.rules.specs.Names.{nameIn, namesFor, nameExit};
 ghost use Rattle.rules.specs.Texts.{textExit};
 ghost use Rattle.nametables.specs.Directory.{allNames};
-ghost use Rattle.names.specs.Lookup.{Lent, LentRow, LentRows, rowsIn, nameAt, placeIn, longestName};
-
-// The answer where a name doesn't fit.
-const NO_ROOM: u32 = 9;
+ghost use Rattle.names.specs.Lookup.{Lent, LentRow, LentRows, rowsIn, nameAt, placeIn, slots, longestName};
 
 // ---- names that are parts of a lent directory
 // The place of `id` in `ids`, by halving, or their number where it has none.
@@ -102,18 +101,17 @@ pub fn value_name_in<'a>(index: &[u32], letters: &'a [u8], mark: u32, id: u16) -
 }
 
 // ---- names looked for first where the last search for the same ended
-// A hint for each mark and low byte of an id. A hint may be wrong: nothing but time rests on it.
-pub const HINTS: usize = 4096;
+// A hint for each mark and low byte of an id: the low byte of a row. It may be wrong; nothing but time rests on it.
+const MARK_SLOTS: usize = 16;
+
+const ID_SLOTS: usize = 256;
+
+pub const HINTS: usize = MARK_SLOTS * ID_SLOTS;
 
 fn slot(mark: u32, id: u16) -> usize
-    ensures { λ r. ⌜ r < 4096 ⌝ }
+    ensures { λ r. ⌜ r < slots ⌝ }
 {
-    (mark as usize) % 16 * 256 + (id as usize) % 256
-}
-
-// A hint is a byte.
-fn low_byte(n: usize) -> u8 {
-    (n % 256) as u8
+    (mark as usize) % MARK_SLOTS * ID_SLOTS + (id as usize) % ID_SLOTS
 }
 
 // Whether `id` is told to stand at the place `near`. Where this is false nothing is told.
@@ -149,7 +147,7 @@ fn name_near<'a>(
     to: usize,
     id: u16,
 ) -> &'a [u8]
-    requires { ⌜ LentRows (now index) (now letters) from to × (at < 4096) ⌝ }
+    requires { ⌜ LentRows (now index) (now letters) from to × (at < slots) ⌝ }
     ensures { λ r. ⌜ now r ≡ nameIn (rowsIn from to) id ⌝ }
 {
     let hint = hints[at];
@@ -213,7 +211,7 @@ fn write_name(name: &[u8], out: &mut [u8]) -> Answer
     ensures { λ _. ⌜ now (out .exit) ≡ textExit (now (name .entry)) (now (out .entry)) .out ⌝ }
 {
     if out.len() < name.len() {
-        return text::refused(NO_ROOM);
+        return text::refused(NO_ROOM_FOR_TEXT);
     }
     text::put_text(out, 0, name);
     text::wrote(name.len() as u32)

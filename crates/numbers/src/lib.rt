@@ -1,6 +1,6 @@
 // Numbers out of bytes: one byte, two or four of a slice, low byte first; signed numbers; a single widened to a double.
 ghost use mathlib.Core.Path.{_≡_};
-ghost use Prim.Native.Nat.{_+_, _*_, _≤_, _<_, _^_};
+ghost use Prim.Native.Nat.{_+_, _*_, _%_, _≤_, _<_, _^_};
 ghost use lib.ListN.{length};
 ghost use lib.Ieee.{binary32, binary64, ofBits};
 ghost use Rattle.rules.specs.Bytes.{byte, u16, u32, halfAt};
@@ -111,6 +111,13 @@ pub fn u16_if_inside(s: &[u8], at: usize) -> IfInside
         return IfInside::Outside;
     }
     IfInside::Of(number_of(s[at]) + 256 * number_of(s[next]))
+}
+
+// ---- as a byte
+pub fn low_byte(n: usize) -> u8
+    ensures { λ r. ⌜ r ≡ n % 256 ⌝ }
+{
+    (n % 256) as u8
 }
 
 // ---- whole numbers
