@@ -12,7 +12,7 @@ use Rattle.rows.specs.Acts.{Nodes, topNodes, Held, Fit, actBy, Ready}
 use Rattle.rows.proofs.WritingLaws.{write-lengths}
 use Rattle.rows.proofs.ActLaws.{at-place}
 use Rattle.cursor.specs.Walk.{Step, Steps, entryBy, _before_}
-use Rattle.cursor.specs.Stack.{countOf, Before, Moved}
+use Rattle.cursor.specs.Stack.{countOf, Before, Moved, stackWords}
 use Rattle.cursor.specs.Cursors.{cursor, Passed}
 use Rattle.cursor.specs.declared.Cursor.{Cursor}
 use Rattle.rows.proofs.WritingLaws.{write-append, write-none}
@@ -60,7 +60,7 @@ fits-all st z (some y) h = record { known = h .known; fit = h .fits; number = z;
 
 module _ {P : Type 0} {step : Steps P} {K : Type 0} {f : Node P → Control} where
   pub going-start : {whole : Nodes P} (st : State) (a : List ℕ) (n at : ℕ) (r : Cursor) → topNodes (levelsAt (entryBy step) levels n at) ≡ whole → st .ci ≡ 0
-      → length a ≡ 512 → Ready K f whole st → Passed step isReported (cursor at 0 n noParent) r → Going step K f whole st a r st
+      → length a ≡ stackWords → Ready K f whole st → Passed step isReported (cursor at 0 n noParent) r → Going step K f whole st a r st
   going-start {whole = whole} st a n at r e z l h p = record {
     goes = subst (λ (i : ℕ). laws.Going step (Ran (writing f) whole st) (λ _. writing f) (Fits K f st) a r i st) (sym z) (laws.going-start (writes K f st) st a n at r e l (fits-all st z whole h) p);
   }

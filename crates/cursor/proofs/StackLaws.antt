@@ -8,9 +8,9 @@ use mathlib.Core.Option.{Option, none, some}
 use lib.ListN.{length, getD, set, length-set}
 use lib.Seq.{getD-set-same, getD-set-other}
 use native.Mathlib.Numerals.{sub-one, add-one}
-use Rattle.rules.specs.Tree.{Entry}
+use Rattle.rules.specs.Tree.{Entry, levels}
 use Rattle.cursor.specs.Walk.{Steps, Frame, frame, restAt, behind}
-use Rattle.cursor.specs.Stack.{outer, Open, unwind, moved, countOf, Unwound, Moved}
+use Rattle.cursor.specs.Stack.{outer, Open, unwind, moved, countOf, Unwound, Moved, stackWords}
 use Rattle.cursor.specs.declared.Cursor.{Cursor}
 use Rattle.cursor.proofs.WalkLaws.{isEmpty, rest-pop}
 
@@ -44,7 +44,7 @@ outer-push a l left up h =
 pub record Closing (a : List ℕ) (level₀ left₀ up₀ level left up : ℕ) : Type 0 where
   pub same : unwind (frame left up) (outer a level) ≡ unwind (frame left₀ up₀) (outer a level₀)
   pub lower : level ≤ level₀
-  pub low : level₀ ≤ 256
+  pub low : level₀ ≤ levels
 
 module _ (a : List ℕ) (level left up : ℕ) where
   pub unwind-end : level ≡ 0 → unwind (frame left up) (outer a level) ≡ (frame left up, outer a level)
@@ -93,11 +93,11 @@ done a c row count next a′ r m e =
 
 -- ---- a cursor after an entry
 module _ {a : List ℕ} {c : Cursor} {row next : ℕ} where
-  pub moved-out : (count : ℕ) {r : Cursor} → count ≡ 0 → c .level < 256 → Unwound a (record { at = next; level = c .level; left = c .left - 1; parent = c .parent }) r → Moved a c row count next a r
+  pub moved-out : (count : ℕ) {r : Cursor} → count ≡ 0 → c .level < levels → Unwound a (record { at = next; level = c .level; left = c .left - 1; parent = c .parent }) r → Moved a c row count next a r
   unfolding moved
   moved-out count e h u = rw e (record { long = refl; at-is = u .at-is; low = omega (arith, u .low); is = u .is })
 
-  pub moved-in : (count : ℕ) → (count ≡ 0 → ⊥) → c .level < 256 → length a ≡ 512
+  pub moved-in : (count : ℕ) → (count ≡ 0 → ⊥) → c .level < levels → length a ≡ stackWords
       → Moved a c row count next (set (set a (c .level * 2) (c .left - 1)) (c .level * 2 + 1) (c .parent)) (record { at = next; level = c .level + 1; left = count; parent = row })
   unfolding moved
   moved-in count f h l = record { long = simp length-set; at-is = refl; low = omega arith; is = go count f }

@@ -1,14 +1,14 @@
 -- The nodes that a walk visits, whatever the layout and whatever is done: what is left from a cursor on, and then all is done.
 use Prim.Native.Nat.{ℕ, suc, _+_, _≤_, _<_}
 use native.Mathlib.Omega.{arith}
-use mathlib.Core.Path.{_≡_, refl, sym, ap, _∙_}
-use mathlib.Core.List.{List, [], _∷_}
+use mathlib.Core.Path.{_≡_, refl, ap, _∙_}
+use mathlib.Core.List.{List, _∷_}
 use mathlib.Core.Option.{some}
 use lib.ListN.{length}
 use Rattle.rules.specs.Tree.{Node, levels, levelsAt, isReported, noParent}
 use Rattle.rows.specs.Acts.{Nodes, topNodes, Held}
 use Rattle.cursor.specs.Walk.{Step, nodeOf, Steps, entryBy, _before_}
-use Rattle.cursor.specs.Stack.{countOf, Before, Moved}
+use Rattle.cursor.specs.Stack.{countOf, Before, Moved, stackWords}
 use Rattle.cursor.specs.Cursors.{cursor, Picked, Passed}
 use Rattle.cursor.specs.Work.{Ran}
 use Rattle.cursor.specs.declared.Cursor.{Cursor}
@@ -20,8 +20,8 @@ use Rattle.cursor.proofs.WorkLaws.{Work, Left, left-start, left-there, 
 -- n is the number of the next node
 pub record Going {P A : Type 0} (step : Steps P) (wanted : A → ℕ → Type 0) (all : ℕ → List (Node P) → A → A) (Ok : ℕ → List (Node P) → A → Type 0)
     (a : List ℕ) (c : Cursor) (n : ℕ) (now : A) : Type 0 where
-  pub long : length a ≡ 512
-  pub low : c .level ≤ 256
+  pub long : length a ≡ stackWords
+  pub low : c .level ≤ levels
   pub picked : Picked step isReported c
   pub done : c .left ≡ 0 → c .level ≡ 0
   pub rest : Left wanted (all n) (Ok n) (left step n a c) now
@@ -36,7 +36,7 @@ pub record EntryWork {P A : Type 0} (one : ℕ → ℕ → List P → A → A) (
 
 module _ {P A : Type 0} {step : Steps P} {one : ℕ → Node P → A → A} {all : ℕ → List (Node P) → A → A} {Ok : ℕ → List (Node P) → A → Type 0} (W : Visit one all Ok) where
   pub going-start : {o : Nodes P} (st : A) (a : List ℕ) (n at : ℕ) (r : Cursor) → topNodes (levelsAt (entryBy step) levels n at) ≡ o
-      → length a ≡ 512 → Held (λ y. Ok 0 (y .0) st) o → Passed step isReported (cursor at 0 n noParent) r → Going step (Ran (all 0) o st) all Ok a r 0 st
+      → length a ≡ stackWords → Held (λ y. Ok 0 (y .0) st) o → Passed step isReported (cursor at 0 n noParent) r → Going step (Ran (all 0) o st) all Ok a r 0 st
   going-start {o = o} st a n at r e l h p =
       let q : left step 0 a r ≡ o = p .is 0 a ∙ start-nodes step a n at ∙ e in
       record { long = l; low = omega (arith, p .level-is); picked = p .picked; done = p .done (λ _. refl); rest = rw q (left-start h) }

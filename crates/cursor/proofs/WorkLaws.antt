@@ -1,6 +1,6 @@
 -- A loop that keeps a running value, whatever it goes over and whatever it does: what comes of the things that are left is what comes of all.
 use Prim.Native.Nat.{ℕ}
-use mathlib.Core.Path.{_≡_, refl, sym, ap, _∙_}
+use mathlib.Core.Path.{_≡_, refl, sym, _∙_}
 use mathlib.Core.List.{List, [], _∷_}
 use mathlib.Core.Option.{Option, none, some}
 use Rattle.rules.specs.Lists.{_>>=_}

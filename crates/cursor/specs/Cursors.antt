@@ -23,9 +23,13 @@ nesting c = record { level = c .level; parent = c .parent }
 unfoldable pub restBy : {P : Type 0} → Steps P → (Entry P → Bool) → ℕ → List ℕ → Cursor → Nodes P
 restBy step pick n a c = restAt step pick (levels - c .level) n (frame (c .left) (c .parent)) (outer a (c .level)) (c .at)
 
+-- how many levels there are below an entry of the top list
+abbrev pub belowTop : ℕ
+belowTop = levels - 1
+
 -- an entry of the top list
 abbrev pub topAt : {P : Type 0} → Steps P → ℕ → Option (Entry P × ℕ)
-topAt step p = entryBy step (levelsAt (entryBy step) 255) p
+topAt step p = entryBy step (levelsAt (entryBy step) belowTop) p
 
 -- in the top list, the cursor stands before an entry that is picked
 abbrev pub Picked : {P : Type 0} → Steps P → (Entry P → Bool) → Cursor → Type 0

@@ -4,8 +4,13 @@ use mathlib.Core.Path.{_≡_}
 use mathlib.Core.List.{List, [], _∷_}
 use mathlib.Core.Option.{Option, none, some}
 use lib.ListN.{length, getD}
+use Rattle.rules.specs.Tree.{levels}
 use Rattle.cursor.specs.Walk.{Frame, frame}
 use Rattle.cursor.specs.declared.Cursor.{Cursor}
+
+-- as the code's STACK_WORDS says
+abbrev pub stackWords : ℕ
+stackWords = levels * 2
 
 unfoldable pub outer : List ℕ → ℕ → List Frame
 outer a zero = []
@@ -34,15 +39,15 @@ countOf (some m) = m
 
 -- the cursor stands before an entry, and the stack holds every level
 pub record Before (a : List ℕ) (c : Cursor) : Type 0 where
-  pub long : length a ≡ 512
+  pub long : length a ≡ stackWords
   pub some-left : 0 < c .left
-  pub low : c .level < 256
+  pub low : c .level < levels
 
 -- the cursor r after the entry at the cursor c, whose list has so many entries and starts at `next`
 pub record Moved (a : List ℕ) (c : Cursor) (row count next : ℕ) (a′ : List ℕ) (r : Cursor) : Type 0 where
   pub long : length a′ ≡ length a
   pub at-is : r .at ≡ next
-  pub low : r .level ≤ 256
+  pub low : r .level ≤ levels
   pub is : opened a′ r ≡ moved (frame (c .left - 1) (c .parent)) (outer a (c .level)) row count
 
 pub record Unwound (a : List ℕ) (c r : Cursor) : Type 0 where

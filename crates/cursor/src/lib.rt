@@ -2,12 +2,16 @@
 use rows::NO_PARENT;
 ghost use mathlib.Core.Path.{_≡_};
 ghost use Prim.Native.Nat.{_≤_};
-ghost use Rattle.rules.specs.Tree.{noParent};
+ghost use Rattle.rules.specs.Tree.{noParent, levels};
 ghost use Rattle.cursor.specs.Stack.{Before, Unwound, Moved};
 ghost use Rattle.cursor.specs.Cursors.{cursor};
 
-// How many words the lent stack has: two for each of 256 levels.
-pub const STACK_WORDS: usize = 512;
+// How many words the lent stack has: two for each level.
+const LEVELS: usize = 256;
+
+const LEVEL_WORDS: usize = 2;
+
+pub const STACK_WORDS: usize = LEVELS * LEVEL_WORDS;
 
 // Where a walk stands: before an entry, or at the end where `left` is 0. `level` is that of the innermost list that is open, `left` how many of
 // its entries are left, and `parent` the row of the entry that holds it. The lists around it stand on a lent stack, two words for each level.
@@ -32,7 +36,7 @@ pub fn top(at: usize, n: u32) -> Cursor
 
 // Closes the lists that have no entry left.
 fn unwound(stack: &[u32; STACK_WORDS], c: Cursor) -> Cursor
-    requires { ⌜ c .level ≤ 256 ⌝ }
+    requires { ⌜ c .level ≤ levels ⌝ }
     ensures { λ r. ⌜ Unwound (now (stack .entry)) c r ⌝ }
 {
     let at = c.at;
@@ -49,8 +53,8 @@ fn unwound(stack: &[u32; STACK_WORDS], c: Cursor) -> Cursor
             };
         }
         level = level - 1;
-        left = stack[level * 2];
-        parent = stack[level * 2 + 1];
+        left = stack[level * LEVEL_WORDS];
+        parent = stack[level * LEVEL_WORDS + 1];
     }
     Cursor {
         at,
@@ -85,8 +89,8 @@ pub fn after_entry(
             },
         );
     }
-    stack[level * 2] = left;
-    stack[level * 2 + 1] = parent;
+    stack[level * LEVEL_WORDS] = left;
+    stack[level * LEVEL_WORDS + 1] = parent;
     Cursor {
         at: next,
         level: level + 1,
