@@ -1,17 +1,13 @@
 -- The four tables in the directory: that each stands there in order is computed once, here.
-use mathlib.Core.Path.{_≡_, refl}
+use mathlib.Core.Path.{_≡_, refl, _∙_}
+use mathlib.Core.List.{[]}
 use Prim.Native.Nat.{ℕ, _+_}
 use lib.Dec.{leb→le}
 use lib.ListN.{length}
 use Rattle.rules.specs.Lists.{ascends}
 use Rattle.rules.specs.NameTables.{Table, textNames, numberNames, bytesNames, controlTypeNames}
 use Rattle.nametables.specs.Directory.{allNames}
-use Rattle.names.specs.Lookup.{Stand, rowsIn}
-
--- a table's rows are those from `from` to `to`
-pub record Rows (from to : ℕ) (table : Table) : Type 0 where
-  pub stand : Stand from to
-  pub are : rowsIn from to ≡ table
+use Rattle.names.specs.Lookup.{Rows}
 
 -- ---- where each begins
 abbrev numbers-from : ℕ
@@ -38,3 +34,10 @@ bytes = record { stand = record { ordered = leb→le _ _ tt; inside = leb→le _
 pub control-types : Rows types-from (length allNames) controlTypeNames
 unfolding allNames ascends textNames numberNames bytesNames controlTypeNames
 control-types = record { stand = record { ordered = leb→le _ _ tt; inside = leb→le _ _ tt; ascending = tt }; are = refl }
+
+pub none : Rows 0 0 []
+unfolding allNames ascends textNames numberNames bytesNames controlTypeNames
+none = record { stand = record { ordered = leb→le _ _ tt; inside = leb→le _ _ tt; ascending = tt }; are = refl }
+
+pub rows-as : {from to : ℕ} {t u : Table} → Rows from to t → t ≡ u → Rows from to u
+rows-as r e = record { stand = r .stand; are = r .are ∙ e }

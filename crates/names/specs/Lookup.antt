@@ -24,6 +24,11 @@ pub record Stand (from to : ℕ) : Type 0 where
   pub inside : to ≤ length allNames
   pub ascending : T (ascends 0 (idsOf (rowsIn from to)))
 
+-- they are a table's
+pub record Rows (from to : ℕ) (table : Table) : Type 0 where
+  pub stand : Stand from to
+  pub are : rowsIn from to ≡ table
+
 -- what is lent, and a row of it
 pub record LentRow (index letters : List ℕ) (row : ℕ) : Type 0 where
   pub lent : Lent index letters

@@ -1,6 +1,12 @@
 // The names of values and of control types, by their ids.
 use numbers::low_byte;
 use rules::Answer;
+use rules::MARK_BINARY;
+use rules::MARK_BOOL;
+use rules::MARK_DOUBLE;
+use rules::MARK_GUID;
+use rules::MARK_LOOSE;
+use rules::MARK_TEXT;
 use rules::NO_ROOM_FOR_TEXT;
 ghost use mathlib.Core.Path.{_≡_};
 ghost use mathlib.Core.List.{[]};
@@ -13,7 +19,7 @@ ghost use Rattle.rules.specs.NameTables.{textNames, numberNames, bytesNames, co
 ghost use Rattle.rules.specs.Names.{nameIn, namesFor, nameExit};
 ghost use Rattle.rules.specs.Texts.{textExit};
 ghost use Rattle.nametables.specs.Directory.{allNames};
-ghost use Rattle.names.specs.Lookup.{Lent, LentRow, LentRows, rowsIn, nameAt, placeIn, slots, longestName};
+ghost use Rattle.names.specs.Lookup.{Lent, LentRow, LentRows, Rows, rowsIn, nameAt, placeIn, slots, longestName};
 
 // ---- names that are parts of a lent directory
 // The place of `id` in `ids`, by halving, or their number where it has none.
@@ -81,23 +87,43 @@ pub fn type_name_in<'a>(index: &[u32], letters: &'a [u8], id: u16) -> &'a [u8]
     )
 }
 
+// Rows of the directory, from one up to another.
+struct Span {
+    from: usize,
+    to: usize,
+}
+
+// The rows that name the values of a mark: none where there is no such mark.
+fn rows_for(mark: u32) -> Span
+    ensures { λ r. ⌜ Rows (r .from) (r .to) (namesFor mark) ⌝ }
+{
+    match mark {
+        MARK_BOOL..=MARK_DOUBLE => Span {
+            from: nametables::NUMBER,
+            to: nametables::BYTES,
+        },
+        MARK_TEXT | MARK_LOOSE => Span {
+            from: nametables::TEXT,
+            to: nametables::NUMBER,
+        },
+        MARK_GUID | MARK_BINARY => Span {
+            from: nametables::BYTES,
+            to: nametables::CONTROL_TYPE,
+        },
+        _ => Span {
+            from: nametables::TEXT,
+            to: nametables::TEXT,
+        },
+    }
+}
+
 // The name of a value by its mark and id.
 pub fn value_name_in<'a>(index: &[u32], letters: &'a [u8], mark: u32, id: u16) -> &'a [u8]
     requires { ⌜ Lent (now index) (now letters) ⌝ }
     ensures { λ r. ⌜ now r ≡ nameIn (namesFor mark) id ⌝ }
 {
-    match mark {
-        0..=4 => name_in(index, letters, nametables::NUMBER, nametables::BYTES, id),
-        6 | 8 => name_in(index, letters, nametables::TEXT, nametables::NUMBER, id),
-        5 | 7 => name_in(
-            index,
-            letters,
-            nametables::BYTES,
-            nametables::CONTROL_TYPE,
-            id,
-        ),
-        _ => nothing_of(letters),
-    }
+    let rows = rows_for(mark);
+    name_in(index, letters, rows.from, rows.to, id)
 }
 
 // ---- names looked for first where the last search for the same ended
@@ -170,37 +196,16 @@ pub fn value_name_near<'a>(
     requires { ⌜ Lent (now index) (now letters) ⌝ }
     ensures { λ r. ⌜ now r ≡ nameIn (namesFor mark) id ⌝ }
 {
-    let at = slot(mark, id);
-    match mark {
-        0..=4 => name_near(
-            index,
-            letters,
-            hints,
-            at,
-            nametables::NUMBER,
-            nametables::BYTES,
-            id,
-        ),
-        6 | 8 => name_near(
-            index,
-            letters,
-            hints,
-            at,
-            nametables::TEXT,
-            nametables::NUMBER,
-            id,
-        ),
-        5 | 7 => name_near(
-            index,
-            letters,
-            hints,
-            at,
-            nametables::BYTES,
-            nametables::CONTROL_TYPE,
-            id,
-        ),
-        _ => nothing_of(letters),
-    }
+    let rows = rows_for(mark);
+    name_near(
+        index,
+        letters,
+        hints,
+        slot(mark, id),
+        rows.from,
+        rows.to,
+        id,
+    )
 }
 
 // ---- names written into a lent buffer
@@ -240,19 +245,19 @@ pub fn text_name(id: u16, out: &mut [u8]) -> Answer
     ensures { λ r. ⌜ r ≡ nameExit textNames id (now (out .entry)) .answer ⌝ }
     ensures { λ _. ⌜ now (out .exit) ≡ nameExit textNames id (now (out .entry)) .out ⌝ }
 {
-    value_name(6, id, out)
+    value_name(MARK_TEXT, id, out)
 }
 
 pub fn number_name(id: u16, out: &mut [u8]) -> Answer
     ensures { λ r. ⌜ r ≡ nameExit numberNames id (now (out .entry)) .answer ⌝ }
     ensures { λ _. ⌜ now (out .exit) ≡ nameExit numberNames id (now (out .entry)) .out ⌝ }
 {
-    value_name(0, id, out)
+    value_name(MARK_BOOL, id, out)
 }
 
 pub fn bytes_name(id: u16, out: &mut [u8]) -> Answer
     ensures { λ r. ⌜ r ≡ nameExit bytesNames id (now (out .entry)) .answer ⌝ }
     ensures { λ _. ⌜ now (out .exit) ≡ nameExit bytesNames id (now (out .entry)) .out ⌝ }
 {
-    value_name(5, id, out)
+    value_name(MARK_GUID, id, out)
 }
