@@ -33,7 +33,7 @@ use Rattle.rules.specs.Totals.{Total}
 use Rattle.rules.specs.declared.Totals.{Totals}
 use Rattle.rules.specs.declared.Totalled.{Totalled}
 use Rattle.blob.specs.Exit.{partPlace}
-use Rattle.oskuramos.specs.Handed.{handedAnswer}
+use Rattle.oskuramos.specs.Handed.{handedAnswer, takenAnswer, takenValue, takenRoom}
 use Rattle.claims.specs.Demand2.{Given, Spelled, Judges}
 use Rattle.claims.specs.Demand3.{Lent, SameRoom, SameBut, Same}
 use Rattle.claims.specs.Readers.{Agree}
@@ -245,7 +245,7 @@ crates-one κs a r r′ x y p q = (ap (λ e. e .answer) (p ∙ sym q), λ i. (tt
 exported-read-blob : Proved (f.exported .read-blob) exit-of
 exported-read-blob = record {
   met = told (f.exported .read-blob .function) (λ w κs a r e. exported-read-blob-clauses.ensures κs a tt r e w) _ (λ w κs a r e. three-facts (w .𝓤) _ _ _) (λ w. exported-read-blob-code.met (w .𝓤) (w .H) (w .𝓜) (w .𝓖) (w .𝓡));
-  told = λ κs a r e q i. record { answer = f.takenAnswer (q .0 i); controls = q .1 .0 i; properties = q .1 .1 i };
+  told = λ κs a r e q i. record { answer = takenAnswer (q .0 i); controls = q .1 .0 i; properties = q .1 .1 i };
 }
 
 exported-one : OneResult (f.exported .read-blob .function)
@@ -332,13 +332,13 @@ crates-read-later = record { met = λ w. read-later-code.met (w .𝓤) (w .H) (w
 exported-read-2000 : Proved (f.exported .read-2000) exit-2000
 exported-read-2000 = record {
   met = told (f.exported .read-2000 .function) (λ w κs a r e. exported-read-2000-clauses.ensures κs a tt r e w) _ (λ w κs a r e. three-facts (w .𝓤) _ _ _) (λ w. exported-read-2000-code.met (w .𝓤) (w .H) (w .𝓜) (w .𝓖) (w .𝓡));
-  told = λ κs a r e q i. record { answer = f.takenAnswer (q .0 i); controls = q .1 .0 i; properties = q .1 .1 i };
+  told = λ κs a r e q i. record { answer = takenAnswer (q .0 i); controls = q .1 .0 i; properties = q .1 .1 i };
 }
 
 exported-read-later : Proved (f.exported .read-later) exit-later
 exported-read-later = record {
   met = told (f.exported .read-later .function) (λ w κs a r e. exported-read-later-clauses.ensures κs a tt r e w) _ (λ w κs a r e. three-facts (w .𝓤) _ _ _) (λ w. exported-read-later-code.met (w .𝓤) (w .H) (w .𝓜) (w .𝓖) (w .𝓡));
-  told = λ κs a r e q i. record { answer = f.takenAnswer (q .0 i); controls = q .1 .0 i; properties = q .1 .1 i };
+  told = λ κs a r e q i. record { answer = takenAnswer (q .0 i); controls = q .1 .0 i; properties = q .1 .1 i };
 }
 
 crates-one-2000 : OneResult (f.crates .read-2000 .function)
@@ -387,7 +387,7 @@ crates-read-type-info = record {
 exported-read-type-info : Proved (f.exported .read-type-info) info-of
 exported-read-type-info = record {
   met = told (f.exported .read-type-info .function) (λ w κs a r e. exported-read-type-info-clauses.ensures κs a tt r e w) _ (λ w κs a r e. both-facts (w .𝓤) _ _) (λ w. exported-read-type-info-code.met (w .𝓤) (w .H) (w .𝓜) (w .𝓖) (w .𝓡));
-  told = λ κs a r e q i. record { answer = f.takenAnswer (q .0 i); rows = q .1 i };
+  told = λ κs a r e q i. record { answer = takenAnswer (q .0 i); rows = q .1 i };
 }
 
 read-type-infos : (f : Fn f.TypeInfo TypeInfoExit) → Proved f info-of → OneResult (f .function) → calls.ReadTypeInfo f
@@ -572,7 +572,7 @@ crates-pair = record {
 exported-pair : Proved (f.exported .pair) pair-of
 exported-pair = record {
   met = told (f.exported .pair .function) (λ w κs a r e. exported-pair-clauses.ensures κs a tt r e w) _ (λ w κs a r e. both-facts (w .𝓤) _ _) (λ w. exported-pair-code.met (w .𝓤) (w .H) (w .𝓜) (w .𝓖) (w .𝓡));
-  told = λ κs a r e q i. record { answer = f.takenAnswer (q .0 i); controls = q .1 i };
+  told = λ κs a r e q i. record { answer = takenAnswer (q .0 i); controls = q .1 i };
 }
 
 crates-pair-allows : (a : f.Pair) → (c : Call (f.crates .pair)) × (handed c ≡ a)
@@ -637,7 +637,7 @@ crates-read-csv = record {
 exported-read-csv : Proved (f.exported .read-csv) fields-of
 exported-read-csv = record {
   met = told (f.exported .read-csv .function) (λ w κs a r e. exported-read-csv-clauses.ensures κs a tt r e w) _ (λ w κs a r e. three-facts (w .𝓤) _ _ _) (λ w. exported-read-csv-code.met (w .𝓤) (w .H) (w .𝓜) (w .𝓖) (w .𝓡));
-  told = λ κs a r e q i. record { answer = f.takenAnswer (q .0 i); rows = q .1 .0 i; out = q .1 .1 i };
+  told = λ κs a r e q i. record { answer = takenAnswer (q .0 i); rows = q .1 .0 i; out = q .1 .1 i };
 }
 
 crates-csv-allows : (a : f.Sheet) → (c : Call (f.crates .read-csv)) × (handed c ≡ a)
@@ -694,7 +694,7 @@ crates-write-csv = record {
 exported-write-csv : Proved (f.exported .write-csv) csv-of
 exported-write-csv = record {
   met = told (f.exported .write-csv .function) (λ w κs a r e. exported-write-csv-clauses.ensures κs a tt r e w) _ (λ w κs a r e. four-facts (w .𝓤) _ _ _ _) (λ w. exported-write-csv-code.met (w .𝓤) (w .H) (w .𝓜) (w .𝓖) (w .𝓡));
-  told = λ κs a r e q i. record { answer = f.takenAnswer (q .0 i); controls = q .1 .0 i; properties = q .1 .1 .0 i; out = q .1 .1 .1 i };
+  told = λ κs a r e q i. record { answer = takenAnswer (q .0 i); controls = q .1 .0 i; properties = q .1 .1 .0 i; out = q .1 .1 .1 i };
 }
 
 crates-one-csv : OneResult (f.crates .write-csv .function)
@@ -761,7 +761,7 @@ crates-check-panel = record {
 exported-check-panel : Proved (f.exported .check-panel) panel-of
 exported-check-panel = record {
   met = told (f.exported .check-panel .function) (λ w κs a r e. exported-check-panel-clauses.ensures κs a tt r e w) _ (λ w κs a r e. three-facts (w .𝓤) _ _ _) (λ w. exported-check-panel-code.met (w .𝓤) (w .H) (w .𝓜) (w .𝓖) (w .𝓡));
-  told = λ κs a r e q i. record { answer = f.takenAnswer (q .0 i); controls = q .1 .0 i; properties = q .1 .1 i };
+  told = λ κs a r e q i. record { answer = takenAnswer (q .0 i); controls = q .1 .0 i; properties = q .1 .1 i };
 }
 
 abbrev panel-left : Blob → Unit {0} × (Unit {0} × (List ℕ × (List ℕ × Unit {0})))
@@ -801,7 +801,7 @@ crates-differences = record {
 exported-differences : Proved (f.exported .differences) differences-of
 exported-differences = record {
   met = told (f.exported .differences .function) (λ w κs a r e. exported-differences-clauses.ensures κs a tt r e w) _ (λ w κs a r e. both-facts (w .𝓤) _ _) (λ w. exported-differences-code.met (w .𝓤) (w .H) (w .𝓜) (w .𝓖) (w .𝓡));
-  told = λ κs a r e q i. record { answer = f.takenAnswer (q .0 i); rows = q .1 i };
+  told = λ κs a r e q i. record { answer = takenAnswer (q .0 i); rows = q .1 i };
 }
 
 abbrev differ-args : f.Differ → RefT (List ℕ) × (RefT (List ℕ) × (RefT (List ℕ) × (RefT (List ℕ) × Unit {0})))
@@ -842,20 +842,20 @@ count-args a = (record { ptr = (0, 0); name = 0; now = a .totals }, (somewhere (
 crates-count-blob : Proved (f.crates .count-blob) count-of
 crates-count-blob = record {
   met = λ w. count-blob-code.met (w .𝓤) (w .H) (w .𝓜) (w .𝓖) (w .𝓡);
-  told = λ κs a r e q i. record { answer = q .0 i; totals = q .1 i };
+  told = λ κs a r e q. q;
 }
 
 exported-count-blob : Proved (f.exported .count-blob) count-of
 exported-count-blob = record {
   met = λ w. exported-count-blob-code.met (w .𝓤) (w .H) (w .𝓜) (w .𝓖) (w .𝓡);
-  told = λ κs a r e q i. record { answer = f.takenAnswer (q .0 i); totals = q .1 i };
+  told = λ κs a r e q. q;
 }
 
 crates-count-allows : (a : f.Count) → (c : Call (f.crates .count-blob)) × (handed c ≡ a)
-crates-count-allows a = (record { κs = ([], ([], ([], tt))); args = count-args a; result = count-of a .answer; left = (count-of a .totals, (tt, (tt, (tt, (tt, tt))))); allowed = (refl, refl) }, refl)
+crates-count-allows a = (record { κs = ([], ([], ([], tt))); args = count-args a; result = count-of a .answer; left = (count-of a .totals, (tt, (tt, (tt, (tt, tt))))); allowed = refl }, refl)
 
 exported-count-allows : (a : f.Count) → (c : Call (f.exported .count-blob)) × (handed c ≡ a)
-exported-count-allows a = (record { κs = ([], ([], ([], tt))); args = count-args a; result = handedAnswer (count-of a .answer); left = (count-of a .totals, (tt, (tt, (tt, (tt, tt))))); allowed = (refl, refl) }, refl)
+exported-count-allows a = (record { κs = ([], ([], ([], tt))); args = count-args a; result = handedAnswer (count-of a .answer); left = (count-of a .totals, (tt, (tt, (tt, (tt, tt))))); allowed = refl }, refl)
 
 -- ---- as the crates have them
 of-crates : calls.Promised f.crates
@@ -880,7 +880,7 @@ of-crates = record {
   panel-reads = panel-reads (f.crates .read-blob) (f.crates .check-panel) crates-read-blob crates-check-panel;
   differences = list-differences (f.crates .differences) crates-differences crates-differ-one crates-differ-allows;
   differences-read = differences-read (f.crates .read-blob) (call-told (f.crates .read-blob) exit-of crates-read-blob) crates-allows (f.crates .differences) (call-told (f.crates .differences) differences-of crates-differences);
-  count-blob = count-blobs (f.crates .count-blob) crates-count-blob (λ κs a r r′ x y p q. (p .0 ∙ sym (q .0), λ i. ((p .1 ∙ sym (q .1)) i, (tt, (tt, (tt, (tt, tt))))))) crates-count-allows;
+  count-blob = count-blobs (f.crates .count-blob) crates-count-blob (λ κs a r r′ x y p q. (ap (λ e. e .answer) (p ∙ sym q), λ i. ((p ∙ sym q) i .totals, (tt, (tt, (tt, (tt, tt))))))) crates-count-allows;
   counts-agree = counting.agree (f.crates .count-blob) (call-told (f.crates .count-blob) count-of crates-count-blob) (f.crates .read-blob) (call-told (f.crates .read-blob) exit-of crates-read-blob);
   guid-text = guid-texts (f.crates .guid-text) (record {
     met = told (f.crates .guid-text .function) (λ w κs a r e. guid-text-clauses.ensures κs a tt r e w) _ (λ w κs a r e. both-facts (w .𝓤) _ _) (λ w. guid-text-code.met (w .𝓤) (w .H) (w .𝓜) (w .𝓖) (w .𝓡));
@@ -954,55 +954,55 @@ of-exported = record {
   panel-reads = panel-reads (f.exported .read-blob) (f.exported .check-panel) exported-read-blob exported-check-panel;
   differences = list-differences (f.exported .differences) exported-differences exported-differ-one exported-differ-allows;
   differences-read = differences-read (f.exported .read-blob) (call-told (f.exported .read-blob) exit-of exported-read-blob) exported-allows (f.exported .differences) (call-told (f.exported .differences) differences-of exported-differences);
-  count-blob = count-blobs (f.exported .count-blob) exported-count-blob (λ κs a r r′ x y p q. (p .0 ∙ sym (q .0), λ i. ((p .1 ∙ sym (q .1)) i, (tt, (tt, (tt, (tt, tt))))))) exported-count-allows;
+  count-blob = count-blobs (f.exported .count-blob) exported-count-blob (λ κs a r r′ x y p q. (ap (λ e. handedAnswer (e .answer)) (p ∙ sym q), λ i. ((p ∙ sym q) i .totals, (tt, (tt, (tt, (tt, tt))))))) exported-count-allows;
   counts-agree = counting.agree (f.exported .count-blob) (call-told (f.exported .count-blob) count-of exported-count-blob) (f.exported .read-blob) (call-told (f.exported .read-blob) exit-of exported-read-blob);
   guid-text = guid-texts (f.exported .guid-text) (record {
     met = told (f.exported .guid-text .function) (λ w κs a r e. exported-guid-text-clauses.ensures κs a tt r e w) _ (λ w κs a r e. both-facts (w .𝓤) _ _) (λ w. exported-guid-text-code.met (w .𝓤) (w .H) (w .𝓜) (w .𝓖) (w .𝓡));
-    told = λ κs a r e q i. record { answer = f.takenAnswer (q .0 i); out = q .1 i };
+    told = λ κs a r e q i. record { answer = takenAnswer (q .0 i); out = q .1 i };
   }) (λ κs a r r′ x y p q. (p .0 ∙ sym (q .0), λ i. (tt, ((p .1 ∙ sym (q .1)) i, tt))));
   label-text = label-texts (f.exported .label-text) (record {
     met = told (f.exported .label-text .function) (λ w κs a r e. exported-label-text-clauses.ensures κs a tt r e w) _ (λ w κs a r e. both-facts (w .𝓤) _ _) (λ w. exported-label-text-code.met (w .𝓤) (w .H) (w .𝓜) (w .𝓖) (w .𝓡));
-    told = λ κs a r e q i. record { answer = f.takenAnswer (q .0 i); out = q .1 i };
+    told = λ κs a r e q i. record { answer = takenAnswer (q .0 i); out = q .1 i };
   }) (λ κs a r r′ x y p q. (p .0 ∙ sym (q .0), λ i. (tt, ((p .1 ∙ sym (q .1)) i, tt))));
   join = joins (f.exported .join) (record {
     met = told (f.exported .join .function) (λ w κs a r e. exported-join-clauses.ensures κs a tt r e w) _ (λ w κs a r e. both-facts (w .𝓤) _ _) (λ w. exported-join-code.met (w .𝓤) (w .H) (w .𝓜) (w .𝓖) (w .𝓡));
-    told = λ κs a r e q i. record { answer = f.takenAnswer (q .0 i); out = q .1 i };
+    told = λ κs a r e q i. record { answer = takenAnswer (q .0 i); out = q .1 i };
   }) (λ κs a r r′ x y p q. (p .0 ∙ sym (q .0), λ i. (tt, (tt, ((p .1 ∙ sym (q .1)) i, tt))))) (one-told (f.exported .join .function .ended .signature .result)) (other-told (f.exported .join .function .ended .signature .result)) exported-join-allows;
   rewrite = rewrite-streams (f.exported .rewrite) (record {
     met = told (f.exported .rewrite .function) (λ w κs a r e. exported-rewrite-clauses.ensures κs a tt r e w) _ (λ w κs a r e. both-facts (w .𝓤) _ _) (λ w. exported-rewrite-code.met (w .𝓤) (w .H) (w .𝓜) (w .𝓖) (w .𝓡));
-    told = λ κs a r e q i. record { answer = f.takenAnswer (q .0 i); out = q .1 i };
+    told = λ κs a r e q i. record { answer = takenAnswer (q .0 i); out = q .1 i };
   }) (λ κs a r r′ x y p q. (p .0 ∙ sym (q .0), λ i. (tt, ((p .1 ∙ sym (q .1)) i, tt)))) (rewrite-told (f.exported .rewrite .function .ended .signature .result)) exported-rewrite-allows;
   rewritten-2000 = rewritten-reads (f.exported .read-2000) exit2000 exported-read-2000 (λ s r w table g. w .same table g .by-2000);
   rewritten-blob = rewritten-reads (f.exported .read-blob) exit exported-read-blob (λ s r w table g. w .same table g .chosen);
   well-formed = gives (f.exported .well-formed) _ (record { met = λ w. exported-well-formed-code.met (w .𝓤) (w .H) (w .𝓜) (w .𝓖) (w .𝓡); told = λ κs a r e q. q }) (λ κs a r r′ x y p q. (p ∙ sym q, refl));
-  room = gives (f.exported .room) _ (record { met = λ w. exported-room-code.met (w .𝓤) (w .H) (w .𝓜) (w .𝓖) (w .𝓡); told = λ κs a r e q. ap f.takenRoom q }) (λ κs a r r′ x y p q. (p ∙ sym q, refl));
-  room-2000 = gives (f.exported .room-2000) _ (record { met = λ w. exported-room-2000-code.met (w .𝓤) (w .H) (w .𝓜) (w .𝓖) (w .𝓡); told = λ κs a r e q. ap f.takenRoom q }) (λ κs a r r′ x y p q. (p ∙ sym q, refl));
-  room-later = gives (f.exported .room-later) _ (record { met = λ w. exported-room-later-code.met (w .𝓤) (w .H) (w .𝓜) (w .𝓖) (w .𝓡); told = λ κs a r e q. ap f.takenRoom q }) (λ κs a r r′ x y p q. (p ∙ sym q, refl));
+  room = gives (f.exported .room) _ (record { met = λ w. exported-room-code.met (w .𝓤) (w .H) (w .𝓜) (w .𝓖) (w .𝓡); told = λ κs a r e q. ap takenRoom q }) (λ κs a r r′ x y p q. (p ∙ sym q, refl));
+  room-2000 = gives (f.exported .room-2000) _ (record { met = λ w. exported-room-2000-code.met (w .𝓤) (w .H) (w .𝓜) (w .𝓖) (w .𝓡); told = λ κs a r e q. ap takenRoom q }) (λ κs a r r′ x y p q. (p ∙ sym q, refl));
+  room-later = gives (f.exported .room-later) _ (record { met = λ w. exported-room-later-code.met (w .𝓤) (w .H) (w .𝓜) (w .𝓖) (w .𝓡); told = λ κs a r e q. ap takenRoom q }) (λ κs a r r′ x y p q. (p ∙ sym q, refl));
   type-info-room = gives (f.exported .type-info-room) _ (record { met = λ w. exported-type-info-room-code.met (w .𝓤) (w .H) (w .𝓜) (w .𝓖) (w .𝓡); told = λ κs a r e q. q }) (λ κs a r r′ x y p q. (p ∙ sym q, refl));
   is-utf16 = gives (f.exported .is-utf16) _ (record { met = λ w. exported-is-utf16-code.met (w .𝓤) (w .H) (w .𝓜) (w .𝓖) (w .𝓡); told = λ κs a r e q. q }) (λ κs a r r′ x y p q. (p ∙ sym q, refl));
   text-name = names-written (f.exported .text-name) _ _ _ (record {
     met = told (f.exported .text-name .function) (λ w κs a r e. exported-text-name-clauses.ensures κs a tt r e w) _ (λ w κs a r e. both-facts (w .𝓤) _ _) (λ w. exported-text-name-code.met (w .𝓤) (w .H) (w .𝓜) (w .𝓖) (w .𝓡));
-    told = λ κs a r e q i. record { answer = f.takenAnswer (q .0 i); out = q .1 i };
+    told = λ κs a r e q i. record { answer = takenAnswer (q .0 i); out = q .1 i };
   }) (λ κs a r r′ x y p q. (p .0 ∙ sym (q .0), λ i. (tt, ((p .1 ∙ sym (q .1)) i, tt))));
   number-name = names-written (f.exported .number-name) _ _ _ (record {
     met = told (f.exported .number-name .function) (λ w κs a r e. exported-number-name-clauses.ensures κs a tt r e w) _ (λ w κs a r e. both-facts (w .𝓤) _ _) (λ w. exported-number-name-code.met (w .𝓤) (w .H) (w .𝓜) (w .𝓖) (w .𝓡));
-    told = λ κs a r e q i. record { answer = f.takenAnswer (q .0 i); out = q .1 i };
+    told = λ κs a r e q i. record { answer = takenAnswer (q .0 i); out = q .1 i };
   }) (λ κs a r r′ x y p q. (p .0 ∙ sym (q .0), λ i. (tt, ((p .1 ∙ sym (q .1)) i, tt))));
   bytes-name = names-written (f.exported .bytes-name) _ _ _ (record {
     met = told (f.exported .bytes-name .function) (λ w κs a r e. exported-bytes-name-clauses.ensures κs a tt r e w) _ (λ w κs a r e. both-facts (w .𝓤) _ _) (λ w. exported-bytes-name-code.met (w .𝓤) (w .H) (w .𝓜) (w .𝓖) (w .𝓡));
-    told = λ κs a r e q i. record { answer = f.takenAnswer (q .0 i); out = q .1 i };
+    told = λ κs a r e q i. record { answer = takenAnswer (q .0 i); out = q .1 i };
   }) (λ κs a r r′ x y p q. (p .0 ∙ sym (q .0), λ i. (tt, ((p .1 ∙ sym (q .1)) i, tt))));
   control-type-name = names-written (f.exported .control-type-name) _ _ _ (record {
     met = told (f.exported .control-type-name .function) (λ w κs a r e. exported-control-type-name-clauses.ensures κs a tt r e w) _ (λ w κs a r e. both-facts (w .𝓤) _ _) (λ w. exported-control-type-name-code.met (w .𝓤) (w .H) (w .𝓜) (w .𝓖) (w .𝓡));
-    told = λ κs a r e q i. record { answer = f.takenAnswer (q .0 i); out = q .1 i };
+    told = λ κs a r e q i. record { answer = takenAnswer (q .0 i); out = q .1 i };
   }) (λ κs a r r′ x y p q. (p .0 ∙ sym (q .0), λ i. (tt, ((p .1 ∙ sym (q .1)) i, tt))));
   value-name = names-written (f.exported .value-name) _ _ _ (record {
     met = told (f.exported .value-name .function) (λ w κs a r e. exported-value-name-clauses.ensures κs a tt r e w) _ (λ w κs a r e. both-facts (w .𝓤) _ _) (λ w. exported-value-name-code.met (w .𝓤) (w .H) (w .𝓜) (w .𝓖) (w .𝓡));
-    told = λ κs a r e q i. record { answer = f.takenAnswer (q .0 i); out = q .1 i };
+    told = λ κs a r e q i. record { answer = takenAnswer (q .0 i); out = q .1 i };
   }) (λ κs a r r′ x y p q. (p .0 ∙ sym (q .0), λ i. (tt, (tt, ((p .1 ∙ sym (q .1)) i, tt)))));
-  entry-value = gives (f.exported .entry-value) _ (record { met = λ w. exported-entry-value-code.met (w .𝓤) (w .H) (w .𝓜) (w .𝓖) (w .𝓡); told = λ κs a r e q. ap f.takenValue q }) (λ κs a r r′ x y p q. (p ∙ sym q, refl));
-  stored-value = gives (f.exported .stored-value) _ (record { met = λ w. exported-stored-value-code.met (w .𝓤) (w .H) (w .𝓜) (w .𝓖) (w .𝓡); told = λ κs a r e q. ap f.takenValue q }) (λ κs a r r′ x y p q. (p ∙ sym q, refl));
-  value-as = gives (f.exported .value-as) _ (record { met = λ w. exported-value-as-code.met (w .𝓤) (w .H) (w .𝓜) (w .𝓖) (w .𝓡); told = λ κs a r e q. ap f.takenValue q }) (λ κs a r r′ x y p q. (p ∙ sym q, refl));
+  entry-value = gives (f.exported .entry-value) _ (record { met = λ w. exported-entry-value-code.met (w .𝓤) (w .H) (w .𝓜) (w .𝓖) (w .𝓡); told = λ κs a r e q. ap takenValue q }) (λ κs a r r′ x y p q. (p ∙ sym q, refl));
+  stored-value = gives (f.exported .stored-value) _ (record { met = λ w. exported-stored-value-code.met (w .𝓤) (w .H) (w .𝓜) (w .𝓖) (w .𝓡); told = λ κs a r e q. ap takenValue q }) (λ κs a r r′ x y p q. (p ∙ sym q, refl));
+  value-as = gives (f.exported .value-as) _ (record { met = λ w. exported-value-as-code.met (w .𝓤) (w .H) (w .𝓜) (w .𝓖) (w .𝓡); told = λ κs a r e q. ap takenValue q }) (λ κs a r r′ x y p q. (p ∙ sym q, refl));
 }
 
 -- ---- the others

@@ -22,10 +22,8 @@ use Rattle.rules.specs.declared.Totalled.{Totalled}
 use Rattle.numbers.specs.declared.Int.{Int}
 use Rattle.numbers.specs.declared.Wide.{Wide}
 use Rattle.blob.specs.Exit.{Place}
-use Rattle.oskuramos.specs.Handed.{handedAnswer}
-use Rattle.oskuramos.specs.declared.Answer as c-answer
-use Rattle.oskuramos.specs.declared.Value as c-value
-use Rattle.oskuramos.specs.declared.Room as c-room
+use Rattle.totals.specs.Exit.{exited}
+use Rattle.oskuramos.specs.Handed.{takenAnswer, takenValue, takenRoom}
 use Rattle.oskuramos.specs.declared.Part.{Part}
 use Rattle.propvalue.proofs.entry_value as entry_value
 use Rattle.propvalue.proofs.stored_value as stored_value
@@ -322,7 +320,7 @@ abbrev differences-exit : Answer → Slice × (Slice × (Slice × (Slice × End)
 differences-exit r e = record { answer = r; rows = differ e .rows }
 
 abbrev count-exit : Answer → RefT Totals × (Slice × (Slice × (ℕ × (ℕ × End)))) → Totalled
-count-exit r e = record { answer = r; totals = counting e .totals }
+count-exit r e = exited r (counting e .totals)
 
 abbrev guid-exit : Answer → Slice × (Slice × End) → TextExit
 guid-exit r e = record { answer = r; out = guid e .out }
@@ -341,16 +339,6 @@ join-exit r e = record { answer = r; out = tables e .out }
 
 abbrev rewrite-exit : Answer → Slice × (Slice × End) → TextExit
 rewrite-exit r e = record { answer = r; out = rewriting e .out }
-
--- what C gets has the same fields, in structs laid out as C's: here they are read back
-abbrev pub takenAnswer : c-answer.Answer → Answer
-takenAnswer a = record { number = a .number; first = a .first; second = a .second; third = a .third }
-
-abbrev pub takenValue : c-value.Value → Value
-takenValue v = record { mark = v .mark; low = v .low; high = v .high }
-
-abbrev pub takenRoom : c-room.Room → Room
-takenRoom r = record { controls = r .controls; properties = r .properties }
 
 -- ---- the functions that both the crates and the archive have (`control_name` stands below: the two return its part differently)
 pub record Interface : Type 2 where
@@ -432,7 +420,7 @@ crates = record {
     seen = λ κs r e. differences-exit r e;
   };
   count-blob = record {
-    function = record { ended = count_blob.ended; routine = count_blob.Symbol.routine; says = λ κs a r e. (r ≡ counted-by (counting a) .answer) × (now (e .0) ≡ counted-by (counting a) .totals) };
+    function = record { ended = count_blob.ended; routine = count_blob.Symbol.routine; says = λ κs a r e. count-exit r e ≡ counted-by (counting a) };
     handed = λ κs a. counting a;
     seen = λ κs r e. count-exit r e;
   };
@@ -528,7 +516,7 @@ crates = record {
   };
 }
 
--- as C and Rust have them: `oskuramos_read_blob` and so on
+-- as C and Rust have them: `oskuramos_read_blob` and so on. What C gets has the same fields, in structs laid out as C's: they are read back
 abbrev pub exported : Interface
 exported = record {
   read-blob = record {
@@ -577,7 +565,7 @@ exported = record {
     seen = λ κs r e. differences-exit (takenAnswer r) e;
   };
   count-blob = record {
-    function = record { ended = oskuramos_count_blob.ended; routine = oskuramos_count_blob.Symbol.routine; says = λ κs a r e. (r ≡ handedAnswer (counted-by (counting a) .answer)) × (now (e .0) ≡ counted-by (counting a) .totals) };
+    function = record { ended = oskuramos_count_blob.ended; routine = oskuramos_count_blob.Symbol.routine; says = λ κs a r e. count-exit (takenAnswer r) e ≡ counted-by (counting a) };
     handed = λ κs a. counting a;
     seen = λ κs r e. count-exit (takenAnswer r) e;
   };

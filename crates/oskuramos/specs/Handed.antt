@@ -6,12 +6,10 @@ use Rattle.rules.specs.NamePart as name
 use Rattle.rules.specs.declared.Answer as rules
 use Rattle.rules.specs.declared.Value as rules-value
 use Rattle.rules.specs.declared.Room as rules-room
-use Rattle.rules.specs.declared.Totalled.{Totalled}
 use Rattle.oskuramos.specs.declared.Answer.{Answer}
 use Rattle.oskuramos.specs.declared.Value.{Value}
 use Rattle.oskuramos.specs.declared.Part.{Part}
 use Rattle.oskuramos.specs.declared.Room.{Room}
-use Rattle.oskuramos.specs.declared.Counted.{Counted}
 
 abbrev pub handedAnswer : rules.Answer → Answer
 handedAnswer a = record { number = a .number; first = a .first; second = a .second; third = a .third }
@@ -22,8 +20,15 @@ handedValue v = record { mark = v .mark; low = v .low; high = v .high }
 abbrev pub handedRoom : rules-room.Room → Room
 handedRoom r = record { controls = r .controls; properties = r .properties }
 
-abbrev pub handedCount : Totalled → Counted
-handedCount r = record { answer = handedAnswer (r .answer); totals = r .totals }
+-- the same fields read back
+abbrev pub takenAnswer : Answer → rules.Answer
+takenAnswer a = record { number = a .number; first = a .first; second = a .second; third = a .third }
+
+abbrev pub takenValue : Value → rules-value.Value
+takenValue v = record { mark = v .mark; low = v .low; high = v .high }
+
+abbrev pub takenRoom : Room → rules-room.Room
+takenRoom r = record { controls = r .controls; properties = r .properties }
 
 abbrev pub part : ℕ → ℕ → ℕ → Part
 part source start length = record { source = source; start = start; length = length }

@@ -1,6 +1,6 @@
 // The functions that C and Rust call: each hands its arguments on to a proved function.
 use rules::Totals;
-use totals::totalled;
+use totals::count_blob;
 ghost use mathlib.Core.Path.{_≡_};
 ghost use Rattle.rules.specs.Blob.{exit, exit2000, exitLater};
 ghost use Rattle.rules.specs.CodeTable.{wellFormed};
@@ -19,7 +19,8 @@ ghost use Rattle.rules.specs.Totals.{totalsExit};
 ghost use Rattle.rules.specs.TypeInfo.{typeInfoExit};
 ghost use Rattle.rules.specs.Utf16.{isUtf16};
 ghost use Rattle.rules.specs.Value.{entryValue, storedValue, valueAs};
-ghost use Rattle.oskuramos.specs.Handed.{handedAnswer, handedValue, handedPart, handedRoom, handedCount, partOr};
+ghost use Rattle.totals.specs.Exit.{exited};
+ghost use Rattle.oskuramos.specs.Handed.{handedAnswer, takenAnswer, handedValue, handedPart, handedRoom, partOr};
 
 // ---- structs laid out as C's
 // Document 01's answer number with its three counts.
@@ -52,12 +53,6 @@ pub struct Part {
 pub struct Room {
     pub controls: u32,
     pub properties: u32,
-}
-
-// What a stream's count comes to: the answer, and the record at exit.
-pub struct Counted {
-    pub answer: Answer,
-    pub totals: Totals,
 }
 
 fn handed_answer(a: rules::Answer) -> Answer
@@ -206,25 +201,6 @@ pub extern "C" fn oskuramos_read_csv(text: &[u8], fields: &mut [u32], out: &mut 
     handed_answer(csvread::read_csv(text, fields, out))
 }
 // ---- running totals over many streams
-// By value.
-fn handed_count(
-    old: Totals,
-    table: &[u8],
-    stream: &[u8],
-    control_room: u32,
-    property_room: u32,
-) -> Counted
-    ensures { λ r. ⌜ r ≡ handedCount (totalsExit old (now (table .entry)) (now (stream .entry)) «control_room» «property_room») ⌝ }
-{
-    let r = totalled(old, table, stream, control_room, property_room);
-    let answer = r.answer;
-    let totals = r.totals;
-    Counted {
-        answer: handed_answer(answer),
-        totals,
-    }
-}
-
 // The record is lent, and altered where it lies.
 #[no_mangle]
 pub extern "C" fn oskuramos_count_blob(
@@ -234,11 +210,9 @@ pub extern "C" fn oskuramos_count_blob(
     control_room: u32,
     property_room: u32,
 ) -> Answer
-    ensures { λ r. ⌜ (r ≡ handedAnswer (totalsExit (now (totals .entry)) (now (table .entry)) (now (stream .entry)) «control_room» «property_room» .answer)) × (now (totals .exit) ≡ totalsExit (now (totals .entry)) (now (table .entry)) (now (stream .entry)) «control_room» «property_room» .totals) ⌝ }
+    ensures { λ r. ⌜ exited (takenAnswer r) (now (totals .exit)) ≡ totalsExit (now (totals .entry)) (now (table .entry)) (now (stream .entry)) «control_room» «property_room» ⌝ }
 {
-    let r = handed_count(*totals, table, stream, control_room, property_room);
-    *totals = r.totals;
-    r.answer
+    handed_answer(count_blob(totals, table, stream, control_room, property_room))
 }
 
 // ---- code tables

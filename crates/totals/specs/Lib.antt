@@ -1,2 +1,3 @@
 -- The record of totals, and what a call leaves in it.
 pub mod Laid
+pub mod Exit

@@ -25,6 +25,7 @@ ghost use Rattle.rules.specs.Blob.{is2000, outcome};
 ghost use Rattle.rules.specs.Totals.{holds, sums, sum, within, totalsExit};
 ghost use Rattle.tally.specs.Places.{Tallied};
 ghost use Rattle.totals.specs.Laid.{laid};
+ghost use Rattle.totals.specs.Exit.{exited};
 
 // Answers as `read_blob` does in room for so many rows; what is read is counted.
 fn counted(
@@ -157,7 +158,7 @@ pub fn count_blob(
     control_room: u32,
     property_room: u32,
 ) -> Answer
-    ensures { λ r. ⌜ (r ≡ totalsExit (now (totals .entry)) (now (table .entry)) (now (stream .entry)) «control_room» «property_room» .answer) × (now (totals .exit) ≡ totalsExit (now (totals .entry)) (now (table .entry)) (now (stream .entry)) «control_room» «property_room» .totals) ⌝ }
+    ensures { λ r. ⌜ exited r (now (totals .exit)) ≡ totalsExit (now (totals .entry)) (now (table .entry)) (now (stream .entry)) «control_room» «property_room» ⌝ }
 {
     let r = totalled(*totals, table, stream, control_room, property_room);
     *totals = r.totals;
