@@ -11,7 +11,7 @@ use lib.ListN.{length, take, drop}
 use lib.Seq.{take-at}
 use contract.Lifetimes.{Lfts}
 use denote.Ref.{RefT}
-use denote.Triple.Clauses.{AtExit}
+use denote.Triple.Clauses.{AtExit, Lasts, atExit}
 use denote.Triple.Entry.{Args, Res}
 use Rattle.rules.specs.Lists.{_>>=_, concat}
 use Rattle.rules.specs.Answer.{answer, refusal}
@@ -29,7 +29,6 @@ use Rattle.rules.specs.Csv.{crlf, allFields, sheetOf, countable, spansFrom, Csv
 use Rattle.rules.specs.Panel.{panelExit}
 use Rattle.rules.specs.Differences.{DifferencesExit}
 use Rattle.rules.specs.NamePart.{partBytes}
-use Rattle.rules.specs.Totals.{Total}
 use Rattle.rules.specs.declared.Totals.{Totals}
 use Rattle.rules.specs.declared.Totalled.{Totalled}
 use Rattle.blob.specs.Exit.{partPlace}
@@ -178,6 +177,11 @@ module _ {A B : Type 0} (f : Fn A B) (definition : A → B) (p : Proved f defini
   gives : OneResult (f .function) → Gives f definition
   gives one = record { gives = every (λ a seen. seen ≡ definition a) (λ a. refl); one-result = one }
 
+  -- where what is seen is all that is returned and left
+  one-by : ((κs : Lfts (f .function .ended .signature .lifetimes)) (a : Args (f .function .ended .signature) κs) (r r′ : Res (f .function .ended .signature) κs) (x y : Lasts (f .function .ended) κs a)
+      → f .seen κs r (atExit (f .function .ended) κs a x) ≡ f .seen κs r′ (atExit (f .function .ended) κs a y) → (r ≡ r′) × (x ≡ y)) → OneResult (f .function)
+  one-by all κs a r r′ x y k l = all κs a r r′ x y (p .told κs a r _ k ∙ sym (p .told κs a r′ _ l))
+
   call-told : (c : Call f) → seen c ≡ definition (handed c)
   call-told c = p .told (c .κs) (c .args) (c .result) _ (c .allowed)
 
@@ -233,6 +237,10 @@ module _ (f : Fn Blob Exit) (p : Proved f exit-of) (one : OneResult (f .function
     allows = allows;
   }
 
+-- what a Blob reader leaves in the four that it is handed
+abbrev exit-left : Exit → Unit {0} × (Unit {0} × (List ℕ × (List ℕ × Unit {0})))
+exit-left e = (tt, (tt, (e .controls, (e .properties, tt))))
+
 crates-read-blob : Proved (f.crates .read-blob) exit-of
 crates-read-blob = record {
   met = λ w. read-blob-code.met (w .𝓤) (w .H) (w .𝓜) (w .𝓖) (w .𝓡);
@@ -240,16 +248,16 @@ crates-read-blob = record {
 }
 
 crates-one : OneResult (f.crates .read-blob .function)
-crates-one κs a r r′ x y p q = (ap (λ e. e .answer) (p ∙ sym q), λ i. (tt, (tt, ((p ∙ sym q) i .controls, ((p ∙ sym q) i .properties, tt)))))
+crates-one = one-by (f.crates .read-blob) exit-of crates-read-blob (λ κs a r r′ x y s. (ap (λ e. e .answer) s, ap exit-left s))
 
 exported-read-blob : Proved (f.exported .read-blob) exit-of
 exported-read-blob = record {
   met = told (f.exported .read-blob .function) (λ w κs a r e. exported-read-blob-clauses.ensures κs a tt r e w) _ (λ w κs a r e. three-facts (w .𝓤) _ _ _) (λ w. exported-read-blob-code.met (w .𝓤) (w .H) (w .𝓜) (w .𝓖) (w .𝓡));
-  told = λ κs a r e q i. record { answer = takenAnswer (q .0 i); controls = q .1 .0 i; properties = q .1 .1 i };
+  told = λ κs a r e (answer, (controls, properties)) i. record { answer = takenAnswer (answer i); controls = controls i; properties = properties i };
 }
 
 exported-one : OneResult (f.exported .read-blob .function)
-exported-one κs a r r′ x y p q = (p .0 ∙ sym (q .0), λ i. (tt, (tt, ((p .1 .0 ∙ sym (q .1 .0)) i, ((p .1 .1 ∙ sym (q .1 .1)) i, tt)))))
+exported-one = one-by (f.exported .read-blob) exit-of exported-read-blob (λ κs a r r′ x y s. (ap (λ e. handedAnswer (e .answer)) s, ap exit-left s))
 
 -- a call of any words: slices that hold them at some place, and what is left in them
 abbrev somewhere : List ℕ → RefT (List ℕ)
@@ -258,17 +266,14 @@ somewhere words = record { ptr = (0, 0); name = 0; now = words }
 abbrev args-of : Blob → RefT (List ℕ) × (RefT (List ℕ) × (RefT (List ℕ) × (RefT (List ℕ) × Unit {0})))
 args-of a = (somewhere (a .table), (somewhere (a .stream), (somewhere (a .controls), (somewhere (a .properties), tt))))
 
-abbrev left-of : Blob → Unit {0} × (Unit {0} × (List ℕ × (List ℕ × Unit {0})))
-left-of a = (tt, (tt, (exit-of a .controls, (exit-of a .properties, tt))))
-
 abbrev lifetimes : Lfts 4
 lifetimes = ([], ([], ([], ([], tt))))
 
 crates-allows : (a : Blob) → (c : Call (f.crates .read-blob)) × (handed c ≡ a)
-crates-allows a = (record { κs = lifetimes; args = args-of a; result = exit-of a .answer; left = left-of a; allowed = refl }, refl)
+crates-allows a = (record { κs = lifetimes; args = args-of a; result = exit-of a .answer; left = exit-left (exit-of a); allowed = refl }, refl)
 
 exported-allows : (a : Blob) → (c : Call (f.exported .read-blob)) × (handed c ≡ a)
-exported-allows a = (record { κs = lifetimes; args = args-of a; result = handedAnswer (exit-of a .answer); left = left-of a; allowed = (refl, (refl, refl)) }, refl)
+exported-allows a = (record { κs = lifetimes; args = args-of a; result = handedAnswer (exit-of a .answer); left = exit-left (exit-of a); allowed = (refl, (refl, refl)) }, refl)
 
 -- ---- read_2000
 abbrev exit-2000 : Blob → Exit
@@ -332,47 +337,41 @@ crates-read-later = record { met = λ w. read-later-code.met (w .𝓤) (w .H) (w
 exported-read-2000 : Proved (f.exported .read-2000) exit-2000
 exported-read-2000 = record {
   met = told (f.exported .read-2000 .function) (λ w κs a r e. exported-read-2000-clauses.ensures κs a tt r e w) _ (λ w κs a r e. three-facts (w .𝓤) _ _ _) (λ w. exported-read-2000-code.met (w .𝓤) (w .H) (w .𝓜) (w .𝓖) (w .𝓡));
-  told = λ κs a r e q i. record { answer = takenAnswer (q .0 i); controls = q .1 .0 i; properties = q .1 .1 i };
+  told = λ κs a r e (answer, (controls, properties)) i. record { answer = takenAnswer (answer i); controls = controls i; properties = properties i };
 }
 
 exported-read-later : Proved (f.exported .read-later) exit-later
 exported-read-later = record {
   met = told (f.exported .read-later .function) (λ w κs a r e. exported-read-later-clauses.ensures κs a tt r e w) _ (λ w κs a r e. three-facts (w .𝓤) _ _ _) (λ w. exported-read-later-code.met (w .𝓤) (w .H) (w .𝓜) (w .𝓖) (w .𝓡));
-  told = λ κs a r e q i. record { answer = takenAnswer (q .0 i); controls = q .1 .0 i; properties = q .1 .1 i };
+  told = λ κs a r e (answer, (controls, properties)) i. record { answer = takenAnswer (answer i); controls = controls i; properties = properties i };
 }
 
 crates-one-2000 : OneResult (f.crates .read-2000 .function)
-crates-one-2000 κs a r r′ x y p q = (ap (λ e. e .answer) (p ∙ sym q), λ i. (tt, (tt, ((p ∙ sym q) i .controls, ((p ∙ sym q) i .properties, tt)))))
+crates-one-2000 = one-by (f.crates .read-2000) exit-2000 crates-read-2000 (λ κs a r r′ x y s. (ap (λ e. e .answer) s, ap exit-left s))
 
 crates-one-later : OneResult (f.crates .read-later .function)
-crates-one-later κs a r r′ x y p q = (ap (λ e. e .answer) (p ∙ sym q), λ i. (tt, (tt, ((p ∙ sym q) i .controls, ((p ∙ sym q) i .properties, tt)))))
+crates-one-later = one-by (f.crates .read-later) exit-later crates-read-later (λ κs a r r′ x y s. (ap (λ e. e .answer) s, ap exit-left s))
 
 exported-one-2000 : OneResult (f.exported .read-2000 .function)
-exported-one-2000 κs a r r′ x y p q = (p .0 ∙ sym (q .0), λ i. (tt, (tt, ((p .1 .0 ∙ sym (q .1 .0)) i, ((p .1 .1 ∙ sym (q .1 .1)) i, tt)))))
+exported-one-2000 = one-by (f.exported .read-2000) exit-2000 exported-read-2000 (λ κs a r r′ x y s. (ap (λ e. handedAnswer (e .answer)) s, ap exit-left s))
 
 exported-one-later : OneResult (f.exported .read-later .function)
-exported-one-later κs a r r′ x y p q = (p .0 ∙ sym (q .0), λ i. (tt, (tt, ((p .1 .0 ∙ sym (q .1 .0)) i, ((p .1 .1 ∙ sym (q .1 .1)) i, tt)))))
-
-abbrev left-2000 : Blob → Unit {0} × (Unit {0} × (List ℕ × (List ℕ × Unit {0})))
-left-2000 a = (tt, (tt, (exit-2000 a .controls, (exit-2000 a .properties, tt))))
+exported-one-later = one-by (f.exported .read-later) exit-later exported-read-later (λ κs a r r′ x y s. (ap (λ e. handedAnswer (e .answer)) s, ap exit-left s))
 
 abbrev later-args : Later → ℕ × (RefT (List ℕ) × (RefT (List ℕ) × (RefT (List ℕ) × Unit {0})))
 later-args a = (a .layout, (somewhere (a .stream), (somewhere (a .controls), (somewhere (a .properties), tt))))
 
-abbrev left-later : Later → Unit {0} × (Unit {0} × (List ℕ × (List ℕ × Unit {0})))
-left-later a = (tt, (tt, (exit-later a .controls, (exit-later a .properties, tt))))
-
 crates-allows-2000 : (a : Blob) → (c : Call (f.crates .read-2000)) × (handed c ≡ a)
-crates-allows-2000 a = (record { κs = lifetimes; args = args-of a; result = exit-2000 a .answer; left = left-2000 a; allowed = refl }, refl)
+crates-allows-2000 a = (record { κs = lifetimes; args = args-of a; result = exit-2000 a .answer; left = exit-left (exit-2000 a); allowed = refl }, refl)
 
 exported-allows-2000 : (a : Blob) → (c : Call (f.exported .read-2000)) × (handed c ≡ a)
-exported-allows-2000 a = (record { κs = lifetimes; args = args-of a; result = handedAnswer (exit-2000 a .answer); left = left-2000 a; allowed = (refl, (refl, refl)) }, refl)
+exported-allows-2000 a = (record { κs = lifetimes; args = args-of a; result = handedAnswer (exit-2000 a .answer); left = exit-left (exit-2000 a); allowed = (refl, (refl, refl)) }, refl)
 
 crates-allows-later : (a : Later) → (c : Call (f.crates .read-later)) × (handed c ≡ a)
-crates-allows-later a = (record { κs = ([], ([], ([], tt))); args = later-args a; result = exit-later a .answer; left = left-later a; allowed = refl }, refl)
+crates-allows-later a = (record { κs = ([], ([], ([], tt))); args = later-args a; result = exit-later a .answer; left = exit-left (exit-later a); allowed = refl }, refl)
 
 exported-allows-later : (a : Later) → (c : Call (f.exported .read-later)) × (handed c ≡ a)
-exported-allows-later a = (record { κs = ([], ([], ([], tt))); args = later-args a; result = handedAnswer (exit-later a .answer); left = left-later a; allowed = (refl, (refl, refl)) }, refl)
+exported-allows-later a = (record { κs = ([], ([], ([], tt))); args = later-args a; result = handedAnswer (exit-later a .answer); left = exit-left (exit-later a); allowed = (refl, (refl, refl)) }, refl)
 
 -- ---- the functions of two clauses
 abbrev info-of : f.TypeInfo → TypeInfoExit
@@ -631,20 +630,23 @@ sheet-args a = (somewhere (a .text), (somewhere (a .fields), (somewhere (a .out)
 crates-read-csv : Proved (f.crates .read-csv) fields-of
 crates-read-csv = record {
   met = told (f.crates .read-csv .function) (λ w κs a r e. read-csv-clauses.ensures κs a tt r e w) _ (λ w κs a r e. three-facts (w .𝓤) _ _ _) (λ w. read-csv-code.met (w .𝓤) (w .H) (w .𝓜) (w .𝓖) (w .𝓡));
-  told = λ κs a r e q i. record { answer = q .0 i; rows = q .1 .0 i; out = q .1 .1 i };
+  told = λ κs a r e (answer, (fields, out)) i. record { answer = answer i; rows = fields i; out = out i };
 }
 
 exported-read-csv : Proved (f.exported .read-csv) fields-of
 exported-read-csv = record {
   met = told (f.exported .read-csv .function) (λ w κs a r e. exported-read-csv-clauses.ensures κs a tt r e w) _ (λ w κs a r e. three-facts (w .𝓤) _ _ _) (λ w. exported-read-csv-code.met (w .𝓤) (w .H) (w .𝓜) (w .𝓖) (w .𝓡));
-  told = λ κs a r e q i. record { answer = takenAnswer (q .0 i); rows = q .1 .0 i; out = q .1 .1 i };
+  told = λ κs a r e (answer, (fields, out)) i. record { answer = takenAnswer (answer i); rows = fields i; out = out i };
 }
 
+abbrev fields-left : FieldsExit → Unit {0} × (List ℕ × (List ℕ × Unit {0}))
+fields-left e = (tt, (e .rows, (e .out, tt)))
+
 crates-csv-allows : (a : f.Sheet) → (c : Call (f.crates .read-csv)) × (handed c ≡ a)
-crates-csv-allows a = (record { κs = ([], ([], ([], tt))); args = sheet-args a; result = fields-of a .answer; left = (tt, (fields-of a .rows, (fields-of a .out, tt))); allowed = (refl, (refl, refl)) }, refl)
+crates-csv-allows a = (record { κs = ([], ([], ([], tt))); args = sheet-args a; result = fields-of a .answer; left = fields-left (fields-of a); allowed = (refl, (refl, refl)) }, refl)
 
 exported-csv-allows : (a : f.Sheet) → (c : Call (f.exported .read-csv)) × (handed c ≡ a)
-exported-csv-allows a = (record { κs = ([], ([], ([], tt))); args = sheet-args a; result = handedAnswer (fields-of a .answer); left = (tt, (fields-of a .rows, (fields-of a .out, tt))); allowed = (refl, (refl, refl)) }, refl)
+exported-csv-allows a = (record { κs = ([], ([], ([], tt))); args = sheet-args a; result = handedAnswer (fields-of a .answer); left = fields-left (fields-of a); allowed = (refl, (refl, refl)) }, refl)
 
 -- ---- write_csv
 abbrev csv-of : f.BlobText → CsvExit
@@ -694,23 +696,26 @@ crates-write-csv = record {
 exported-write-csv : Proved (f.exported .write-csv) csv-of
 exported-write-csv = record {
   met = told (f.exported .write-csv .function) (λ w κs a r e. exported-write-csv-clauses.ensures κs a tt r e w) _ (λ w κs a r e. four-facts (w .𝓤) _ _ _ _) (λ w. exported-write-csv-code.met (w .𝓤) (w .H) (w .𝓜) (w .𝓖) (w .𝓡));
-  told = λ κs a r e q i. record { answer = takenAnswer (q .0 i); controls = q .1 .0 i; properties = q .1 .1 .0 i; out = q .1 .1 .1 i };
+  told = λ κs a r e (answer, (controls, (properties, out))) i. record { answer = takenAnswer (answer i); controls = controls i; properties = properties i; out = out i };
 }
 
+abbrev csv-left : CsvExit → Unit {0} × (Unit {0} × (List ℕ × (List ℕ × (List ℕ × Unit {0}))))
+csv-left e = (tt, (tt, (e .controls, (e .properties, (e .out, tt)))))
+
 crates-one-csv : OneResult (f.crates .write-csv .function)
-crates-one-csv κs a r r′ x y p q = (ap (λ e. e .answer) (p ∙ sym q), λ i. (tt, (tt, ((p ∙ sym q) i .controls, ((p ∙ sym q) i .properties, ((p ∙ sym q) i .out, tt))))))
+crates-one-csv = one-by (f.crates .write-csv) csv-of crates-write-csv (λ κs a r r′ x y s. (ap (λ e. e .answer) s, ap csv-left s))
 
 exported-one-csv : OneResult (f.exported .write-csv .function)
-exported-one-csv κs a r r′ x y p q = (p .0 ∙ sym (q .0), λ i. (tt, (tt, ((p .1 .0 ∙ sym (q .1 .0)) i, ((p .1 .1 .0 ∙ sym (q .1 .1 .0)) i, ((p .1 .1 .1 ∙ sym (q .1 .1 .1)) i, tt))))))
+exported-one-csv = one-by (f.exported .write-csv) csv-of exported-write-csv (λ κs a r r′ x y s. (ap (λ e. handedAnswer (e .answer)) s, ap csv-left s))
 
 abbrev text-args : f.BlobText → RefT (List ℕ) × (RefT (List ℕ) × (RefT (List ℕ) × (RefT (List ℕ) × (RefT (List ℕ) × Unit {0}))))
 text-args a = (somewhere (a .table), (somewhere (a .stream), (somewhere (a .controls), (somewhere (a .properties), (somewhere (a .out), tt)))))
 
 crates-text-allows : (a : f.BlobText) → (c : Call (f.crates .write-csv)) × (handed c ≡ a)
-crates-text-allows a = (record { κs = ([], ([], ([], ([], ([], tt))))); args = text-args a; result = csv-of a .answer; left = (tt, (tt, (csv-of a .controls, (csv-of a .properties, (csv-of a .out, tt))))); allowed = refl }, refl)
+crates-text-allows a = (record { κs = ([], ([], ([], ([], ([], tt))))); args = text-args a; result = csv-of a .answer; left = csv-left (csv-of a); allowed = refl }, refl)
 
 exported-text-allows : (a : f.BlobText) → (c : Call (f.exported .write-csv)) × (handed c ≡ a)
-exported-text-allows a = (record { κs = ([], ([], ([], ([], ([], tt))))); args = text-args a; result = handedAnswer (csv-of a .answer); left = (tt, (tt, (csv-of a .controls, (csv-of a .properties, (csv-of a .out, tt))))); allowed = (refl, (refl, (refl, refl))) }, refl)
+exported-text-allows a = (record { κs = ([], ([], ([], ([], ([], tt))))); args = text-args a; result = handedAnswer (csv-of a .answer); left = csv-left (csv-of a); allowed = (refl, (refl, (refl, refl))) }, refl)
 
 -- ---- check_panel
 abbrev panel-of : Blob → Exit
@@ -761,23 +766,20 @@ crates-check-panel = record {
 exported-check-panel : Proved (f.exported .check-panel) panel-of
 exported-check-panel = record {
   met = told (f.exported .check-panel .function) (λ w κs a r e. exported-check-panel-clauses.ensures κs a tt r e w) _ (λ w κs a r e. three-facts (w .𝓤) _ _ _) (λ w. exported-check-panel-code.met (w .𝓤) (w .H) (w .𝓜) (w .𝓖) (w .𝓡));
-  told = λ κs a r e q i. record { answer = takenAnswer (q .0 i); controls = q .1 .0 i; properties = q .1 .1 i };
+  told = λ κs a r e (answer, (controls, properties)) i. record { answer = takenAnswer (answer i); controls = controls i; properties = properties i };
 }
 
-abbrev panel-left : Blob → Unit {0} × (Unit {0} × (List ℕ × (List ℕ × Unit {0})))
-panel-left a = (tt, (tt, (panel-of a .controls, (panel-of a .properties, tt))))
-
 crates-panel-allows : (a : Blob) → (c : Call (f.crates .check-panel)) × (handed c ≡ a)
-crates-panel-allows a = (record { κs = lifetimes; args = args-of a; result = panel-of a .answer; left = panel-left a; allowed = refl }, refl)
+crates-panel-allows a = (record { κs = lifetimes; args = args-of a; result = panel-of a .answer; left = exit-left (panel-of a); allowed = refl }, refl)
 
 exported-panel-allows : (a : Blob) → (c : Call (f.exported .check-panel)) × (handed c ≡ a)
-exported-panel-allows a = (record { κs = lifetimes; args = args-of a; result = handedAnswer (panel-of a .answer); left = panel-left a; allowed = (refl, (refl, refl)) }, refl)
+exported-panel-allows a = (record { κs = lifetimes; args = args-of a; result = handedAnswer (panel-of a .answer); left = exit-left (panel-of a); allowed = (refl, (refl, refl)) }, refl)
 
 crates-panel-one : OneResult (f.crates .check-panel .function)
-crates-panel-one κs a r r′ x y p q = (ap (λ e. e .answer) (p ∙ sym q), λ i. (tt, (tt, ((p ∙ sym q) i .controls, ((p ∙ sym q) i .properties, tt)))))
+crates-panel-one = one-by (f.crates .check-panel) panel-of crates-check-panel (λ κs a r r′ x y s. (ap (λ e. e .answer) s, ap exit-left s))
 
 exported-panel-one : OneResult (f.exported .check-panel .function)
-exported-panel-one κs a r r′ x y p q = (p .0 ∙ sym (q .0), λ i. (tt, (tt, ((p .1 .0 ∙ sym (q .1 .0)) i, ((p .1 .1 ∙ sym (q .1 .1)) i, tt)))))
+exported-panel-one = one-by (f.exported .check-panel) panel-of exported-check-panel (λ κs a r r′ x y s. (ap (λ e. handedAnswer (e .answer)) s, ap exit-left s))
 
 -- ---- differences
 list-differences : (g : Fn f.Differ DifferencesExit) → Proved g differences-of → OneResult (g .function) → ((a : f.Differ) → (c : Call g) × (handed c ≡ a)) → ListDifferences g
@@ -807,20 +809,20 @@ exported-differences = record {
 abbrev differ-args : f.Differ → RefT (List ℕ) × (RefT (List ℕ) × (RefT (List ℕ) × (RefT (List ℕ) × Unit {0})))
 differ-args a = (somewhere (a .older), (somewhere (a .newer), (somewhere (a .stream), (somewhere (a .rows), tt))))
 
-abbrev differ-left : f.Differ → Unit {0} × (Unit {0} × (Unit {0} × (List ℕ × Unit {0})))
-differ-left a = (tt, (tt, (tt, (differences-of a .rows, tt))))
+abbrev differ-left : DifferencesExit → Unit {0} × (Unit {0} × (Unit {0} × (List ℕ × Unit {0})))
+differ-left e = (tt, (tt, (tt, (e .rows, tt))))
 
 crates-differ-allows : (a : f.Differ) → (c : Call (f.crates .differences)) × (handed c ≡ a)
-crates-differ-allows a = (record { κs = lifetimes; args = differ-args a; result = differences-of a .answer; left = differ-left a; allowed = refl }, refl)
+crates-differ-allows a = (record { κs = lifetimes; args = differ-args a; result = differences-of a .answer; left = differ-left (differences-of a); allowed = refl }, refl)
 
 exported-differ-allows : (a : f.Differ) → (c : Call (f.exported .differences)) × (handed c ≡ a)
-exported-differ-allows a = (record { κs = lifetimes; args = differ-args a; result = handedAnswer (differences-of a .answer); left = differ-left a; allowed = (refl, refl) }, refl)
+exported-differ-allows a = (record { κs = lifetimes; args = differ-args a; result = handedAnswer (differences-of a .answer); left = differ-left (differences-of a); allowed = (refl, refl) }, refl)
 
 crates-differ-one : OneResult (f.crates .differences .function)
-crates-differ-one κs a r r′ x y p q = (ap (λ e. e .answer) (p ∙ sym q), λ i. (tt, (tt, (tt, ((p ∙ sym q) i .rows, tt)))))
+crates-differ-one = one-by (f.crates .differences) differences-of crates-differences (λ κs a r r′ x y s. (ap (λ e. e .answer) s, ap differ-left s))
 
 exported-differ-one : OneResult (f.exported .differences .function)
-exported-differ-one κs a r r′ x y p q = (p .0 ∙ sym (q .0), λ i. (tt, (tt, (tt, ((p .1 ∙ sym (q .1)) i, tt)))))
+exported-differ-one = one-by (f.exported .differences) differences-of exported-differences (λ κs a r r′ x y s. (ap (λ e. handedAnswer (e .answer)) s, ap differ-left s))
 
 -- ---- count_blob
 count-blobs : (g : Fn f.Count Totalled) → Proved g count-of → OneResult (g .function) → ((a : f.Count) → (c : Call g) × (handed c ≡ a)) → CountBlob g
@@ -851,11 +853,14 @@ exported-count-blob = record {
   told = λ κs a r e q. q;
 }
 
+abbrev count-left : Totalled → Totals × (Unit {0} × (Unit {0} × (Unit {0} × (Unit {0} × Unit {0}))))
+count-left e = (e .totals, (tt, (tt, (tt, (tt, tt)))))
+
 crates-count-allows : (a : f.Count) → (c : Call (f.crates .count-blob)) × (handed c ≡ a)
-crates-count-allows a = (record { κs = ([], ([], ([], tt))); args = count-args a; result = count-of a .answer; left = (count-of a .totals, (tt, (tt, (tt, (tt, tt))))); allowed = refl }, refl)
+crates-count-allows a = (record { κs = ([], ([], ([], tt))); args = count-args a; result = count-of a .answer; left = count-left (count-of a); allowed = refl }, refl)
 
 exported-count-allows : (a : f.Count) → (c : Call (f.exported .count-blob)) × (handed c ≡ a)
-exported-count-allows a = (record { κs = ([], ([], ([], tt))); args = count-args a; result = handedAnswer (count-of a .answer); left = (count-of a .totals, (tt, (tt, (tt, (tt, tt))))); allowed = refl }, refl)
+exported-count-allows a = (record { κs = ([], ([], ([], tt))); args = count-args a; result = handedAnswer (count-of a .answer); left = count-left (count-of a); allowed = refl }, refl)
 
 -- ---- as the crates have them
 of-crates : calls.Promised f.crates
@@ -872,7 +877,7 @@ of-crates = record {
       (λ a. wish2 .as-read-later (a .layout) (a .stream) (a .controls) (a .properties));
   never-refused-2000 = never-refused (f.crates .read-2000) exit-2000 (λ a. a .stream) (f.crates .read-type-info) (f.crates .pair) crates-read-2000 crates-read-type-info crates-pair
       (λ a. wish2 .as-read-2000 (a .table) (a .stream) (a .controls) (a .properties));
-  read-csv = read-csvs (f.crates .read-csv) crates-read-csv (λ κs a r r′ x y p q. (p .0 ∙ sym (q .0), λ i. (tt, ((p .1 .0 ∙ sym (q .1 .0)) i, ((p .1 .1 ∙ sym (q .1 .1)) i, tt))))) crates-csv-allows;
+  read-csv = read-csvs (f.crates .read-csv) crates-read-csv (one-by (f.crates .read-csv) fields-of crates-read-csv (λ κs a r r′ x y s. (ap (λ e. e .answer) s, ap fields-left s))) crates-csv-allows;
   write-csv = write-csvs (f.crates .write-csv) crates-write-csv crates-one-csv crates-text-allows;
   written-rows = written-rows (f.crates .read-blob) (f.crates .write-csv) crates-read-blob crates-write-csv;
   written-read-back = written-read-back (f.crates .write-csv) (f.crates .read-csv) crates-write-csv crates-read-csv;
@@ -880,7 +885,7 @@ of-crates = record {
   panel-reads = panel-reads (f.crates .read-blob) (f.crates .check-panel) crates-read-blob crates-check-panel;
   differences = list-differences (f.crates .differences) crates-differences crates-differ-one crates-differ-allows;
   differences-read = differences-read (f.crates .read-blob) (call-told (f.crates .read-blob) exit-of crates-read-blob) crates-allows (f.crates .differences) (call-told (f.crates .differences) differences-of crates-differences);
-  count-blob = count-blobs (f.crates .count-blob) crates-count-blob (λ κs a r r′ x y p q. (ap (λ e. e .answer) (p ∙ sym q), λ i. ((p ∙ sym q) i .totals, (tt, (tt, (tt, (tt, tt))))))) crates-count-allows;
+  count-blob = count-blobs (f.crates .count-blob) crates-count-blob (one-by (f.crates .count-blob) count-of crates-count-blob (λ κs a r r′ x y s. (ap (λ e. e .answer) s, ap count-left s))) crates-count-allows;
   counts-agree = counting.agree (f.crates .count-blob) (call-told (f.crates .count-blob) count-of crates-count-blob) (f.crates .read-blob) (call-told (f.crates .read-blob) exit-of crates-read-blob);
   guid-text = guid-texts (f.crates .guid-text) (record {
     met = told (f.crates .guid-text .function) (λ w κs a r e. guid-text-clauses.ensures κs a tt r e w) _ (λ w κs a r e. both-facts (w .𝓤) _ _) (λ w. guid-text-code.met (w .𝓤) (w .H) (w .𝓜) (w .𝓖) (w .𝓡));
@@ -946,7 +951,7 @@ of-exported = record {
       (λ a. wish2 .as-read-later (a .layout) (a .stream) (a .controls) (a .properties));
   never-refused-2000 = never-refused (f.exported .read-2000) exit-2000 (λ a. a .stream) (f.exported .read-type-info) (f.exported .pair) exported-read-2000 exported-read-type-info exported-pair
       (λ a. wish2 .as-read-2000 (a .table) (a .stream) (a .controls) (a .properties));
-  read-csv = read-csvs (f.exported .read-csv) exported-read-csv (λ κs a r r′ x y p q. (p .0 ∙ sym (q .0), λ i. (tt, ((p .1 .0 ∙ sym (q .1 .0)) i, ((p .1 .1 ∙ sym (q .1 .1)) i, tt))))) exported-csv-allows;
+  read-csv = read-csvs (f.exported .read-csv) exported-read-csv (one-by (f.exported .read-csv) fields-of exported-read-csv (λ κs a r r′ x y s. (ap (λ e. handedAnswer (e .answer)) s, ap fields-left s))) exported-csv-allows;
   write-csv = write-csvs (f.exported .write-csv) exported-write-csv exported-one-csv exported-text-allows;
   written-rows = written-rows (f.exported .read-blob) (f.exported .write-csv) exported-read-blob exported-write-csv;
   written-read-back = written-read-back (f.exported .write-csv) (f.exported .read-csv) exported-write-csv exported-read-csv;
@@ -954,7 +959,7 @@ of-exported = record {
   panel-reads = panel-reads (f.exported .read-blob) (f.exported .check-panel) exported-read-blob exported-check-panel;
   differences = list-differences (f.exported .differences) exported-differences exported-differ-one exported-differ-allows;
   differences-read = differences-read (f.exported .read-blob) (call-told (f.exported .read-blob) exit-of exported-read-blob) exported-allows (f.exported .differences) (call-told (f.exported .differences) differences-of exported-differences);
-  count-blob = count-blobs (f.exported .count-blob) exported-count-blob (λ κs a r r′ x y p q. (ap (λ e. handedAnswer (e .answer)) (p ∙ sym q), λ i. ((p ∙ sym q) i .totals, (tt, (tt, (tt, (tt, tt))))))) exported-count-allows;
+  count-blob = count-blobs (f.exported .count-blob) exported-count-blob (one-by (f.exported .count-blob) count-of exported-count-blob (λ κs a r r′ x y s. (ap (λ e. handedAnswer (e .answer)) s, ap count-left s))) exported-count-allows;
   counts-agree = counting.agree (f.exported .count-blob) (call-told (f.exported .count-blob) count-of exported-count-blob) (f.exported .read-blob) (call-told (f.exported .read-blob) exit-of exported-read-blob);
   guid-text = guid-texts (f.exported .guid-text) (record {
     met = told (f.exported .guid-text .function) (λ w κs a r e. exported-guid-text-clauses.ensures κs a tt r e w) _ (λ w κs a r e. both-facts (w .𝓤) _ _) (λ w. exported-guid-text-code.met (w .𝓤) (w .H) (w .𝓜) (w .𝓖) (w .𝓡));

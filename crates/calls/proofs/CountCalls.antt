@@ -2,7 +2,6 @@
 use mathlib.Core.Path.{_≡_, refl, sym, ap, ap₂, subst, _∙_}
 use mathlib.Core.List.{List, [], _∷_, List·Permᴰ}
 use Prim.Native.Nat.{ℕ}
-use Rattle.rules.specs.Rows.{controlWidth, propertyWidth, room}
 use Rattle.rules.specs.Blob.{Exit, exit}
 use Rattle.rules.specs.Totals.{zeros, Total, at, totalsExit}
 use Rattle.rules.specs.declared.Answer.{Answer}

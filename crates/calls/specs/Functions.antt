@@ -1,6 +1,6 @@
 -- The public functions: each one's code, its contract's clauses as its caller learns them, and names for what it is handed and what is seen of a call.
--- Here alone an argument is told by its place: the first is `a .0`, the second `a .1 .0`, the third `a .1 .1 .0` and so on. At exit `e` has the same
--- places. `now` is what a lent slice holds; `κs` are the lifetimes, `r` is what is returned. `ended` is a function's signature, `routine` its code, `Learnt` its
+-- Here alone an argument is told by its place: `(first, (second, (third, _)))`. At exit `e` has the same places.
+-- `now` is what a lent slice holds; `κs` are the lifetimes, `r` is what is returned. `ended` is a function's signature, `routine` its code, `Learnt` its
 -- contract. (A name that stood for another argument would be refused: the equations of Calls wouldn't hold.)
 use Prim.Native.Nat.{ℕ}
 use mathlib.Core.Bool.{Bool}
@@ -102,7 +102,7 @@ pub record Blob : Type 0 where
   pub properties : List ℕ
 
 abbrev blob : Slice × (Slice × (Slice × (Slice × End))) → Blob
-blob a = record { table = now (a .0); stream = now (a .1 .0); controls = now (a .1 .1 .0); properties = now (a .1 .1 .1 .0) }
+blob = λ (table, (stream, (controls, (properties, _)))). record { table = now table; stream = now stream; controls = now controls; properties = now properties }
 
 -- (layout, stream, controls, properties)
 pub record Later : Type 0 where
@@ -112,7 +112,7 @@ pub record Later : Type 0 where
   pub properties : List ℕ
 
 abbrev later : ℕ × (Slice × (Slice × (Slice × End))) → Later
-later a = record { layout = a .0; stream = now (a .1 .0); controls = now (a .1 .1 .0); properties = now (a .1 .1 .1 .0) }
+later = λ (layout, (stream, (controls, (properties, _)))). record { layout = layout; stream = now stream; controls = now controls; properties = now properties }
 
 -- (stream, rows)
 pub record TypeInfo : Type 0 where
@@ -120,7 +120,7 @@ pub record TypeInfo : Type 0 where
   pub rows : List ℕ
 
 abbrev type-info : Slice × (Slice × End) → TypeInfo
-type-info a = record { stream = now (a .0); rows = now (a .1 .0) }
+type-info = λ (stream, (rows, _)). record { stream = now stream; rows = now rows }
 
 -- (stream, controls, control_count, info_stream, infos, info_count)
 pub record Pair : Type 0 where
@@ -132,13 +132,13 @@ pub record Pair : Type 0 where
   pub info-count : ℕ
 
 abbrev rows-to-pair : Slice × (Slice × (ℕ × (Slice × (Slice × (ℕ × End))))) → Pair
-rows-to-pair a = record {
-  stream = now (a .0);
-  controls = now (a .1 .0);
-  control-count = a .1 .1 .0;
-  info-stream = now (a .1 .1 .1 .0);
-  infos = now (a .1 .1 .1 .1 .0);
-  info-count = a .1 .1 .1 .1 .1 .0;
+rows-to-pair = λ (stream, (controls, (control-count, (info-stream, (infos, (info-count, _)))))). record {
+  stream = now stream;
+  controls = now controls;
+  control-count = control-count;
+  info-stream = now info-stream;
+  infos = now infos;
+  info-count = info-count;
 }
 
 -- (text, fields, out)
@@ -148,7 +148,7 @@ pub record Sheet : Type 0 where
   pub out : List ℕ
 
 abbrev sheet : Slice × (Slice × (Slice × End)) → Sheet
-sheet a = record { text = now (a .0); fields = now (a .1 .0); out = now (a .1 .1 .0) }
+sheet = λ (text, (fields, (out, _))). record { text = now text; fields = now fields; out = now out }
 
 -- (table, stream, controls, properties, out)
 pub record BlobText : Type 0 where
@@ -159,12 +159,12 @@ pub record BlobText : Type 0 where
   pub out : List ℕ
 
 abbrev blob-text : Slice × (Slice × (Slice × (Slice × (Slice × End)))) → BlobText
-blob-text a = record {
-  table = now (a .0);
-  stream = now (a .1 .0);
-  controls = now (a .1 .1 .0);
-  properties = now (a .1 .1 .1 .0);
-  out = now (a .1 .1 .1 .1 .0);
+blob-text = λ (table, (stream, (controls, (properties, (out, _))))). record {
+  table = now table;
+  stream = now stream;
+  controls = now controls;
+  properties = now properties;
+  out = now out;
 }
 
 -- (older, newer, stream, rows)
@@ -175,7 +175,7 @@ pub record Differ : Type 0 where
   pub rows : List ℕ
 
 abbrev differ : Slice × (Slice × (Slice × (Slice × End))) → Differ
-differ a = record { older = now (a .0); newer = now (a .1 .0); stream = now (a .1 .1 .0); rows = now (a .1 .1 .1 .0) }
+differ = λ (older, (newer, (stream, (rows, _)))). record { older = now older; newer = now newer; stream = now stream; rows = now rows }
 
 -- (totals, table, stream, control_room, property_room)
 pub record Count : Type 0 where
@@ -186,7 +186,7 @@ pub record Count : Type 0 where
   pub property-room : ℕ
 
 abbrev counting : RefT Totals × (Slice × (Slice × (ℕ × (ℕ × End)))) → Count
-counting a = record { totals = now (a .0); table = now (a .1 .0); stream = now (a .1 .1 .0); control-room = a .1 .1 .1 .0; property-room = a .1 .1 .1 .1 .0 }
+counting = λ (totals, (table, (stream, (control-room, (property-room, _))))). record { totals = now totals; table = now table; stream = now stream; control-room = control-room; property-room = property-room }
 
 -- the contract of a function that is lent a struct isn't handed out by name, so it is written down once more; the proof that the code meets it is of this one
 abbrev pub counted-by : Count → Totalled
@@ -198,7 +198,7 @@ pub record Guid : Type 0 where
   pub out : List ℕ
 
 abbrev guid : Slice × (Slice × End) → Guid
-guid a = record { guid = now (a .0); out = now (a .1 .0) }
+guid = λ (guid, (out, _)). record { guid = now guid; out = now out }
 
 -- (n, out)
 pub record Label : Type 0 where
@@ -206,7 +206,7 @@ pub record Label : Type 0 where
   pub out : List ℕ
 
 abbrev label : ℕ × (Slice × End) → Label
-label a = record { n = a .0; out = now (a .1 .0) }
+label = λ (n, (out, _)). record { n = n; out = now out }
 
 -- (one, other, out)
 pub record Join : Type 0 where
@@ -215,7 +215,7 @@ pub record Join : Type 0 where
   pub out : List ℕ
 
 abbrev tables : Slice × (Slice × (Slice × End)) → Join
-tables a = record { one = now (a .0); other = now (a .1 .0); out = now (a .1 .1 .0) }
+tables = λ (one, (other, (out, _))). record { one = now one; other = now other; out = now out }
 
 -- (stream, out)
 pub record Rewrite : Type 0 where
@@ -223,7 +223,7 @@ pub record Rewrite : Type 0 where
   pub out : List ℕ
 
 abbrev rewriting : Slice × (Slice × End) → Rewrite
-rewriting a = record { stream = now (a .0); out = now (a .1 .0) }
+rewriting = λ (stream, (out, _)). record { stream = now stream; out = now out }
 
 -- (stream, label, mark, start, length)
 pub record ControlName : Type 0 where
@@ -237,14 +237,14 @@ pub record ControlName : Type 0 where
   pub label-place : Place
 
 abbrev control-name : Slice × (Slice × (ℕ × (ℕ × (ℕ × End)))) → ControlName
-control-name a = record {
-  stream = now (a .0);
-  label = now (a .1 .0);
-  mark = a .1 .1 .0;
-  start = a .1 .1 .1 .0;
-  size = a .1 .1 .1 .1 .0;
-  stream-place = a .0 .ptr;
-  label-place = a .1 .0 .ptr;
+control-name = λ (stream, (label, (mark, (start, (size, _))))). record {
+  stream = now stream;
+  label = now label;
+  mark = mark;
+  start = start;
+  size = size;
+  stream-place = stream .ptr;
+  label-place = label .ptr;
 }
 
 -- (id, out)
@@ -253,7 +253,7 @@ pub record NameOf : Type 0 where
   pub out : List ℕ
 
 abbrev name-of : ℕ × (Slice × End) → NameOf
-name-of a = record { id = a .0; out = now (a .1 .0) }
+name-of = λ (id, (out, _)). record { id = id; out = now out }
 
 -- (mark, id, out)
 pub record ValueName : Type 0 where
@@ -262,7 +262,7 @@ pub record ValueName : Type 0 where
   pub out : List ℕ
 
 abbrev value-name : ℕ × (ℕ × (Slice × End)) → ValueName
-value-name a = record { mark = a .0; id = a .1 .0; out = now (a .1 .1 .0) }
+value-name = λ (mark, (id, (out, _))). record { mark = mark; id = id; out = now out }
 
 -- (type, bytes)
 pub record Entry : Type 0 where
@@ -270,7 +270,7 @@ pub record Entry : Type 0 where
   pub bytes : List ℕ
 
 abbrev entry : ℕ × (Slice × End) → Entry
-entry a = record { type = a .0; bytes = now (a .1 .0) }
+entry = λ (kind, (bytes, _)). record { type = kind; bytes = now bytes }
 
 -- (id, bytes)
 pub record Stored : Type 0 where
@@ -278,7 +278,7 @@ pub record Stored : Type 0 where
   pub bytes : List ℕ
 
 abbrev stored : ℕ × (Slice × End) → Stored
-stored a = record { id = a .0; bytes = now (a .1 .0) }
+stored = λ (id, (bytes, _)). record { id = id; bytes = now bytes }
 
 -- (kind, id, bytes)
 pub record Tied : Type 0 where
@@ -287,7 +287,7 @@ pub record Tied : Type 0 where
   pub bytes : List ℕ
 
 abbrev tied : ℕ × (ℕ × (Slice × End)) → Tied
-tied a = record { kind = a .0; id = a .1 .0; bytes = now (a .1 .1 .0) }
+tied = λ (kind, (id, (bytes, _))). record { kind = kind; id = id; bytes = now bytes }
 
 -- (bytes), (table)
 abbrev bytes : Slice × End → List ℕ
