@@ -159,7 +159,7 @@ read-short s cs ps h a e =
     rw (lt-ltb (length s) 14 h, z, y, e)
 
 module _ {s : List ℕ} (h : 14 ≤ length s) {n : Counts} (c : Counted s n) where
-  has : judge.Counts (readLater s) (n .controls) (n .own + n .props) (n .own)
+  pub has : judge.Counts (readLater s) (n .controls) (n .own + n .props) (n .own)
   has = rw (later-is s h, c .controls, c .props, c .own) (made-counts (propertyOf s) (control s) (same-many s) (objectGroup s .props) (nodesBy s (treeOf s)))
 
   module _ (cs ps : List ℕ) (a : Answer) (j : judge.Judged (n .controls) (n .own + n .props) (n .own) (room controlWidth cs) (room propertyWidth ps) a) where

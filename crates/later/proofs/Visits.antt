@@ -1,19 +1,28 @@
 -- For any walk over a later stream that keeps a running value: a group gone through a property at a time, the nodes that a cursor visits, and what the scan finds.
-use Prim.Native.Nat.{ℕ, _+_, _≤_, _<_}
+-- Last, a group that is written.
+use Prim.Native.Nat.{ℕ, _+_, _-_, _*_, _≤_, _<_}
 use native.Mathlib.Omega.{arith}
 use mathlib.Core.Path.{_≡_, refl, sym, ap, ap₂, _∙_}
 use mathlib.Core.Bool.{Bool, true, false}
-use mathlib.Core.List.{List, [], _∷_, _++_}
+use mathlib.Core.List.{List, [], _∷_, _++_, map}
 use mathlib.Core.Option.{Option, some}
 use lib.Dec.{ltb}
 use lib.ListN.{length}
 use borrow.Author.Tests.{lt-ltb, le-ltb, ltb-true, ltb-false}
 use Rattle.rules.specs.Bytes.{u16}
+use Rattle.rules.specs.Rows.{propertyWidth}
+use Rattle.rules.specs.Reading.{propertyRow}
+use Rattle.rules.specs.ReadLater.{propertyOf}
+use Rattle.rules.specs.declared.Property.{Property}
 use Rattle.rules.specs.Tree.{Node, noParent, levels, isReported}
 use Rattle.rules.specs.Later.{Prop, endAt, propertyAt, endsGroup, groupAt, childrenAt, nodesAt, matchAt, scanFrom}
 use Rattle.rules.proofs.ListLaws.{none-some}
 use Rattle.rules.proofs.LaterLaws.{group-none, group-last, group-more}
 use Rattle.rows.specs.Acts.{topNodes, Held}
+use Rattle.rows.specs.Put.{put}
+use Rattle.rows.specs.Writing.{writeProperties}
+use Rattle.rows.proofs.PutLaws.{put-length}
+use Rattle.rows.proofs.WritingLaws.{properties-more, properties-none}
 use Rattle.matchlater.specs.Match.{NextMatch}
 use Rattle.matchlater.proofs.MatchLaws.{scannedNode, shown, scan-same, scan-step, scan-end}
 use Rattle.countlater.specs.Count.{extent, groupIn}
@@ -32,7 +41,7 @@ use Rattle.cursor.proofs.VisitLaws as laws
 use Rattle.cursor.proofs.VisitLaws.{Visit, EntryWork, Going}
 use Rattle.cursorlater.specs.Steps.{stepAt}
 use Rattle.cursorlater.proofs.StepLaws.{nodes-same}
-use Rattle.later.specs.Write.{trailerOr0, propsAt}
+use Rattle.later.specs.Write.{trailerOr0, propsAt, GroupReady, GroupDone}
 use Rattle.later.specs.Groups.{Grouped}
 use Rattle.later.proofs.WriteNodeLaws.{children-told}
 use Rattle.later.proofs.Walking.{Parts, parts}
@@ -229,3 +238,66 @@ module _ {A : Type 0} {all : List (Node Prop) → A → A} {Ok : List (Node Prop
         pub sweep-on : {one : Node Prop → A → A} {all′ : List (Node Prop) → A → A} {Ok′ : List (Node Prop) → A → Type 0} → Work one all all′ Ok Ok′ → {next : A} → next ≡ one (scannedNode (propsAt s b a)) now
             → Sweeping wanted all′ Ok′ s b next
         sweep-on W w = record { within = n .within; here = n .here; rest = left-next (k .rest) (scannedNode (propsAt s b a)) (some (scanFrom s b, 0)) here-first W w }
+
+-- ---- a group written: the running value is the rows, with the place of the next one
+record Filled : Type 0 where
+  rows : List ℕ
+  next : ℕ
+
+abbrev filled : List ℕ → ℕ → Filled
+filled rows next = record { rows = rows; next = next }
+
+abbrev put-one : List ℕ → Prop → Filled → Filled
+put-one s q f = filled (put propertyWidth (f .rows) (f .next) (propertyRow (propertyOf s q) ∷ [])) (f .next + 1)
+
+abbrev put-all : List ℕ → List Prop → Filled → Filled
+put-all s qs f = filled (writeProperties (map (propertyOf s) qs) (f .rows) (f .next)) (f .next + length qs)
+
+record Room (old : Filled) (qs : List Prop) (f : Filled) : Type 0 where
+  fits : (f .next + length qs) * propertyWidth ≤ length (f .rows)
+  least : old .next ≤ f .next
+  same : length (f .rows) ≡ length (old .rows)
+
+putting : (s : List ℕ) (old : Filled) → Work (put-one s) (put-all s) (put-all s) (Room old) (Room old)
+putting s old = record {
+  none-left = λ f. let n : f .next + 0 ≡ f .next = omega arith in λ i. filled (properties-none (f .rows) (f .next) i) (n i);
+  one-more = λ q qs f. let n : f .next + length (q ∷ qs) ≡ f .next + 1 + length qs = omega arith in λ i. filled (properties-more (propertyOf s q) (map (propertyOf s) qs) (f .rows) (f .next) i) (n i);
+  ok-more = λ q qs f r. let l = put-length propertyWidth (f .rows) (f .next) (propertyRow (propertyOf s q) ∷ []) in record { fits = omega (arith, r .fits, l); least = omega (arith, r .least); same = l ∙ r .same };
+}
+
+-- what the loop keeps
+pub record Writing (s : List ℕ) (limit at : ℕ) (old : List ℕ) (first : ℕ) (new : List ℕ) (p n : ℕ) : Type 0 where
+  any : Bool
+  group : Grouping (put-one s) (put-all s) (Room (filled old first)) s limit at (filled old first) p any (filled new n)
+
+pub writing-start : {s : List ℕ} {limit at : ℕ} {old : List ℕ} {first : ℕ} → GroupReady s limit at (length old) first → Writing s limit at old first old at first
+writing-start {s = s} {old = old} {first = first} g = record { any = false; group = grouping-start (putting s (filled old first)) (record { fits = g .fits; least = omega arith; same = refl }) }
+
+written : {s : List ℕ} {limit at : ℕ} {old : List ℕ} {first : ℕ} {new : List ℕ} {n : ℕ} {any : Bool} {stop trailer : ℕ} → Grouped (put-all s) s limit at (filled old first) (filled new n) any stop trailer
+    → GroupDone s limit at old first new (record { count = n - first; stop = stop; trailer = trailer })
+written d = record { rows = ap (λ f. f .rows) (d .is); count = omega (arith, ap (λ f. f .next) (d .is)); stop = d .stop-is; trailer = d .trailer-is }
+
+module _ {s : List ℕ} {limit at : ℕ} {old : List ℕ} {first : ℕ} {new : List ℕ} {p n : ℕ} (w : Writing s limit at old first new p n) where
+  pub writing-least : first ≤ n
+  writing-least = grouping-fact (w .group) (λ _ r. r .least)
+
+  pub writing-same : length new ≡ length old
+  writing-same = grouping-fact (w .group) (λ _ r. r .same)
+
+  module _ (h : limit ≤ length s) {r : Extent} (re : r ≡ extent s limit p) where
+    pub writing-none : r ≡ Extent.Outside → GroupDone s limit at old first new (record { count = n - first; stop = p; trailer = 0 })
+    writing-none rk = written (grouping-none (w .group) h re rk)
+
+    module _ {z e t : ℕ} (rk : r ≡ Extent.Inside z e t) where
+      pub writing-room : n * propertyWidth + propertyWidth ≤ length new
+      writing-room = omega (arith, props-some s limit p h (extent-inside re rk .test), w .group .rest .ok .fits)
+
+      module _ {q : Property} (eq : q ≡ propertyOf s (propertyAt s p)) {new′ : List ℕ} (en : new′ ≡ put propertyWidth new n (propertyRow q ∷ [])) {b : Bool} (be : b ≡ endsGroup t) where
+        put-it : filled new′ (n + 1) ≡ put-one s (propertyAt s p) (filled new n)
+        put-it = let a = en ∙ ap (λ q. put propertyWidth new n (propertyRow q ∷ [])) eq in λ i. filled (a i) (n + 1)
+
+        pub writing-last : b ≡ true → GroupDone s limit at old first new′ (record { count = n + 1 - first; stop = e; trailer = t })
+        writing-last bt = written (grouping-last (w .group) h re rk put-it be bt)
+
+        pub writing-more : b ≡ false → Writing s limit at old first new′ e (n + 1)
+        writing-more bf = record { any = true; group = grouping-more (w .group) h re rk put-it be bf }

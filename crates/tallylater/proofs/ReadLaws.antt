@@ -11,20 +11,19 @@ use Rattle.rules.specs.Lists.{concat}
 use Rattle.rules.specs.Answer.{answer, longest}
 use Rattle.rules.specs.Rows.{controlWidth, propertyWidth}
 use Rattle.rules.specs.Tree.{Node, levels}
-use Rattle.rules.specs.Later.{Prop, childrenAt, nodesAt, objectGroup, treeOf, nodesBy, laterOf}
+use Rattle.rules.specs.Later.{Prop, childrenAt, nodesAt, treeOf, nodesBy, laterOf}
 use Rattle.rules.specs.Reading.{Control, properties}
-use Rattle.rules.specs.ReadLater.{propertyOf, readLater}
+use Rattle.rules.specs.ReadLater.{readLater}
 use Rattle.rules.specs.Blob.{fit, answerOf}
 use Rattle.rules.specs.declared.Answer.{Answer}
 use Rattle.rows.specs.Acts.{topNodes}
 use Rattle.rows.specs.Judge as judge
-use Rattle.rows.proofs.JudgeLaws.{made-counts}
 use Rattle.countlater.specs.Count.{children, wholeTree, Counted}
 use Rattle.countlater.specs.declared.Children.{Children}
 use Rattle.countlater.specs.declared.Counts.{Counts}
 use Rattle.countlater.proofs.CountLaws.{object-within}
 use Rattle.later.specs.Write.{treeControl, scannedControl, control}
-use Rattle.later.proofs.ReadLaws.{tree-same, later-is, same-many, in-tree, in-scan, tree-is, scan-is}
+use Rattle.later.proofs.ReadLaws.{tree-same, later-is, in-tree, in-scan, tree-is, scan-is, has}
 use Rattle.tally.specs.Places.{bumps, propertiesPlaces, controlsPlaces, readingPlaces}
 use Rattle.tally.proofs.BumpLaws.{bumps-append, tallied-refused, tallied-read, room-again}
 use Rattle.cursor.specs.Work.{Ran}
@@ -79,18 +78,15 @@ tally-short s cr pr words h e =
     rw (lt-ltb (length s) 14 h, le-ltb cr 0 (omega arith), le-ltb pr 0 (omega arith)) (record { answer-is = e; words-are = refl; few = omega arith })
 
 module _ {s : List ℕ} (h : 14 ≤ length s) {n : Counts} (c : Counted s n) where
-  has : judge.Counts (readLater s) (n .controls) (n .own + n .props) (n .own)
-  has = rw (later-is s h, c .controls, c .props, c .own) (made-counts (propertyOf s) (control s) (same-many s) (objectGroup s .props) (nodesBy s (treeOf s)))
-
   pub blob-ready : length s ≤ longest → BlobReady s (n .tree)
   blob-ready small = record { long = h; small = small; is = c .tree; few = omega (arith, c .few, c .controls, small) }
 
   module _ (cr pr : ℕ) {a : Answer} (j : judge.Judged (n .controls) (n .own + n .props) (n .own) (cr * controlWidth / controlWidth) (pr * propertyWidth / propertyWidth) a) where
     answered : a ≡ answerOf (fit cr pr (some (readLater s)))
-    answered = room-again cr pr (readLater s) (j (readLater s) has)
+    answered = room-again cr pr (readLater s) (j (readLater s) (has h c))
 
     pub tally-refused : (words : List ℕ) → (a .number ≡ 0 → ⊥) → counting.Counted s cr pr words a words
     tally-refused words k = tallied-refused false cr pr (readLater s) words answered k
 
     pub tally-done : (words : List ℕ) → length s ≤ longest → a .number ≡ 0 → {words′ : List ℕ} → BlobDone s words words′ → counting.Counted s cr pr words a words′
-    tally-done words small z d = tallied-read false cr pr (readLater s) words answered z (omega (arith, has .controls-are, has .properties-are, c .few, small)) (d .is)
+    tally-done words small z d = tallied-read false cr pr (readLater s) words answered z (omega (arith, has h c .controls-are, has h c .properties-are, c .few, small)) (d .is)

@@ -3,7 +3,8 @@ use borrow.Author.Needs.{needs}
 use mathlib.Core.Path.{_∙_}
 use Prim.Native.Nat.{_-_}
 use Rattle.countlater.proofs.PassedLaws.{extent-inside}
-use Rattle.later.proofs.WriteGroupLaws.{Writing, writing-start, writing-none, inside-property, writing-room, writing-last, writing-more}
+use Rattle.later.proofs.WriteGroupLaws.{inside-property}
+use Rattle.later.proofs.Visits.{Writing, writing-start, writing-least, writing-same, writing-none, writing-room, writing-last, writing-more}
 use Rattle.later.proofs.write_group.Statement.{statement}
 use Rattle.later.proofs.write_group.Tie as tie
 
@@ -32,7 +33,7 @@ put-property-requires c κs =
     let turn : tie.At-loop Inv-loop μ-loop = search in
     let parsed : tie.After-parse-entry Inv-loop μ-loop = search in
     let size : tie.After-size Inv-loop μ-loop = search in
-    writing-room (turn .loop .inv) (start .pre .inside) (parsed .parse-entry .ensures) (size .size .given .1) (start .pre)
+    writing-room (turn .loop .inv) (start .pre .inside) (parsed .parse-entry .ensures) (size .size .given .1)
 
 add-n : tie.Need-add-n Inv-loop μ-loop
 add-n c =
@@ -40,13 +41,13 @@ add-n c =
     let turn : tie.At-loop Inv-loop μ-loop = search in
     let parsed : tie.After-parse-entry Inv-loop μ-loop = search in
     let size : tie.After-size Inv-loop μ-loop = search in
-    omega (arith, writing-room (turn .loop .inv) (start .pre .inside) (parsed .parse-entry .ensures) (size .size .given .1) (start .pre), turn .loop .inv .same)
+    omega (arith, writing-room (turn .loop .inv) (start .pre .inside) (parsed .parse-entry .ensures) (size .size .given .1), writing-same (turn .loop .inv))
 
 same-length-2 : tie.Need-same-length-2 Inv-loop μ-loop
 same-length-2 c =
     let turn : tie.At-loop Inv-loop μ-loop = search in
     let put : tie.After-put-property Inv-loop μ-loop = search in
-    put .put-property .kept .0 ∙ turn .loop .inv .same
+    put .put-property .kept .0 ∙ writing-same (turn .loop .inv)
 
 returns-2 : tie.Need-returns-2 Inv-loop μ-loop
 returns-2 c =
@@ -80,17 +81,17 @@ write-group-spec =
     (tie.spec
     Inv-loop
     μ-loop
-    (λ c. writing-start)
+    (λ c. let start : tie.Start Inv-loop μ-loop = search in writing-start (start .pre))
     (λ c κs. search needs) (λ c. search needs)
-    (λ c. let turn : tie.At-loop Inv-loop μ-loop = search in turn .loop .inv .least)
-    (λ c. let turn : tie.At-loop Inv-loop μ-loop = search in turn .loop .inv .same)
+    (λ c. let turn : tie.At-loop Inv-loop μ-loop = search in writing-least (turn .loop .inv))
+    (λ c. let turn : tie.At-loop Inv-loop μ-loop = search in writing-same (turn .loop .inv))
     returns
     (λ c. search needs)
     property-at-requires
     put-property-requires
     add-n
     (λ c κs. search needs)
-    (λ c. let turn : tie.At-loop Inv-loop μ-loop = search in omega (arith, turn .loop .inv .least))
+    (λ c. let turn : tie.At-loop Inv-loop μ-loop = search in omega (arith, writing-least (turn .loop .inv)))
     same-length-2
     returns-2
     loop-less
