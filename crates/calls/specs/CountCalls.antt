@@ -1,5 +1,5 @@
 -- Wish 4 of document 02, of every call of count_blob(totals, table, stream, control_room, property_room), and of it beside read_blob.
-use Prim.Native.Nat.{ℕ, _+_}
+use Prim.Native.Nat.{_+_}
 use mathlib.Core.Path.{_≡_}
 use mathlib.Core.List.{List, [], _∷_, map, List·Permᴰ}
 use mathlib.Core.Logic.{_↔_}

@@ -1,5 +1,5 @@
 -- Which panels come out otherwise: of every call of differences(older, newer, stream, rows), and of any two of read_blob beside it.
-use Prim.Native.Nat.{ℕ, _*_}
+use Prim.Native.Nat.{_*_}
 use mathlib.Core.Path.{_≡_}
 use mathlib.Core.Bool.{true}
 use mathlib.Core.Logic.{_↔_}

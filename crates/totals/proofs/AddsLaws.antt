@@ -21,7 +21,7 @@ use Rattle.rules.specs.declared.Totalled.{Totalled}
 use Rattle.rules.proofs.ListLaws.{getD-map}
 use Rattle.totallaws.proofs.TallyLaws.{many-append, many-most}
 use Rattle.totallaws.proofs.TotalsLaws.{zero-at, types-many}
-use Rattle.tally.specs.Places.{up, bump, bumps, typesAt, marksAt, answerPlace, outcomePlaces, Few, Tallied}
+use Rattle.tally.specs.Places.{up, bump, bumps, answerPlace, outcomePlaces, Few, Tallied}
 use Rattle.tally.proofs.BumpLaws.{bump-length, bumps-length, bumps-append}
 use Rattle.totals.specs.Laid.{laid}
 use Rattle.totals.proofs.PlaceLaws.{times, type-times, unmapped-times, mapped-times, mark-times, answer-times}

@@ -2,19 +2,17 @@
 use Prim.Native.Nat.{ℕ, _+_, _-_, _≤_, _<_}
 use native.Mathlib.Numerals.{add-one}
 use native.Mathlib.Omega.{arith}
-use mathlib.Core.Path.{_≡_, refl, sym, ap, _∙_}
-use mathlib.Core.Bool.{Bool, true, false, not, cond, _&&_}
+use mathlib.Core.Path.{_≡_, refl, sym, _∙_}
+use mathlib.Core.Bool.{Bool, true, false, not}
 use mathlib.Core.List.{List, [], _∷_, _++_, append-assoc, append-nil}
-use lib.Dec.{ltb, leb}
+use lib.Dec.{leb}
 use lib.ListN.{length, getD, set, take, drop, length-drop}
-use lib.Seq.{drop-cons, take-suc-set, drop-set-lt, drop-length, take-length, length-take-le}
+use lib.Seq.{take-suc-set, drop-set-lt, drop-length, take-length, length-take-le}
 use borrow.Author.Tests.{not-true, not-false, leb-true, le-leb, lt-leb, lt-ltb, le-ltb}
 use Rattle.rules.specs.Lists.{all}
 use Rattle.rules.specs.Answer.{refusal, tooLong, badTable, longest}
 use Rattle.rules.specs.CodeTable.{wellFormed}
-use Rattle.rules.specs.Access2000.{streamOf}
-use Rattle.rules.specs.ReadLater.{readLater}
-use Rattle.rules.specs.Blob.{is2000, readBy, readingOf, fit, outcome}
+use Rattle.rules.specs.Blob.{is2000, readingOf, outcome}
 use Rattle.rules.specs.Totals.{sums, sum, ceiling, holds, within}
 use Rattle.rules.specs.declared.Answer.{Answer}
 use Rattle.rules.specs.declared.Totals.{Totals}

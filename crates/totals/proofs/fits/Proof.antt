@@ -1,11 +1,7 @@
 use native.Mathlib.Omega.{arith}
 use borrow.Author.Needs.{needs}
 use mathlib.Core.Path.{_≡_, sym, _∙_}
-use mathlib.Core.Bool.{true}
-use Prim.Native.Nat.{_+_}
-use lib.ListN.{length, getD, take, drop}
-use Rattle.rules.specs.Lists.{all}
-use Rattle.rules.specs.Totals.{holds, sums}
+use lib.ListN.{length}
 use Rattle.totals.specs.Laid.{laid}
 use Rattle.totals.proofs.SumLaws.{told-no, told-yes, part-many, answers-no, types-no, unmapped-no, mapped-no, marks-last}
 use Rattle.totals.proofs.fits.Statement.{statement}
