@@ -2,22 +2,24 @@
 use Prim.Native.Nat.{ℕ, zero, suc, _+_, _*_, _-_, _<_, _≤_}
 use native.Mathlib.Omega.{arith}
 use mathlib.Core.Path.{_≡_, refl, sym, ap, subst, _∙_}
-use mathlib.Core.Bool.{Bool, true, false, cond, not, _&&_}
+use mathlib.Core.Bool.{Bool, true, false, not, _&&_}
 use mathlib.Core.List.{List, [], _∷_, _++_}
 use lib.Dec.{ltb, leb}
 use lib.ListN.{length, drop, length-drop}
 use borrow.Author.Tests.{ltb-true, ltb-false, leb-true, lt-ltb, le-ltb}
-use Rattle.rules.specs.Lists.{all}
 use Rattle.rules.specs.Bytes.{byte, u16}
 use Rattle.rules.specs.Utf16.{isHigh}
 use Rattle.rules.specs.Scalars.{scalar}
 use Rattle.rules.specs.Utf8.{utf8Of, utf8}
-use Rattle.rules.specs.Csv.{comma, quote, cr, lf, isData, doubled, fieldText}
+use Rattle.rules.specs.Csv.{quote, isData, fieldText}
 use Rattle.csvlaws.proofs.CsvPlain.{data-byte}
 use Rattle.csvlaws.proofs.Utf8Laws.{high-then}
 use Rattle.utf16.proofs.Units.{two}
-use Rattle.csvtext.specs.Units.{waiting, unitText, unitData, isLetter, Past, lows}
-use Rattle.csvtext.proofs.UnitLaws.{textFrom, dataFrom, text-all, data-all, text-step, data-step, text-end, data-end, first-half, ends-other, ends-data, scalar-alone, field-plain}
+use Rattle.text.specs.Writer.{Wrote}
+use Rattle.text.proofs.Remains.{Remains, all-remains, on}
+use Rattle.csvtext.specs.Units.{waiting, doubledOf, unitText, unitData, isLetter, Past, lows}
+use Rattle.csvtext.proofs.Spelling.{spelled-step, spelled-end}
+use Rattle.csvtext.proofs.UnitLaws.{textFrom, dataFrom, text-all, data-all, data-step, data-end, ends-other, ends-data, scalar-alone, field-plain}
 
 -- ---- as the code finds it out
 module _ (u : ℕ) where
@@ -69,14 +71,14 @@ one-byte u h = rw (lt-ltb u 0x80 h)
 
 -- ---- the low bytes, unit by unit
 module _ (s : List ℕ) where
-  pub lows-more : (i : ℕ) → i + 1 < length s → lows (drop i s) ≡ byte s i ∷ lows (drop (i + 2) s)
+  lows-more : (i : ℕ) → i + 1 < length s → lows (drop i s) ≡ byte s i ∷ lows (drop (i + 2) s)
   unfolding lows
   lows-more i h = rw (two s i h)
 
   at-next : (i j : ℕ) → j ≡ i + 2 → i + 1 < length s → lows (drop i s) ≡ byte s i ∷ lows (drop j s)
   at-next i j e h = lows-more i h ∙ ap (λ (k : ℕ). byte s i ∷ lows (drop k s)) (sym e)
 
-  pub lows-four : (i : ℕ) → i + 8 ≤ length s → lows (drop i s) ≡ byte s i ∷ byte s (i + 2) ∷ byte s (i + 4) ∷ byte s (i + 6) ∷ lows (drop (i + 8) s)
+  lows-four : (i : ℕ) → i + 8 ≤ length s → lows (drop i s) ≡ byte s i ∷ byte s (i + 2) ∷ byte s (i + 4) ∷ byte s (i + 6) ∷ lows (drop (i + 8) s)
   lows-four i h =
       at-next i (i + 2) refl (omega arith)
       ∙ ap (λ l. byte s i ∷ l)
@@ -93,13 +95,29 @@ module _ (s : List ℕ) where
       go (a ∷ []) k = refl
       go (a ∷ b ∷ l) k = absurd (omega arith)
 
+-- written: the low bytes of the units from i on are still to be written
+pub record LowsLeft (bytes : List ℕ) (from : ℕ) (old : List ℕ) (at : ℕ) (now : List ℕ) (p i : ℕ) : Type 0 where
+  pub inside : i ≤ length bytes
+  pub rest : Remains old at (lows (drop from bytes)) now p (lows (drop i bytes))
+
+pub lows-start : {bytes : List ℕ} {from : ℕ} {old : List ℕ} {at : ℕ} → from ≤ length bytes → LowsLeft bytes from old at old at from
+lows-start h = record { inside = h; rest = all-remains }
+
+module _ {bytes : List ℕ} {from : ℕ} {old : List ℕ} {at : ℕ} {now : List ℕ} {p i : ℕ} (g : LowsLeft bytes from old at now p i) {new : List ℕ} {e : ℕ} where
+  pub one-more : i + 2 ≤ length bytes → Wrote now p (byte bytes i ∷ []) new e → LowsLeft bytes from old at new e (i + 2)
+  one-more h v = record { inside = h; rest = on (g .rest) (lows-more bytes i (omega arith)) v }
+
+  pub four-more : i + 8 ≤ length bytes → Wrote now p (byte bytes i ∷ byte bytes (i + 2) ∷ byte bytes (i + 4) ∷ byte bytes (i + 6) ∷ []) new e → LowsLeft bytes from old at new e (i + 8)
+  four-more h v = record { inside = h; rest = on (g .rest) (lows-four bytes i h) v }
+
+module _ (s : List ℕ) where
   -- ---- from a place on the text is the low bytes, and needs no quotes
   pub record Plainly (i : ℕ) : Type 0 where
     pub no-quotes : dataFrom 0 (drop i s) ≡ true
     pub is-lows : textFrom 0 (drop i s) ≡ lows (drop i s)
 
   pub plainly-end : (i : ℕ) → length s ≤ i + 1 → Plainly i
-  plainly-end i h = record { no-quotes = data-end s i 0 h; is-lows = text-end s i 0 h ∙ sym (lows-end i h) }
+  plainly-end i h = record { no-quotes = data-end s i 0 h; is-lows = spelled-end doubledOf s i 0 h ∙ sym (lows-end s i h) }
 
   module _ (i : ℕ) (h : i + 1 < length s) (its : Letter (u16 s i)) where
     alone : isHigh (u16 s i) ≡ false
@@ -123,7 +141,7 @@ module _ (s : List ℕ) where
     plainly-more : Plainly (i + 2) → Plainly i
     plainly-more k = record {
       no-quotes = data-step s i 0 h ∙ (λ j. its-data j && dataFrom (none-waits j) (drop (i + 2) s)) ∙ k .no-quotes;
-      is-lows = text-step s i 0 h ∙ (λ j. its-text j ++ textFrom (none-waits j) (drop (i + 2) s)) ∙ ap (λ l. byte s i ∷ l) (k .is-lows) ∙ sym (lows-more i h);
+      is-lows = spelled-step doubledOf s i 0 h ∙ (λ j. its-text j ++ textFrom (none-waits j) (drop (i + 2) s)) ∙ ap (λ l. byte s i ∷ l) (k .is-lows) ∙ sym (lows-more s i h);
     }
 
   pub plainly-space : (i : ℕ) → i + 1 < length s → u16 s i ≡ 0x20 → Plainly (i + 2) → Plainly i

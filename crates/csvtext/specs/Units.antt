@@ -15,9 +15,16 @@ use Rattle.rules.specs.Csv.{isData, doubled}
 abbrev pub waiting : ℕ → ℕ
 waiting u = cond (isHigh u) u 0
 
--- the bytes that the unit u ends, after the first half `high`, quotes doubled
-unfoldable pub unitText : ℕ → ℕ → List ℕ
-unitText high u = cond (isHigh u) [] (doubled (utf8Of (scalar high u)))
+-- what the unit u ends, after the first half `high`: a character, as `spell` spells it
+unfoldable pub unitBy : (ℕ → List ℕ) → ℕ → ℕ → List ℕ
+unitBy spell high u = cond (isHigh u) [] (spell (scalar high u))
+
+-- its bytes, quotes doubled
+abbrev pub doubledOf : ℕ → List ℕ
+doubledOf c = doubled (utf8Of c)
+
+abbrev pub unitText : ℕ → ℕ → List ℕ
+unitText high u = unitBy doubledOf high u
 
 -- they can stand without quotes
 unfoldable pub unitData : ℕ → ℕ → Bool

@@ -1,24 +1,22 @@
 -- What is shown, as the code writes it: a character, a unit of UTF-16, bytes, a value by its mark.
-use Prim.Native.Nat.{ℕ, _+_, _*_, _<_, _≤_, min}
+use Prim.Native.Nat.{ℕ, _+_, _<_, _≤_, min}
 use native.Mathlib.Omega.{arith}
 use mathlib.Core.Path.{_≡_, refl, sym, ap, _∙_}
-use mathlib.Core.Bool.{Bool, true, false, cond}
-use mathlib.Core.List.{List, [], _∷_, _++_, map}
+use mathlib.Core.Bool.{true, false}
+use mathlib.Core.List.{List, [], _++_}
 use borrow.Author.Tests.{lt-ltb, le-ltb, lt-leb, le-leb, eq-eqb, ne-eqb}
 use lib.Dec.{eqb}
-use lib.ListN.{length, getD, drop, length-drop}
-use Rattle.rules.specs.Lists.{concat, text}
-use Rattle.rules.specs.Bytes.{byte, u16, part}
+use lib.ListN.{getD}
+use Rattle.rules.specs.Lists.{text}
+use Rattle.rules.specs.Bytes.{part}
 use Rattle.rules.specs.Digits.{hex}
-use Rattle.rules.specs.Utf16.{isHigh}
-use Rattle.rules.specs.Scalars.{scalar, scalarsFrom, scalars}
+use Rattle.rules.specs.Scalars.{scalars}
 use Rattle.rules.specs.Utf8.{utf8Of}
 use Rattle.rules.specs.Csv.{hexText}
-use Rattle.utf16.proofs.Units.{two}
 use Rattle.text.specs.Writer.{Wrote}
 use Rattle.text.proofs.Chain.{wrote-as}
-use Rattle.csvtext.specs.Units.{waiting}
-use Rattle.showtext.specs.Shown.{within, isTurning, isHidden, written, spelled, letters, unitText, mostShown, cutMark, firstBytes, looseText, shownValues, valueBy}
+use Rattle.csvtext.proofs.Spelling.{spelledFrom}
+use Rattle.showtext.specs.Shown.{within, isTurning, isHidden, written, spelled, letters, mostShown, cutMark, firstBytes, looseText, shownValues, valueBy}
 
 -- ---- what is hidden
 module _ (c : ℕ) where
@@ -132,47 +130,10 @@ pub other : (c : ℕ) → Unnamed c → spelled c ≡ written c
 unfolding spelled
 other c (((((_, p), q), r), s), t) = rw (ne-eqb c 0x22 p, ne-eqb c 0x5C q, ne-eqb c 0x0A r, ne-eqb c 0x0D s, ne-eqb c 0x09 t)
 
--- ---- from a place on, after a first half that waits
-abbrev charactersText : List ℕ → List ℕ
-charactersText cs = concat (map spelled cs)
-
-unfoldable pub lettersFrom : ℕ → List ℕ → List ℕ
-lettersFrom high s = charactersText (scalarsFrom high s)
-
-pub letters-all : (s : List ℕ) → lettersFrom 0 (drop 0 s) ≡ letters s
-unfolding lettersFrom letters scalars
+-- ---- a text
+pub letters-all : (s : List ℕ) → spelledFrom spelled 0 s ≡ letters s
+unfolding spelledFrom letters scalars
 letters-all s = refl
-
-letters-by : (high u : ℕ) (s : List ℕ) (t : Bool)
-    → charactersText (cond t (scalarsFrom u s) (scalar high u ∷ scalarsFrom 0 s)) ≡ cond t [] (spelled (scalar high u)) ++ charactersText (scalarsFrom (cond t u 0) s)
-unfolding concat
-letters-by high u s true = refl
-letters-by high u s false = refl
-
-none-left : (high : ℕ) (l : List ℕ) → length l ≤ 1 → scalarsFrom high l ≡ []
-unfolding scalarsFrom
-none-left high [] e = refl
-none-left high (a ∷ []) e = refl
-none-left high (a ∷ b ∷ l) e = absurd (omega arith)
-
-module _ (s : List ℕ) (i high : ℕ) where
-  pub letters-step : i + 1 < length s → lettersFrom high (drop i s) ≡ unitText high (u16 s i) ++ lettersFrom (waiting (u16 s i)) (drop (i + 2) s)
-  unfolding lettersFrom unitText scalarsFrom u16
-  letters-step h = ap (λ (l : List ℕ). charactersText (scalarsFrom high l)) (two s i h) ∙ letters-by high (byte s i + 256 * byte s (i + 1)) (drop (i + 2) s) (isHigh (byte s i + 256 * byte s (i + 1)))
-
-  pub letters-end : length s ≤ i + 1 → lettersFrom high (drop i s) ≡ []
-  unfolding lettersFrom concat
-  letters-end h = rw (none-left high (drop i s) (omega (arith, length-drop i s)))
-
--- ---- a unit
-module _ (high u : ℕ) where
-  pub first-half : isHigh u ≡ true → unitText high u ≡ []
-  unfolding unitText
-  first-half e = rw e
-
-  pub ends : isHigh u ≡ false → unitText high u ≡ spelled (scalar high u)
-  unfolding unitText
-  ends e = rw e
 
 -- ---- bytes
 module _ (size : ℕ) where

@@ -7,12 +7,12 @@ use lib.ListN.{getD}
 use Rattle.rules.specs.Lists.{concat, text}
 use Rattle.rules.specs.Bytes.{part}
 use Rattle.rules.specs.Digits.{decimal, hex}
-use Rattle.rules.specs.Utf16.{isHigh}
-use Rattle.rules.specs.Scalars.{scalar, scalars}
+use Rattle.rules.specs.Scalars.{scalars}
 use Rattle.rules.specs.Utf8.{utf8Of}
 use Rattle.rules.specs.Texts.{guidText}
 use Rattle.rules.specs.Csv.{hexText}
 use Rattle.rules.specs.Listing.{word, yesOrNo, number32}
+use Rattle.csvtext.specs.Units.{unitBy}
 
 -- ---- characters in quotes, spelled as in a JSON string
 unfoldable pub within : ℕ → ℕ → ℕ → Bool
@@ -48,8 +48,8 @@ unfoldable pub quoted : List ℕ → List ℕ
 quoted bytes = text "\"" ++ (letters bytes ++ text "\"")
 
 -- what the unit u ends, after the first half `high`, or 0 where none waits
-unfoldable pub unitText : ℕ → ℕ → List ℕ
-unitText high u = cond (isHigh u) [] (spelled (scalar high u))
+abbrev pub unitText : ℕ → ℕ → List ℕ
+unitText high u = unitBy spelled high u
 
 -- ---- bytes
 -- of more than these the first are shown

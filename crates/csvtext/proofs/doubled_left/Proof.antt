@@ -1,19 +1,20 @@
 use borrow.Author.Needs.{needs}
 use native.Mathlib.Omega.{arith}
-use mathlib.Core.Path.{_≡_, refl, sym, ap, _∙_}
-use mathlib.Core.List.{List, _++_}
+use mathlib.Core.Path.{_≡_, refl, ap, _∙_}
+use mathlib.Core.List.{List}
 use Prim.Native.Nat.{ℕ, _+_, _-_, _≤_}
 use lib.ListN.{length, drop, length-append}
 use Rattle.rules.specs.Bytes.{u16}
-use Rattle.csvtext.specs.Units.{unitText, waiting}
-use Rattle.csvtext.proofs.UnitLaws.{textFrom, text-all, text-step, text-end}
+use Rattle.csvtext.specs.Units.{doubledOf, unitText, waiting}
+use Rattle.csvtext.proofs.Spelling.{spelled-step, spelled-end}
+use Rattle.csvtext.proofs.UnitLaws.{textFrom, text-all}
 use Rattle.csvtext.proofs.doubled_left.Statement.{statement}
 use Rattle.csvtext.proofs.doubled_left.Tie as tie
 
 -- what the units from i on still take
 record Left (room : ℕ) (bytes : List ℕ) (left i high : ℕ) : Type 0 where
   inside : i ≤ length bytes
-  rest : left - length (textFrom high (drop i bytes)) ≡ room - length (textFrom 0 (drop 0 bytes))
+  rest : left - length (textFrom high (drop i bytes)) ≡ room - length (textFrom 0 bytes)
 
 abbrev Inv-loop : tie.InvT-loop
 Inv-loop room bytes left₀ i₀ high₀ left i high = Left room bytes left i high
@@ -35,7 +36,7 @@ loop-again c =
     let l = at-loop .loop in
     let u = unit .u16-at .ensures in
     let size = sized .unit-size .ensures ∙ ap (λ (n : ℕ). length (unitText (l .high) n)) u in
-    let whole = ap length (text-step b (l .i) (l .high) (omega arith)) ∙ length-append (unitText (l .high) (u16 b (l .i))) (textFrom (waiting (u16 b (l .i))) (drop (l .i + 2) b)) in
+    let whole = ap length (spelled-step doubledOf b (l .i) (l .high) (omega arith)) ∙ length-append (unitText (l .high) (u16 b (l .i))) (textFrom (waiting (u16 b (l .i))) (drop (l .i + 2) b)) in
     let next = ap (λ (n : ℕ). length (textFrom n (drop (l .i + 2) b))) (c .waiting .ensures ∙ ap waiting u) in
     record { inside = omega arith; rest = omega (arith, l .inv .rest, took .less .ensures, size, whole, next) }
 
@@ -44,7 +45,7 @@ returns c =
     let start : tie.Start Inv-loop μ-loop = search in
     let l = c .before .loop in
     let b = start .args .bytes .now in
-    omega (arith, l .inv .rest, ap length (text-end b (l .i) (l .high) (omega arith)), ap length (text-all b))
+    omega (arith, l .inv .rest, ap length (spelled-end doubledOf b (l .i) (l .high) (omega arith)), ap length (text-all b))
 
 pub doubled-left-spec : {M : Type 1} → statement M
 doubled-left-spec =

@@ -1,22 +1,15 @@
 use borrow.Author.Needs.{needs}
 use native.Mathlib.Omega.{arith}
-use mathlib.Core.List.{List}
-use Prim.Native.Nat.{ℕ, _+_, _-_, _≤_}
-use lib.ListN.{length, drop}
+use Prim.Native.Nat.{_-_}
+use lib.ListN.{length}
 use Rattle.text.proofs.Chain.{same}
-use Rattle.text.proofs.Remains.{Remains, all-remains, on, done}
-use Rattle.csvtext.specs.Units.{lows}
-use Rattle.csvtext.proofs.LetterLaws.{lows-more, lows-end}
+use Rattle.text.proofs.Remains.{done}
+use Rattle.csvtext.proofs.LetterLaws.{LowsLeft, lows-start, one-more, lows-end}
 use Rattle.csvtext.proofs.put_lows_from.Statement.{statement}
 use Rattle.csvtext.proofs.put_lows_from.Tie as tie
 
--- what the units from i on spell is still to be written
-record Left (old : List ℕ) (at : ℕ) (bytes : List ℕ) (from : ℕ) (now : List ℕ) (p i : ℕ) : Type 0 where
-  inside : i ≤ length bytes
-  rest : Remains old at (lows (drop from bytes)) now p (lows (drop i bytes))
-
 abbrev Inv-loop : tie.InvT-loop
-Inv-loop out₀ at bytes from p₀ i₀ out p i = Left out₀ at bytes from out p i
+Inv-loop out₀ at bytes from p₀ i₀ out p i = LowsLeft bytes from out₀ at out p i
 
 abbrev μ-loop : tie.MeasureT-loop
 μ-loop out₀ at bytes from p₀ i₀ out p i = length bytes - i
@@ -24,44 +17,18 @@ abbrev μ-loop : tie.MeasureT-loop
 loop-holds : tie.Need-loop-holds Inv-loop μ-loop
 loop-holds c =
     let start : tie.Start Inv-loop μ-loop = search in
-    record { inside = start .pre; rest = all-remains }
-
-sub-loop : tie.Need-sub-loop Inv-loop μ-loop
-sub-loop c =
-    let turn : tie.At-loop Inv-loop μ-loop = search in
-    omega (arith, turn .loop .inv .inside)
-
-add-i : tie.Need-add-i Inv-loop μ-loop
-add-i c =
-    let turn : tie.At-loop Inv-loop μ-loop = search in
-    omega (arith, turn .loop .inv .inside)
-
-loop-less : tie.Need-loop-less Inv-loop μ-loop
-loop-less c =
-    let turn : tie.At-loop Inv-loop μ-loop = search in
-    omega (arith, turn .loop .inv .inside)
-
-shared-slice-read-put-byte : tie.Need-shared-slice-read-put-byte Inv-loop μ-loop
-shared-slice-read-put-byte c =
-    let turn : tie.At-loop Inv-loop μ-loop = search in
-    omega (arith, turn .loop .inv .inside)
+    lows-start (start .pre)
 
 loop-again : tie.Need-loop-again Inv-loop μ-loop
 loop-again c =
     let turn : tie.At-loop Inv-loop μ-loop = search in
-    let start : tie.Start Inv-loop μ-loop = search in
     let put : tie.After-put-byte Inv-loop μ-loop = search in
-    let l = turn .loop in
-    record { inside = omega (arith, l .inv .inside); rest = on (l .inv .rest) (lows-more (start .args .bytes .now) (l .i) (omega (arith, l .inv .inside))) (put .put-byte .ensures) }
+    one-more (turn .loop .inv) (omega (arith, turn .loop .inv .inside)) (put .put-byte .ensures)
 
 returns : tie.Need-returns Inv-loop μ-loop
 returns c =
     let turn : tie.At-loop Inv-loop μ-loop = search in
-    let start : tie.Start Inv-loop μ-loop = search in
-    done (turn .loop .inv .rest) (lows-end (start .args .bytes .now) (turn .loop .i) (omega arith))
-
-same-length : tie.Need-same-length Inv-loop μ-loop
-same-length c = same (returns c)
+    done (turn .loop .inv .rest) (lows-end _ (turn .loop .i) (omega arith))
 
 pub put-lows-from-spec : {M : Type 1} → statement M
 put-lows-from-spec =
@@ -70,11 +37,11 @@ put-lows-from-spec =
     Inv-loop
     μ-loop
     loop-holds
-    sub-loop
-    shared-slice-read-put-byte
+    (λ c. search needs)
+    (λ c. search needs)
     (λ c κs. search needs)
-    add-i
-    loop-less
+    (λ c. search needs)
+    (λ c. search needs)
     loop-again
-    same-length
+    (λ c. same (returns c))
     returns)

@@ -1,12 +1,12 @@
 use borrow.Author.Needs.{needs}
 use native.Mathlib.Omega.{arith}
-use mathlib.Core.Path.{_≡_, sym, ap, _∙_}
-use mathlib.Core.Bool.{true, false}
-use Rattle.rules.specs.Utf16.{isHigh}
+use mathlib.Core.Path.{sym, ap, _∙_}
 use Rattle.rules.specs.Utf8.{utf8Of}
 use Rattle.rules.specs.Scalars.{scalar}
 use Rattle.text.proofs.Chain.{nothing, _⨟_, wrote-as}
-use Rattle.csvtext.proofs.UnitLaws.{first-half, ends-quote, ends-other, scalar-small}
+use Rattle.csvtext.proofs.Spelling.{first-half}
+use Rattle.csvtext.specs.Units.{doubledOf}
+use Rattle.csvtext.proofs.UnitLaws.{ends-quote, ends-other, scalar-small}
 use Rattle.csvtext.proofs.put_unit.Statement.{statement}
 use Rattle.csvtext.proofs.put_unit.Tie as tie
 
@@ -14,7 +14,7 @@ returns : tie.Need-returns
 returns c =
     let start : tie.Start = search in
     let asked : tie.After-is-high = search in
-    wrote-as nothing (sym (first-half (start .args .high) (start .args .u) (sym (asked .is-high .ensures) ∙ c .if1 .taken)))
+    wrote-as nothing (sym (first-half doubledOf (start .args .high) (start .args .u) (sym (asked .is-high .ensures) ∙ c .if1 .taken)))
 
 returns-2 : tie.Need-returns-2
 returns-2 c =

@@ -1,11 +1,11 @@
 use borrow.Author.Needs.{needs}
 use native.Mathlib.Omega.{arith}
-use mathlib.Core.Path.{_≡_, sym, ap, _∙_}
-use mathlib.Core.Bool.{true, false}
+use mathlib.Core.Path.{sym, ap, _∙_}
 use lib.ListN.{length}
-use Rattle.rules.specs.Utf16.{isHigh}
 use Rattle.rules.specs.Utf8.{utf8Of}
-use Rattle.csvtext.proofs.UnitLaws.{first-half, ends-quote, ends-other}
+use Rattle.csvtext.proofs.Spelling.{first-half}
+use Rattle.csvtext.specs.Units.{doubledOf}
+use Rattle.csvtext.proofs.UnitLaws.{ends-quote, ends-other}
 use Rattle.csvtext.proofs.unit_size.Statement.{statement}
 use Rattle.csvtext.proofs.unit_size.Tie as tie
 
@@ -13,7 +13,7 @@ returns : tie.Need-returns
 returns c =
     let start : tie.Start = search in
     let asked : tie.After-is-high = search in
-    sym (ap length (first-half (start .args .high) (start .args .u) (sym (asked .is-high .ensures) ∙ c .if1 .taken)))
+    sym (ap length (first-half doubledOf (start .args .high) (start .args .u) (sym (asked .is-high .ensures) ∙ c .if1 .taken)))
 
 returns-2 : tie.Need-returns-2
 returns-2 c =

@@ -2,9 +2,9 @@ use borrow.Author.Needs.{needs}
 use native.Mathlib.Omega.{arith}
 use mathlib.Core.Path.{sym, ap, _∙_}
 use Rattle.text.proofs.Chain.{nothing, wrote-as}
+use Rattle.csvtext.proofs.Spelling.{first-half, ends}
 use Rattle.csvtext.proofs.UnitLaws.{scalar-small}
 use Rattle.showtext.specs.Shown.{spelled}
-use Rattle.showtext.proofs.ShownLaws.{first-half, ends}
 use Rattle.showtext.proofs.put_unit.Statement.{statement}
 use Rattle.showtext.proofs.put_unit.Tie as tie
 
@@ -12,7 +12,7 @@ returns : tie.Need-returns
 returns c =
     let start : tie.Start = search in
     let asked : tie.After-is-high = search in
-    wrote-as nothing (sym (first-half (start .args .high) (start .args .u) (sym (asked .is-high .ensures) ∙ c .if1 .taken)))
+    wrote-as nothing (sym (first-half spelled (start .args .high) (start .args .u) (sym (asked .is-high .ensures) ∙ c .if1 .taken)))
 
 put-spelled-requires : tie.Need-put-spelled-requires
 put-spelled-requires c κs =
@@ -28,7 +28,7 @@ returns-2 c =
     let got : tie.After-scalar = search in
     let put : tie.After-put-spelled = search in
     wrote-as (put .put-spelled .ensures)
-    (ap spelled (got .scalar .ensures) ∙ sym (ends (start .args .high) (start .args .u) (sym (asked .is-high .ensures) ∙ isnt .if1 .left)))
+    (ap spelled (got .scalar .ensures) ∙ sym (ends spelled (start .args .high) (start .args .u) (sym (asked .is-high .ensures) ∙ isnt .if1 .left)))
 
 pub put-unit-spec : {M : Type 1} → statement M
 put-unit-spec =
