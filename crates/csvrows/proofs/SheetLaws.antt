@@ -4,21 +4,21 @@ use native.Mathlib.Omega.{arith}
 use native.Mathlib.Numerals.{add-one}
 use mathlib.Core.Path.{_≡_, refl, sym, ap, ap₂, _∙_}
 use mathlib.Core.List.{List, [], _∷_, _++_, map}
-use lib.ListN.{length, getD, take, drop, length-map, length-append, drop-of-length-le}
+use lib.ListN.{length, getD, take, drop, length-append, drop-of-length-le}
 use lib.Seq.{drop-cons, drop-drop}
 use Rattle.rules.specs.Lists.{concat}
 use Rattle.rules.specs.Rows.{controlWidth, propertyWidth, written, rowAt}
 use Rattle.rules.specs.Digits.{decimal, hex}
 use Rattle.rules.specs.Listing.{word}
-use Rattle.rules.specs.Reading.{Control, Reading, propertiesOf, properties, controlRow, controlRowsFrom, controlRows, propertyRow, propertyRows}
-use Rattle.rules.specs.Csv.{Record, recordText, sheetText, header, sheetOf, csvOf}
+use Rattle.rules.specs.Reading.{Control, Reading, propertiesOf, properties, controlRowsFrom, controlRows, propertyRows}
+use Rattle.rules.specs.Csv.{recordText, sheetText, header, csvOf}
 use Rattle.rules.proofs.RowsLaws.{row-written}
 use Rattle.rules.proofs.ReadingLaws.{controls-wide, properties-wide, controls-counted, properties-counted}
 use Rattle.csvlaws.proofs.CsvLaws.{sheet-append}
 use Rattle.csvlaws.proofs.CsvRowsLaws.{rowRecords, recordsBy, sheet-by-rows, row-count}
 use Rattle.csvrecord.specs.Parts.{controlField, typeField, ownedRecord}
 use Rattle.csvrecord.specs.declared.Owner.{Owner}
-use Rattle.csvrows.specs.Rows.{rowsText, controlAt, manyFrom, controlsText, slicesText}
+use Rattle.csvrows.specs.Rows.{linesFrom, rowsText, manyFrom, partsFrom, controlsText, slicesText}
 
 -- row i of a slice is row i of a list, for each of them
 abbrev Shows : ℕ → List ℕ → List (List ℕ) → Type 0
@@ -27,7 +27,7 @@ Shows w words rows = (i : ℕ) → i < length rows → rowAt w i words ≡ getD 
 -- ---- rows of one owner
 rows-are : (stream : List ℕ) (o : Owner) (words : List ℕ) (rows : List (List ℕ)) → Shows propertyWidth words rows → (k first : ℕ) → first + k ≤ length rows
     → rowsText stream o words first k ≡ sheetText (rowRecords stream (controlField o) (typeField o) (take k (drop first rows)))
-unfolding rowsText sheetText
+unfolding linesFrom sheetText
 rows-are stream o words rows h zero first l = refl
 rows-are stream o words rows h (suc k) first l =
     let g : first < length rows = omega arith in
@@ -56,7 +56,7 @@ many-are words rows h (suc k) n l =
 module _ (stream : List ℕ) (cwords pwords : List ℕ) (crows prows : List (List ℕ)) (c : Shows controlWidth cwords crows) (p : Shows propertyWidth pwords prows) where
   controls-are : (k n q : ℕ) → n + k ≡ length crows → q + manyIn (drop n crows) ≤ length prows
       → controlsText stream cwords pwords n k q ≡ sheetText (recordsBy stream n (drop n crows) (drop q prows))
-  unfolding controlsText sheetText recordsBy manyIn
+  unfolding partsFrom sheetText recordsBy manyIn
   controls-are zero n q l f =
       let g : length crows ≤ n = omega arith in
       sym (ap (λ (r : List (List ℕ)). sheetText (recordsBy stream n r (drop q prows))) (drop-of-length-le crows g))

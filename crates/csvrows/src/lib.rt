@@ -9,7 +9,6 @@ use rows::get_control;
 use rows::get_property;
 use rules::Property;
 use rules::Value;
-ghost use Prim.Native.Nat.{_+_, _≤_};
 ghost use Rattle.text.specs.Writer.{Wrote};
 ghost use Rattle.rules.specs.Rows.{propertyWidth, rowAt};
 ghost use Rattle.rows.specs.Get.{PropertyOf};
@@ -56,7 +55,7 @@ fn put_rows(
     rows: &[u32],
     run: Run,
 ) -> usize
-    requires { ⌜ RowsReady (now index) (now letters) run ⌝ }
+    requires { ⌜ RowsReady (now index) (now letters) (run .first) (run .count) ⌝ }
     ensures { λ r. ⌜ Wrote (now (out .entry)) at (tailsText (now (stream .entry)) (now (owner .entry)) (now (rows .entry)) (run .first) (run .count)) (now (out .exit)) r ⌝ }
 {
     let mut p = at;

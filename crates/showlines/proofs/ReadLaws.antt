@@ -22,10 +22,10 @@ use Rattle.rules.proofs.PairingLaws.{word-at, other-stays}
 use Rattle.listing.proofs.Printed.{Stated, stated-if, fit-stated, outcome-stated}
 use Rattle.names.specs.Lookup.{Lent}
 use Rattle.blob.specs.Exit.{exited}
-use Rattle.csvrows.specs.Rows.{controlAt, manyFrom}
+use Rattle.csvrows.specs.Rows.{most, controlAt, manyFrom}
 use Rattle.csvrows.proofs.SheetLaws.{rows-many}
 use Rattle.showlines.specs.Lines.{readingKind}
-use Rattle.showlines.specs.Rows.{slicesText, most}
+use Rattle.showlines.specs.Rows.{slicesText}
 use Rattle.showlines.specs.Shown.{countsOf, shownBy, pairedExit, infoLine, shownPaired, ReadReady}
 
 -- ---- refused, or read

@@ -1,28 +1,26 @@
 -- The lines of the rows in two slices.
-use Prim.Native.Nat.{ℕ, zero, suc, _+_, _≤_}
+use Prim.Native.Nat.{ℕ, zero, suc, _+_}
 use mathlib.Core.Bool.{cond}
-use mathlib.Core.List.{List, [], _++_}
+use mathlib.Core.List.{List, _++_}
 use lib.Dec.{leb, ltb}
 use Rattle.rules.specs.Rows.{propertyWidth, rowAt}
 use Rattle.rules.specs.Listing.{word}
-use Rattle.names.specs.Lookup.{Lent}
-use Rattle.csvrows.specs.Rows.{controlAt, manyFrom}
+use Rattle.csvrows.specs.Rows.{linesFrom, partsFrom}
 use Rattle.showlines.specs.Lines.{firstLine, objectLine, objectOwner, controlOwner, propertyLine, controlLine}
 use Rattle.showlines.specs.declared.Owner.{Owner}
 use Rattle.showlines.specs.declared.Counts.{Counts}
 
 -- k properties of one owner, from row i on
-unfoldable pub rowsText : List ℕ → Owner → List ℕ → ℕ → ℕ → List ℕ
-rowsText stream o rows i zero = []
-rowsText stream o rows i (suc k) = propertyLine stream o (rowAt propertyWidth i rows) ++ rowsText stream o rows (i + 1) k
+abbrev pub rowsText : List ℕ → Owner → List ℕ → ℕ → ℕ → List ℕ
+rowsText stream o rows i k = linesFrom (propertyLine stream o) rows i k
 
--- k controls from control n on, each with its properties, which begin at row `first`
-unfoldable pub controlsText : List ℕ → List ℕ → ℕ → List ℕ → List ℕ → ℕ → ℕ → ℕ → List ℕ
-controlsText t stream kind controls rows n zero first = []
-controlsText t stream kind controls rows n (suc k) first =
-    controlLine stream n (controlAt controls n)
-    ++ (rowsText stream (controlOwner t kind (controlAt controls n)) rows first (word (controlAt controls n) 5)
-    ++ controlsText t stream kind controls rows (n + 1) k (first + word (controlAt controls n) 5))
+-- a control: its line, and its properties, which begin at row `first`
+abbrev pub controlText : List ℕ → List ℕ → ℕ → List ℕ → ℕ → List ℕ → ℕ → List ℕ
+controlText t stream kind rows n control first = controlLine stream n control ++ rowsText stream (controlOwner t kind control) rows first (word control 5)
+
+-- k controls from control n on
+abbrev pub controlsText : List ℕ → List ℕ → ℕ → List ℕ → List ℕ → ℕ → ℕ → ℕ → List ℕ
+controlsText t stream kind controls rows n k first = partsFrom (controlText t stream kind rows) controls n k first
 
 -- how many of k rows from row i on have an id with the mark 0x8000
 unfoldable pub markOf : ℕ → ℕ
@@ -43,17 +41,3 @@ slicesText t stream controls rows c =
     ++ (objectLine (c .kind)
     ++ (rowsText stream (objectOwner (c .kind)) rows 0 (c .own)
     ++ controlsText t stream (c .kind) controls rows 0 (c .controls) (c .own)))
-
--- a number of 32 bits
-abbrev pub most : ℕ
-most = 0xFFFFFFFF
-
--- ---- what is asked before: the names are lent, and the rows' numbers fit
-pub record RowsReady (index letters : List ℕ) (first count : ℕ) : Type 0 where
-  pub lent : Lent index letters
-  pub few : first + count ≤ most
-
-pub record ControlsReady (index letters controls : List ℕ) (c : Counts) : Type 0 where
-  pub lent : Lent index letters
-  pub some-left : c .controls ≤ most
-  pub few : c .own + manyFrom controls 0 (c .controls) ≤ most

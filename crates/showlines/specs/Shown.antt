@@ -14,8 +14,8 @@ use Rattle.rules.specs.Listing.{line, answerLine}
 use Rattle.rules.specs.declared.Answer.{Answer}
 use Rattle.showlines.specs.Lines.{readingKind}
 use Rattle.names.specs.Lookup.{Lent}
-use Rattle.csvrows.specs.Rows.{manyFrom}
-use Rattle.showlines.specs.Rows.{slicesText, most}
+use Rattle.csvrows.specs.Rows.{most, manyFrom}
+use Rattle.showlines.specs.Rows.{slicesText}
 use Rattle.showlines.specs.declared.Counts.{Counts}
 
 abbrev pub countsOf : ℕ → Answer → Counts

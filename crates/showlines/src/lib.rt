@@ -38,8 +38,9 @@ ghost use Rattle.rules.specs.Csv.{orId};
 ghost use Rattle.names.specs.Lookup.{Lent};
 ghost use Rattle.rows.specs.Put.{controlWords};
 ghost use Rattle.text.specs.Writer.{Wrote};
+ghost use Rattle.csvrows.specs.Rows.{RowsReady, ControlsReady};
 ghost use Rattle.showlines.specs.Lines.{laterKind, readingKind, readingText, firstLine, objectLine, blanks, objectOwner, headerMark, storedType, controlOwner, scopeText, isUnmapped, unmappedText, keyText, propertyLine, orCode, typeText, nameText, controlLine};
-ghost use Rattle.showlines.specs.Rows.{rowsText, controlsText, markOf, markedFrom, unmappedIn, slicesText, RowsReady, ControlsReady};
+ghost use Rattle.showlines.specs.Rows.{rowsText, controlsText, markOf, markedFrom, unmappedIn, slicesText};
 ghost use Rattle.showlines.specs.Shown.{shownBy, shownBlob, shownPaired, infoLine, ReadReady};
 ghost use Rattle.blob.specs.Exit.{exited};
 
@@ -410,7 +411,7 @@ fn put_controls(
     rows: &[u32],
     counts: Counts,
 ) -> usize
-    requires { ⌜ ControlsReady (now index) (now letters) (now controls) counts ⌝ }
+    requires { ⌜ ControlsReady (now index) (now letters) (now controls) (counts .controls) (counts .own) ⌝ }
     ensures { λ r. ⌜ Wrote (now (out .entry)) at (controlsText (now (table .entry)) (now (stream .entry)) (counts .kind) (now (controls .entry)) (now (rows .entry)) 0 (counts .controls) (counts .own)) (now (out .exit)) r ⌝ }
 {
     let mut p = at;
@@ -468,7 +469,7 @@ fn put_slices(
     rows: &[u32],
     counts: Counts,
 ) -> usize
-    requires { ⌜ ControlsReady (now index) (now letters) (now controls) counts ⌝ }
+    requires { ⌜ ControlsReady (now index) (now letters) (now controls) (counts .controls) (counts .own) ⌝ }
     ensures { λ r. ⌜ Wrote (now (out .entry)) 0 (slicesText (now (table .entry)) (now (stream .entry)) (now (controls .entry)) (now (rows .entry)) counts) (now (out .exit)) r ⌝ }
 {
     let kind = counts.kind;

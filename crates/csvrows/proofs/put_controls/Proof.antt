@@ -1,12 +1,14 @@
 use borrow.Author.Needs.{needs}
 use native.Mathlib.Omega.{arith}
 use Rattle.text.proofs.Chain.{same}
-use Rattle.csvrows.proofs.Steps.{ControlsLeft, controls-start, controls-few, owned-ready, controls-more, controls-done}
+use Rattle.csvrows.specs.Rows.{controlText}
+use Rattle.csvrows.proofs.Turns.{ControlsLeft, controls-start, controls-few, controls-more, controls-done}
+use Rattle.csvrows.proofs.Steps.{control-short, part-as}
 use Rattle.csvrows.proofs.put_controls.Statement.{statement}
 use Rattle.csvrows.proofs.put_controls.Tie as tie
 
 abbrev Inv-loop : tie.InvT-loop
-Inv-loop out₀ at index letters stream controls count rows first p₀ n₀ left₀ next₀ hints₀ out p n left next hints = ControlsLeft stream controls rows count first out₀ at out p n left next
+Inv-loop out₀ at index letters stream controls count rows first p₀ n₀ left₀ next₀ hints₀ out p n left next hints = ControlsLeft (controlText stream rows) controls count first out₀ at out p n left next
 
 abbrev μ-loop : tie.MeasureT-loop
 μ-loop out₀ at index letters stream controls count rows first p₀ n₀ left₀ next₀ hints₀ out p n left next hints = left
@@ -14,7 +16,7 @@ abbrev μ-loop : tie.MeasureT-loop
 loop-holds : tie.Need-loop-holds Inv-loop μ-loop
 loop-holds c =
     let start : tie.Start Inv-loop μ-loop = search in
-    controls-start (start .pre)
+    controls-start (start .pre .some-left) (start .pre .few)
 
 put-owned-requires : tie.Need-put-owned-requires Inv-loop μ-loop
 put-owned-requires c κs =
@@ -22,7 +24,10 @@ put-owned-requires c κs =
     let turn : tie.At-loop Inv-loop μ-loop = search in
     let test : tie.In-loop Inv-loop μ-loop = search in
     let read : tie.After-get-control Inv-loop μ-loop = search in
-    owned-ready (turn .loop .inv) (test .loop-test .taken) (read .get-control .ensures) (start .pre .lent) _
+    record {
+      ready = record { lent = start .pre .lent; few = controls-few (turn .loop .inv) (test .loop-test .taken) (read .get-control .ensures) };
+      short = control-short _ _ (omega (arith, turn .loop .inv .some-left));
+    }
 
 add-next : tie.Need-add-next Inv-loop μ-loop
 add-next c =
@@ -31,37 +36,19 @@ add-next c =
     let read : tie.After-get-control Inv-loop μ-loop = search in
     omega (arith, controls-few (turn .loop .inv) (test .loop-test .taken) (read .get-control .ensures))
 
-add-n : tie.Need-add-n Inv-loop μ-loop
-add-n c =
-    let turn : tie.At-loop Inv-loop μ-loop = search in
-    let test : tie.In-loop Inv-loop μ-loop = search in
-    omega (arith, turn .loop .inv .some-left, test .loop-test .taken)
-
-sub-left : tie.Need-sub-left Inv-loop μ-loop
-sub-left c =
-    let test : tie.In-loop Inv-loop μ-loop = search in
-    omega (arith, test .loop-test .taken)
-
-loop-less : tie.Need-loop-less Inv-loop μ-loop
-loop-less c =
-    let test : tie.In-loop Inv-loop μ-loop = search in
-    omega (arith, test .loop-test .taken)
-
 loop-again : tie.Need-loop-again Inv-loop μ-loop
 loop-again c =
+    let start : tie.Start Inv-loop μ-loop = search in
     let turn : tie.At-loop Inv-loop μ-loop = search in
     let test : tie.In-loop Inv-loop μ-loop = search in
     let read : tie.After-get-control Inv-loop μ-loop = search in
     let put : tie.After-put-owned Inv-loop μ-loop = search in
-    controls-more (turn .loop .inv) (test .loop-test .taken) (read .get-control .ensures) (put .put-owned .ensures)
+    controls-more (turn .loop .inv) (test .loop-test .taken) (read .get-control .ensures) (put .put-owned .ensures) (part-as (read .get-control .ensures) (start .args .stream .now) (start .args .rows .now) _ _)
 
 returns : tie.Need-returns Inv-loop μ-loop
 returns c =
     let turn : tie.At-loop Inv-loop μ-loop = search in
     controls-done (turn .loop .inv) (omega arith)
-
-same-length : tie.Need-same-length Inv-loop μ-loop
-same-length c = same (returns c)
 
 pub put-controls-spec : {M : Type 1} → statement M
 put-controls-spec =
@@ -73,9 +60,9 @@ put-controls-spec =
     (λ c κs. search needs)
     put-owned-requires
     add-next
-    add-n
-    sub-left
-    loop-less
+    (λ c. search needs)
+    (λ c. search needs)
+    (λ c. search needs)
     loop-again
-    same-length
+    (λ c. same (returns c))
     returns)

@@ -1,12 +1,14 @@
 use borrow.Author.Needs.{needs}
 use native.Mathlib.Omega.{arith}
-use Rattle.text.proofs.Chain.{same}
-use Rattle.showlines.proofs.Steps.{ControlsLeft, controls-start, controls-few, controls-more, controls-done}
+use Rattle.text.proofs.Chain.{same, _⨟_}
+use Rattle.csvrows.proofs.Turns.{ControlsLeft, controls-start, controls-few, controls-more, controls-done}
+use Rattle.showlines.specs.Rows.{controlText}
+use Rattle.showlines.proofs.Steps.{part-as}
 use Rattle.showlines.proofs.put_controls.Statement.{statement}
 use Rattle.showlines.proofs.put_controls.Tie as tie
 
 abbrev Inv-loop : tie.InvT-loop
-Inv-loop out₀ at index letters table stream controls rows counts p₀ n₀ left₀ next₀ out p n left next = ControlsLeft table stream controls rows counts out₀ at out p n left next
+Inv-loop out₀ at index letters table stream controls rows counts p₀ n₀ left₀ next₀ out p n left next = ControlsLeft (controlText table stream (counts .kind) rows) controls (counts .controls) (counts .own) out₀ at out p n left next
 
 abbrev μ-loop : tie.MeasureT-loop
 μ-loop out₀ at index letters table stream controls rows counts p₀ n₀ left₀ next₀ out p n left next = left
@@ -14,12 +16,7 @@ abbrev μ-loop : tie.MeasureT-loop
 loop-holds : tie.Need-loop-holds Inv-loop μ-loop
 loop-holds c =
     let start : tie.Start Inv-loop μ-loop = search in
-    controls-start (start .pre)
-
-control-line-requires : tie.Need-control-line-requires Inv-loop μ-loop
-control-line-requires c κs =
-    let start : tie.Start Inv-loop μ-loop = search in
-    start .pre .lent
+    controls-start (start .pre .some-left) (start .pre .few)
 
 put-rows-requires : tie.Need-put-rows-requires Inv-loop μ-loop
 put-rows-requires c κs =
@@ -36,23 +33,12 @@ add-next c =
     let read : tie.After-get-control Inv-loop μ-loop = search in
     omega (arith, controls-few (turn .loop .inv) (test .loop-test .taken) (read .get-control .ensures))
 
-add-n : tie.Need-add-n Inv-loop μ-loop
-add-n c =
-    let turn : tie.At-loop Inv-loop μ-loop = search in
-    let test : tie.In-loop Inv-loop μ-loop = search in
-    omega (arith, turn .loop .inv .some-left, test .loop-test .taken)
-
-sub-left : tie.Need-sub-left Inv-loop μ-loop
-sub-left c =
-    let test : tie.In-loop Inv-loop μ-loop = search in
-    omega (arith, test .loop-test .taken)
-
-loop-less : tie.Need-loop-less Inv-loop μ-loop
-loop-less c =
-    let test : tie.In-loop Inv-loop μ-loop = search in
-    omega (arith, test .loop-test .taken)
+-- too far from the end to be found from there
+start-of : tie.At-loop Inv-loop μ-loop → tie.Start Inv-loop μ-loop
+start-of c = search
 
 loop-again : tie.Need-loop-again Inv-loop μ-loop
+unfolding start-of
 loop-again c =
     let turn : tie.At-loop Inv-loop μ-loop = search in
     let test : tie.In-loop Inv-loop μ-loop = search in
@@ -60,15 +46,14 @@ loop-again c =
     let whose : tie.After-control-owner Inv-loop μ-loop = search in
     let line : tie.After-control-line Inv-loop μ-loop = search in
     let put : tie.After-put-rows Inv-loop μ-loop = search in
-    controls-more (turn .loop .inv) (test .loop-test .taken) (read .get-control .ensures) (whose .control-owner .ensures) (line .control-line .ensures) (put .put-rows .ensures)
+    let a = start-of turn .args in
+    controls-more (turn .loop .inv) (test .loop-test .taken) (read .get-control .ensures) (line .control-line .ensures ⨟ put .put-rows .ensures)
+    (part-as (read .get-control .ensures) (a .table .now) (a .stream .now) (a .counts .kind) (a .rows .now) _ _ (whose .control-owner .ensures))
 
 returns : tie.Need-returns Inv-loop μ-loop
 returns c =
     let turn : tie.At-loop Inv-loop μ-loop = search in
     controls-done (turn .loop .inv) (omega arith)
-
-same-length : tie.Need-same-length Inv-loop μ-loop
-same-length c = same (returns c)
 
 pub put-controls-spec : {M : Type 1} → statement M
 put-controls-spec =
@@ -79,12 +64,12 @@ put-controls-spec =
     loop-holds
     (λ c κs. search needs)
     (λ c κs. search needs)
-    control-line-requires
+    (λ c κs. search needs)
     put-rows-requires
     add-next
-    add-n
-    sub-left
-    loop-less
+    (λ c. search needs)
+    (λ c. search needs)
+    (λ c. search needs)
     loop-again
-    same-length
+    (λ c. same (returns c))
     returns)
