@@ -13,9 +13,11 @@ use Rattle.rules.specs.Utf8.{utf8}
 use Rattle.rules.specs.Names.{nameIn, namesFor}
 use Rattle.rules.specs.Listing.{word, markWords, markWord, valueColumn}
 use Rattle.rules.specs.Reading.{propertyRow}
-use Rattle.rules.specs.Csv.{Record, comma, crlf, isData, fieldText, recordText, header, orId, hexText, valueText, propertyRecord}
+use Rattle.rules.specs.Csv.{comma, crlf, isData, fieldText, recordText, header, orId, hexText, valueText, propertyRecord}
 use Rattle.rules.specs.declared.Property.{Property}
 use Rattle.csvlaws.proofs.CsvPlain.{Plain, plain-field, plain-none, decimal-plain, hex-plain, name-for-plain, or-id-plain, mark-plain, value-text-plain}
+use Rattle.text.specs.Writer.{Wrote}
+use Rattle.text.proofs.Chain.{_⨟_, wrote-as}
 use Rattle.values.proofs.Marks.{values}
 use Rattle.csvrecord.specs.Parts.{controlField, typeField, ownedRecord, ownerText, markedText, namedText, valueField, tailText}
 use Rattle.csvrecord.specs.declared.Owner.{Owner}
@@ -83,17 +85,28 @@ module _ {m : ℕ} (k : ℕ) (e : m ≡ k) where
   unfolding markWord
   word-size = rw e
 
-  pub marked : markedText m ≡ comma ∷ getD markWords k (text "loose") ++ (comma ∷ [])
+  pub marked : {o n : List ℕ} {a r : ℕ} → Wrote o a (comma ∷ getD markWords k (text "loose") ++ (comma ∷ [])) n r → Wrote o a (markedText m) n r
   unfolding markedText markWord
-  marked = rw e
+  marked w = rw e w
 
   pub column-size : (low high size : ℕ) (g : List ℕ) → length (valueColumn m low high size g) ≡ length (getD (values low high g) k (decimal size))
   unfolding valueColumn
   column-size low high size g = rw e
 
-pub marked-last : {m : ℕ} → 8 ≤ m → markedText m ≡ comma ∷ text "loose" ++ (comma ∷ [])
+pub marked-last : {m : ℕ} → 8 ≤ m → {o n : List ℕ} {a r : ℕ} → Wrote o a (comma ∷ text "loose" ++ (comma ∷ [])) n r → Wrote o a (markedText m) n r
 unfolding markedText markWord
-marked-last {m} h = ap (λ (l : List ℕ). comma ∷ l ++ (comma ∷ [])) (List·getD-eq-default markWords (text "loose") h)
+marked-last {m} h w = wrote-as w (sym (ap (λ (l : List ℕ). comma ∷ l ++ (comma ∷ [])) (List·getD-eq-default markWords (text "loose") h)))
+
+-- a word and its commas, in the pieces that the code puts
+module _ {o l n : List ℕ} {i j r a b c d e f : ℕ} (first : Wrote o i (a ∷ b ∷ c ∷ d ∷ []) l j) where
+  pub four-two : Wrote l j (e ∷ f ∷ []) n r → Wrote o i (a ∷ b ∷ c ∷ d ∷ e ∷ f ∷ []) n r
+  four-two second = first ⨟ second
+
+  pub four-four : {g h : ℕ} → Wrote l j (e ∷ f ∷ g ∷ h ∷ []) n r → Wrote o i (a ∷ b ∷ c ∷ d ∷ e ∷ f ∷ g ∷ h ∷ []) n r
+  four-four second = first ⨟ second
+
+  pub four-two-one : {m : List ℕ} {k g : ℕ} → Wrote l j (e ∷ f ∷ []) m k → Wrote m k (g ∷ []) n r → Wrote o i (a ∷ b ∷ c ∷ d ∷ e ∷ f ∷ g ∷ []) n r
+  four-two-one second third = first ⨟ second ⨟ third
 
 pub sixteen : (a b : ℕ) → length (hex 8 a ++ hex 8 b) ≡ 16
 unfolding hex
