@@ -19,6 +19,7 @@ use Rattle.csvlaws.proofs.CsvPlain.{Plain, plain-field, plain-none, decimal-pla
 use Rattle.text.specs.Writer.{Wrote}
 use Rattle.text.proofs.Chain.{_⨟_, wrote-as}
 use Rattle.values.proofs.Marks.{values}
+use Rattle.fields.proofs.Tables as tables
 use Rattle.csvrecord.specs.Parts.{controlField, typeField, ownedRecord, ownerText, markedText, namedText, valueField, tailText}
 use Rattle.csvrecord.specs.declared.Owner.{Owner}
 use Rattle.csvrecord.specs.declared.Owner.the-variants.{Object, Control}
@@ -70,6 +71,10 @@ module _ (s : List ℕ) (id : ℕ) where
       go : (l : List ℕ) → (length l ≡ 0 → ⊥) → orId l id ≡ l
       go [] e = absurd (e refl)
       go (b ∷ l) e = refl
+
+-- no table has an id of more than 16 bits
+pub id-alone : (mark id : ℕ) → 65536 ≤ id → orId (nameIn (namesFor mark) id) id ≡ hex 4 id
+id-alone mark id h = no-name (nameIn (namesFor mark) id) id (ap length (tables.absent (namesFor mark) (tables.values mark) id h))
 
 pub four-digits : (n : ℕ) → length (hex 4 n) ≡ 4
 unfolding hex

@@ -1,11 +1,9 @@
 use borrow.Author.Needs.{needs}
 use native.Mathlib.Omega.{arith}
-use mathlib.Core.Path.{_≡_, sym, ap, _∙_}
+use mathlib.Core.Path.{sym, ap, _∙_}
 use lib.ListN.{length}
 use Rattle.rules.specs.Names.{nameIn, namesFor}
-use Rattle.rules.specs.Csv.{orId}
-use Rattle.fields.proofs.Tables.{values, absent}
-use Rattle.csvrecord.proofs.RecordLaws.{no-name, a-name, four-digits}
+use Rattle.csvrecord.proofs.RecordLaws.{id-alone, no-name, a-name, four-digits}
 use Rattle.csvrecord.proofs.property_size.Statement.{statement}
 use Rattle.csvrecord.proofs.property_size.Tie as tie
 
@@ -13,7 +11,7 @@ returns : tie.Need-returns
 returns c =
     let start : tie.Start = search in
     let a = start .args in
-    sym (ap length (no-name (nameIn (namesFor (a .mark)) (a .id)) (a .id) (ap length (absent (namesFor (a .mark)) (values (a .mark)) (a .id) (omega arith)))) ∙ four-digits (a .id))
+    sym (ap length (id-alone (a .mark) (a .id) (omega arith)) ∙ four-digits (a .id))
 
 returns-2 : tie.Need-returns-2
 returns-2 c =
