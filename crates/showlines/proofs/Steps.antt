@@ -14,7 +14,7 @@ use Rattle.rows.specs.declared.ControlRow.{ControlRow}
 use Rattle.csvrows.specs.Rows.{most}
 use Rattle.csvrows.proofs.Turns.{ByWords}
 use Rattle.showlines.specs.Lines.{controlOwner, propertyLine, controlLine}
-use Rattle.showlines.specs.Rows.{rowsText, controlText, markOf, markedFrom, unmappedIn}
+use Rattle.showlines.specs.Rows.{rowsText, controlText, oneIfUnmapped, unmappedFrom, unmappedIn}
 use Rattle.showlines.specs.declared.Owner.{Owner}
 
 -- ---- rows as they are read
@@ -37,17 +37,17 @@ module _ {control : List ℕ} {c : ControlRow} (w : ControlOf control c) where
 
 -- ---- unmapped codes
 module _ (id : ℕ) where
-  pub is-marked : 0x8000 ≤ id → 1 ≡ markOf id
-  unfolding markOf
+  pub is-marked : 0x8000 ≤ id → 1 ≡ oneIfUnmapped id
+  unfolding oneIfUnmapped
   is-marked h = rw (le-leb 0x8000 id h)
 
-  pub isnt-marked : id < 0x8000 → 0 ≡ markOf id
-  unfolding markOf
+  pub isnt-marked : id < 0x8000 → 0 ≡ oneIfUnmapped id
+  unfolding oneIfUnmapped
   isnt-marked h = rw (lt-leb 0x8000 id h)
 
-mark-one : (id : ℕ) → markOf id ≤ 1
-unfolding markOf
-mark-one id = go (leb 0x8000 id)
+one-at-most : (id : ℕ) → oneIfUnmapped id ≤ 1
+unfolding oneIfUnmapped
+one-at-most id = go (leb 0x8000 id)
   where
     go : (b : Bool) → cond b 1 0 ≤ 1
     go true = omega arith
@@ -56,36 +56,36 @@ mark-one id = go (leb 0x8000 id)
 pub record MarkedLeft (rows : List ℕ) (count found i left : ℕ) : Type 0 where
   pub few : i + left ≤ most
   pub fewer : found ≤ i
-  pub rest : found + markedFrom rows i left ≡ markedFrom rows 0 count
+  pub rest : found + unmappedFrom rows i left ≡ unmappedFrom rows 0 count
 
-marked-step : (rows : List ℕ) (i left : ℕ) → 0 < left → markedFrom rows i left ≡ markOf (word (rowAt propertyWidth i rows) 0) + markedFrom rows (i + 1) (left - 1)
-unfolding markedFrom
-marked-step rows i left h = let e : left ≡ suc (left - 1) = omega arith in ap (markedFrom rows i) e
+marked-step : (rows : List ℕ) (i left : ℕ) → 0 < left → unmappedFrom rows i left ≡ oneIfUnmapped (word (rowAt propertyWidth i rows) 0) + unmappedFrom rows (i + 1) (left - 1)
+unfolding unmappedFrom
+marked-step rows i left h = let e : left ≡ suc (left - 1) = omega arith in ap (unmappedFrom rows i) e
 
-marked-end : (rows : List ℕ) (i left : ℕ) → left ≤ 0 → markedFrom rows i left ≡ 0
-unfolding markedFrom
-marked-end rows i left h = let e : left ≡ 0 = omega arith in ap (markedFrom rows i) e
+marked-end : (rows : List ℕ) (i left : ℕ) → left ≤ 0 → unmappedFrom rows i left ≡ 0
+unfolding unmappedFrom
+marked-end rows i left h = let e : left ≡ 0 = omega arith in ap (unmappedFrom rows i) e
 
 pub marked-start : (rows : List ℕ) (count : ℕ) → count ≤ most → MarkedLeft rows count 0 0 count
 marked-start rows count h = record { few = omega arith; fewer = omega arith; rest = omega arith }
 
 module _ {rows : List ℕ} {count found i left : ℕ} (g : MarkedLeft rows count found i left) where
-  module _ (h : 0 < left) {id one : ℕ} (ie : id ≡ word (rowAt propertyWidth i rows) 0) (oe : one ≡ markOf id) where
+  module _ (h : 0 < left) {id one : ℕ} (ie : id ≡ word (rowAt propertyWidth i rows) 0) (oe : one ≡ oneIfUnmapped id) where
     pub marked-few : found + one ≤ most
-    marked-few = omega (arith, g .few, g .fewer, oe, mark-one id)
+    marked-few = omega (arith, g .few, g .fewer, oe, one-at-most id)
 
     pub marked-more : MarkedLeft rows count (found + one) (i + 1) (left - 1)
     marked-more = record {
       few = omega (arith, g .few);
-      fewer = omega (arith, g .fewer, oe, mark-one id);
-      rest = omega (arith, g .rest, marked-step rows i left h, oe ∙ ap markOf ie);
+      fewer = omega (arith, g .fewer, oe, one-at-most id);
+      rest = omega (arith, g .rest, marked-step rows i left h, oe ∙ ap oneIfUnmapped ie);
     }
 
-  pub marked-done : left ≤ 0 → found ≡ markedFrom rows 0 count
+  pub marked-done : left ≤ 0 → found ≡ unmappedFrom rows 0 count
   marked-done h = omega (arith, g .rest, marked-end rows i left h)
 
 module _ (kind : ℕ) (rows : List ℕ) (count : ℕ) where
-  pub unmapped-2000 : kind < 2 → markedFrom rows 0 count ≡ unmappedIn kind rows count
+  pub unmapped-2000 : kind < 2 → unmappedFrom rows 0 count ≡ unmappedIn kind rows count
   unfolding unmappedIn
   unmapped-2000 h = rw (lt-ltb kind 2 h)
 

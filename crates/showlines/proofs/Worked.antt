@@ -15,7 +15,7 @@ use Rattle.rules.specs.Csv.{orId, hexText}
 use Rattle.rules.specs.Listing.{number32}
 use Rattle.showtext.specs.Shown.{within, isTurning, isHidden, written, spelled, letters, quoted, cutMark, firstBytes, bytesText, looseText, valueBy}
 use Rattle.showlines.specs.Lines.{readingText, firstLine, blanks, owner, objectOwner, headerMark, storedType, controlOwner, scopeText, isUnmapped, unmappedText, keyText, propertyLine, orCode, typeText, nameText, controlLine}
-use Rattle.showlines.specs.Rows.{markOf, markedFrom, unmappedIn}
+use Rattle.showlines.specs.Rows.{oneIfUnmapped, unmappedFrom, unmappedIn}
 
 first : firstLine 0 9 43 2 ≡ text "Access 2000 form, 9 controls, 43 properties, 2 unmapped\n"
 unfolding firstLine readingText decimal decimalBy digit
@@ -56,7 +56,7 @@ other-scope = refl
 
 -- two of three rows have the mark
 marked-rows : unmappedIn 0 (0x8001 ∷ 0 ∷ 0 ∷ 0 ∷ 0 ∷ 0 ∷ 0x7FFF ∷ 0 ∷ 0 ∷ 0 ∷ 0 ∷ 0 ∷ 0x8000 ∷ 0 ∷ 0 ∷ 0 ∷ 0 ∷ 0 ∷ []) 3 ≡ 2
-unfolding unmappedIn markedFrom markOf
+unfolding unmappedIn unmappedFrom oneIfUnmapped
 marked-rows = refl
 
 -- ---- controls: by name, numbered, loose

@@ -22,17 +22,17 @@ controlText t stream kind rows n control first = controlLine stream n control ++
 abbrev pub controlsText : List ℕ → List ℕ → ℕ → List ℕ → List ℕ → ℕ → ℕ → ℕ → List ℕ
 controlsText t stream kind controls rows n k first = partsFrom (controlText t stream kind rows) controls n k first
 
--- how many of k rows from row i on have an id with the mark 0x8000
-unfoldable pub markOf : ℕ → ℕ
-markOf id = cond (leb 0x8000 id) 1 0
+-- how many of k rows from row i on show a raw code: an id with the mark 0x8000
+unfoldable pub oneIfUnmapped : ℕ → ℕ
+oneIfUnmapped id = cond (leb 0x8000 id) 1 0
 
-unfoldable pub markedFrom : List ℕ → ℕ → ℕ → ℕ
-markedFrom rows i zero = 0
-markedFrom rows i (suc k) = markOf (word (rowAt propertyWidth i rows) 0) + markedFrom rows (i + 1) k
+unfoldable pub unmappedFrom : List ℕ → ℕ → ℕ → ℕ
+unmappedFrom rows i zero = 0
+unmappedFrom rows i (suc k) = oneIfUnmapped (word (rowAt propertyWidth i rows) 0) + unmappedFrom rows (i + 1) k
 
 -- in the later layout no code is looked up
 unfoldable pub unmappedIn : ℕ → List ℕ → ℕ → ℕ
-unmappedIn kind rows properties = cond (ltb kind 2) (markedFrom rows 0 properties) 0
+unmappedIn kind rows properties = cond (ltb kind 2) (unmappedFrom rows 0 properties) 0
 
 -- the first line, the object with its own properties, the controls with theirs
 unfoldable pub slicesText : List ℕ → List ℕ → List ℕ → List ℕ → Counts → List ℕ

@@ -40,7 +40,7 @@ ghost use Rattle.rows.specs.Put.{controlWords};
 ghost use Rattle.text.specs.Writer.{Wrote};
 ghost use Rattle.csvrows.specs.Rows.{RowsReady, ControlsReady};
 ghost use Rattle.showlines.specs.Lines.{laterKind, readingKind, readingText, firstLine, objectLine, blanks, objectOwner, headerMark, storedType, controlOwner, scopeText, isUnmapped, unmappedText, keyText, propertyLine, orCode, typeText, nameText, controlLine};
-ghost use Rattle.showlines.specs.Rows.{rowsText, controlsText, markOf, markedFrom, unmappedIn, slicesText};
+ghost use Rattle.showlines.specs.Rows.{rowsText, controlsText, oneIfUnmapped, unmappedFrom, unmappedIn, slicesText};
 ghost use Rattle.showlines.specs.Shown.{shownBy, shownBlob, shownPaired, infoLine, ReadReady};
 ghost use Rattle.blob.specs.Exit.{exited};
 
@@ -432,21 +432,21 @@ fn put_controls(
 }
 
 // ---- the whole
-fn mark_of(id: u32) -> u32
-    ensures { λ r. ⌜ r ≡ markOf id ⌝ }
+fn one_if_unmapped(id: u32) -> u32
+    ensures { λ r. ⌜ r ≡ oneIfUnmapped id ⌝ }
 {
     if UNMAPPED <= id { 1 } else { 0 }
 }
 
 // How many of the first `count` rows have the mark of an unmapped code.
 fn marked(rows: &[u32], count: u32) -> u32
-    ensures { λ r. ⌜ r ≡ markedFrom (now (rows .entry)) 0 count ⌝ }
+    ensures { λ r. ⌜ r ≡ unmappedFrom (now (rows .entry)) 0 count ⌝ }
 {
     let mut found: u32 = 0;
     let mut i: u32 = 0;
     let mut left = count;
     while 0 < left {
-        found = found + mark_of(get_id(rows, i));
+        found = found + one_if_unmapped(get_id(rows, i));
         i = i + 1;
         left = left - 1;
     }

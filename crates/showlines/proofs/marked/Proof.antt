@@ -20,8 +20,8 @@ add-found c =
     let turn : tie.At-loop Inv-loop μ-loop = search in
     let test : tie.In-loop Inv-loop μ-loop = search in
     let read : tie.After-get-id Inv-loop μ-loop = search in
-    let told : tie.After-mark-of Inv-loop μ-loop = search in
-    omega (arith, marked-few (turn .loop .inv) (test .loop-test .taken) (read .get-id .ensures) (told .mark-of .ensures))
+    let told : tie.After-one-if-unmapped Inv-loop μ-loop = search in
+    omega (arith, marked-few (turn .loop .inv) (test .loop-test .taken) (read .get-id .ensures) (told .one-if-unmapped .ensures))
 
 add-i : tie.Need-add-i Inv-loop μ-loop
 add-i c =
@@ -44,8 +44,8 @@ loop-again c =
     let turn : tie.At-loop Inv-loop μ-loop = search in
     let test : tie.In-loop Inv-loop μ-loop = search in
     let read : tie.After-get-id Inv-loop μ-loop = search in
-    let told : tie.After-mark-of Inv-loop μ-loop = search in
-    marked-more (turn .loop .inv) (test .loop-test .taken) (read .get-id .ensures) (told .mark-of .ensures)
+    let told : tie.After-one-if-unmapped Inv-loop μ-loop = search in
+    marked-more (turn .loop .inv) (test .loop-test .taken) (read .get-id .ensures) (told .one-if-unmapped .ensures)
 
 returns : tie.Need-returns Inv-loop μ-loop
 returns c =
