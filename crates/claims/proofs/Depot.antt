@@ -31,7 +31,7 @@ use Rattle.rules.proofs.OpenTotals.{totals-open}
 use Rattle.rules.proofs.ListLaws.{none-some}
 use Rattle.rules.proofs.CodeTableLaws.{unmapped-large, found-held, target-small}
 use Rattle.rules.proofs.Read2000Laws.{shownAt, properties-from}
-use Rattle.totallaws.proofs.RowsOf.{rows-from-words}
+use Rattle.rules.proofs.RowsLaws.{rows-from-words}
 use Rattle.rules.proofs.ReadingLaws.{controls-wide, properties-wide, controls-counted, properties-counted}
 use Rattle.totallaws.proofs.TallyLaws.{many-map, many-not, many-none, tally-map, tally-all, tally-more, tally-nothing}
 use Rattle.totallaws.proofs.MarkLaws.{reading-marked, marked-once}

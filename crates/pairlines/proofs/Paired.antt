@@ -20,7 +20,7 @@ use Rattle.rules.specs.Blob.{Outcome, refused, read, speaks2000, outcomeLater, 
 use Rattle.rules.specs.Pairing.{infosIn, typesSet, mayPair, pairExit}
 use Rattle.rules.specs.Listing.{answerLine, word, controlLine, linesFrom}
 use Rattle.rules.specs.declared.Answer.{Answer}
-use Rattle.rules.proofs.RowsLaws.{Wide}
+use Rattle.rules.proofs.RowsLaws.{Wide, rows-back}
 use Rattle.rules.proofs.ReadingLaws.{controls-wide, controls-counted}
 use Rattle.rules.proofs.PairingLaws.{fair, lent, pair-yes, pair-no, pair-again}
 use Rattle.claims.specs.Pairing.{NeverRefused}
@@ -38,7 +38,7 @@ use Rattle.infolines.proofs.Printed.{read as info-read}
 use Rattle.pairlines.specs.Pairs.{pairedLine, isUnpaired, unpairedLine, countLine, pairedLines, blobPaired, pairPrinted, pairListed, longestUnpaired}
 use Rattle.pairlines.specs.Told.{tally, unpairedTo, linesIn, Paired, Listed}
 use Rattle.pairlines.proofs.UnpairedLaws.{same-line, same-tally}
-use Rattle.pairlines.proofs.RowLaws.{rows-back, lines-paired, lines-stay, tally-kept}
+use Rattle.pairlines.proofs.RowLaws.{lines-paired, lines-stay, tally-kept}
 use Rattle.pairlines.proofs.Longest.{unpaired-most, tally-most, count-short}
 
 -- ---- what a later Blob's reader gives

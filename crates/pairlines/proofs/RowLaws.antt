@@ -7,19 +7,13 @@ use native.Mathlib.Omega.{arith}
 use lib.ListN.{length, getD, drop}
 use lib.Seq.{getD-drop}
 use Rattle.rules.specs.Lists.{keep}
-use Rattle.rules.specs.Rows.{controlWidth, written, rowAt, rowsFrom}
+use Rattle.rules.specs.Rows.{controlWidth, rowAt}
 use Rattle.rules.specs.Listing.{word, controlLine, linesFrom}
 use Rattle.rules.specs.Pairing.{markOf, startOf, sizeOf, pairedType, typesSet}
-use Rattle.rules.proofs.RowsLaws.{Wide, written-is}
-use Rattle.rules.proofs.PairingLaws.{word-at, other-stays, type-set}
-use Rattle.totallaws.proofs.RowsOf.{rows-from-words}
+use Rattle.rules.proofs.PairingLaws.{word-at, type-set, word-stays}
 use Rattle.listing.specs.Shown.{linesTo}
 use Rattle.pairlines.specs.Pairs.{pairedLine, isUnpaired}
 use Rattle.pairlines.specs.Told.{tally}
-
--- ---- rows that were written are read back
-pub rows-back : (w : ℕ) (rows : List (List ℕ)) → Wide w rows → (old : List ℕ) → length rows * w ≤ length old → rowsFrom w 0 (length rows) (written rows old) ≡ rows
-rows-back w rows wide old fits = ap (rowsFrom w 0 (length rows)) (written-is w rows wide old fits) ∙ rows-from-words w rows (drop (length rows * w) old) wide
 
 -- ---- lines that are the same row by row
 lines-same : (f g : ℕ → List ℕ → List ℕ) (w : ℕ) (a b : List ℕ) (n : ℕ) → ((k : ℕ) → k < n → f k (rowAt w k a) ≡ g k (rowAt w k b)) → linesTo f w n a ≡ linesTo g w n b
@@ -49,18 +43,12 @@ module _ (s t : List ℕ) (infos : List (List ℕ)) (n : ℕ) (old : List ℕ) (
   first-word : (k : ℕ) → k < n → word (rowAt controlWidth k now) 0 ≡ pairedType s t infos (rowAt controlWidth k old)
   first-word k l = word-at controlWidth k 0 now (omega arith) ∙ ap (λ (i : ℕ). getD now i 0) (let z : k * controlWidth + 0 ≡ k * controlWidth = omega arith in z) ∙ type-set s t infos old n fits k l
 
-  other-word : (k i : ℕ) → 0 < i → i < controlWidth → word (rowAt controlWidth k now) i ≡ word (rowAt controlWidth k old) i
-  other-word k i first last =
-      word-at controlWidth k i now last
-      ∙ other-stays s t infos old n (k * controlWidth + i) (λ j u e. omega arith)
-      ∙ sym (word-at controlWidth k i old last)
-
   paired-word : (k : ℕ) → k < n → (i : ℕ) → i < controlWidth
       → word (rowAt controlWidth k now) i ≡ word (pairedType s t infos (rowAt controlWidth k old) ∷ drop 1 (rowAt controlWidth k old)) i
   paired-word k l zero h = first-word k l
   paired-word k l (suc i) h =
       let z : suc i ≡ 1 + i = omega arith in
-      other-word k (suc i) (omega arith) h ∙ ap (λ (j : ℕ). word (rowAt controlWidth k old) j) z ∙ sym (getD-drop 1 (rowAt controlWidth k old) i 0)
+      word-stays s t infos old n fits k (suc i) (omega arith) h ∙ ap (λ (j : ℕ). word (rowAt controlWidth k old) j) z ∙ sym (getD-drop 1 (rowAt controlWidth k old) i 0)
 
   pub lines-paired : linesTo (controlLine s) controlWidth n now ≡ linesTo (pairedLine s t infos) controlWidth n old
   lines-paired = lines-same (controlLine s) (pairedLine s t infos) controlWidth now old n (λ k l. same-control s k _ _ (paired-word k l))
@@ -69,8 +57,9 @@ module _ (s t : List ℕ) (infos : List (List ℕ)) (n : ℕ) (old : List ℕ) (
   pub lines-stay : (f : ℕ → List ℕ → List ℕ) → ((a b : List ℕ) → markOf a ≡ markOf b → startOf a ≡ startOf b → sizeOf a ≡ sizeOf b → (k : ℕ) → f k a ≡ f k b)
       → linesTo f controlWidth n now ≡ linesTo f controlWidth n old
   lines-stay f same =
+      let stays = word-stays s t infos old n fits in
       lines-same f f controlWidth now old n λ k l.
-      same _ _ (other-word k 1 (omega arith) (omega arith)) (other-word k 2 (omega arith) (omega arith)) (other-word k 3 (omega arith) (omega arith)) k
+      same _ _ (stays k 1 (omega arith) (omega arith)) (stays k 2 (omega arith) (omega arith)) (stays k 3 (omega arith) (omega arith)) k
 
 -- ---- how many found no row
 module _ (s t : List ℕ) (infos : List (List ℕ)) where

@@ -122,7 +122,7 @@ module _ (s t : List ℕ) (infos : List (List ℕ)) (l : List ℕ) (n : ℕ) (fi
   now = typesSet s t infos n l
 
   -- every word of a row but its first
-  word-stays : (k i : ℕ) → 0 < i → i < controlWidth → word (rowAt controlWidth k now) i ≡ word (rowAt controlWidth k l) i
+  pub word-stays : (k i : ℕ) → 0 < i → i < controlWidth → word (rowAt controlWidth k now) i ≡ word (rowAt controlWidth k l) i
   word-stays k i first last =
       word-at controlWidth k i now last
       ∙ other-stays s t infos l n (k * controlWidth + i) (λ j u e. omega arith)

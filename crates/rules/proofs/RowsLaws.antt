@@ -2,12 +2,12 @@
 use Prim.Native.Nat.{ℕ, zero, suc, _+_, _*_, _≤_, _<_}
 use native.Mathlib.Omega.{arith}
 use native.Mathlib.Nat.{zero-add, zero-mul, add-comm, suc-mul}
-use mathlib.Core.Path.{_≡_, sym, ap, _∙_}
+use mathlib.Core.Path.{_≡_, refl, sym, ap, ap₂, _∙_}
 use mathlib.Core.List.{List, [], _∷_, _++_, append-assoc}
 use lib.ListN.{length, getD, take, drop, length-append}
 use lib.Seq.{sets-eq, take-at, drop-at, drop-drop}
 use Rattle.rules.specs.Lists.{concat}
-use Rattle.rules.specs.Rows.{written, rowAt}
+use Rattle.rules.specs.Rows.{written, rowAt, rowsFrom}
 
 -- every row has w words
 abbrev pub Wide : ℕ → List (List ℕ) → Type 0
@@ -47,3 +47,18 @@ row-of-words w (r ∷ rs) rest h (suc i) l =
 pub row-written : (w : ℕ) (rows : List (List ℕ)) → Wide w rows → (old : List ℕ) → length rows * w ≤ length old
     → (i : ℕ) → i < length rows → rowAt w i (written rows old) ≡ getD rows i []
 row-written w rows wide old fits i l = ap (rowAt w i) (written-is w rows wide old fits) ∙ row-of-words w rows _ wide i l
+
+-- ---- and all of them, one after the other
+row-by-row : (w i : ℕ) (rows : List (List ℕ)) (words : List ℕ) → ((k : ℕ) → k < length rows → rowAt w (i + k) words ≡ getD rows k []) → rowsFrom w i (length rows) words ≡ rows
+unfolding rowsFrom
+row-by-row w i [] words h = refl
+row-by-row w i (r ∷ rs) words h =
+    let first : rowAt w i words ≡ r = ap (λ (j : ℕ). rowAt w j words) (omega arith) ∙ h 0 (omega arith) in
+    let rest : rowsFrom w (i + 1) (length rs) words ≡ rs = row-by-row w (i + 1) rs words (λ k u. ap (λ (j : ℕ). rowAt w j words) (omega arith) ∙ h (suc k) (omega arith)) in
+    ap₂ (λ (x : List ℕ) (xs : List (List ℕ)). x ∷ xs) first rest
+
+pub rows-from-words : (w : ℕ) (rows : List (List ℕ)) (rest : List ℕ) → Wide w rows → rowsFrom w 0 (length rows) (concat rows ++ rest) ≡ rows
+rows-from-words w rows rest h = row-by-row w 0 rows (concat rows ++ rest) (λ k u. ap (λ (j : ℕ). rowAt w j (concat rows ++ rest)) (omega arith) ∙ row-of-words w rows rest h k u)
+
+pub rows-back : (w : ℕ) (rows : List (List ℕ)) → Wide w rows → (old : List ℕ) → length rows * w ≤ length old → rowsFrom w 0 (length rows) (written rows old) ≡ rows
+rows-back w rows wide old fits = ap (rowsFrom w 0 (length rows)) (written-is w rows wide old fits) ∙ rows-from-words w rows _ wide

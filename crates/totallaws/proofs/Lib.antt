@@ -2,4 +2,3 @@
 pub mod TallyLaws
 pub mod MarkLaws
 pub mod TotalsLaws
-pub mod RowsOf
