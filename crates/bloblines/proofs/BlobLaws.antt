@@ -21,10 +21,11 @@ use Rattle.text.specs.Writer.{Wrote}
 use Rattle.text.proofs.Chain.{nothing, _⨟_}
 use Rattle.rows.proofs.GetLaws.{word-in}
 use Rattle.listing.specs.Shown.{linesTo, shown}
+use Rattle.listing.specs.Written.{Written}
 use Rattle.listing.specs.Bound.{longestAnswer, longestControl, longestProperty}
 use Rattle.listing.proofs.Printed.{Stated, outcome-stated, printed-shown}
 use Rattle.listing.proofs.Longest.{Word32, answer-short, control-short, property-short, lines-short}
-use Rattle.bloblines.specs.Blobs.{linesIn, mostIn, Written}
+use Rattle.bloblines.specs.Blobs.{linesIn, mostIn}
 
 -- ---- counts with the answer 0 are within the room
 room-by : (c p : ℕ) (o : Outcome) → Stated c p o → answerOf o .number ≡ 0 → (answerOf o .first ≤ c) × (answerOf o .second ≤ p)

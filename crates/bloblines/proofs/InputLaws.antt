@@ -9,9 +9,10 @@ use lib.Seq.{take-all}
 use Rattle.rules.specs.Answer.{refusal}
 use Rattle.rules.specs.Listing.{answerLine, tableLength, tableIn, blobIn}
 use Rattle.text.specs.Writer.{Wrote}
+use Rattle.listing.specs.Written.{Written}
 use Rattle.listing.specs.Bound.{longestAnswer}
 use Rattle.listing.proofs.Longest.{answer-short}
-use Rattle.bloblines.specs.Blobs.{longestBlob, blobListed, linesIn, listedIn, mostIn, Written}
+use Rattle.bloblines.specs.Blobs.{longestBlob, blobListed, linesIn, listedIn, mostIn}
 
 pub refusal-short : (k : ℕ) → k < 11 → length (answerLine (refusal k)) ≤ longestAnswer
 refusal-short k h = answer-short (refusal k) (omega arith) (omega arith) (omega arith) (omega arith)

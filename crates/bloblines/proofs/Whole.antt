@@ -10,8 +10,9 @@ use Rattle.rules.specs.Answer.{refusal}
 use Rattle.rules.specs.Listing.{answerLine, blobIn, listing}
 use Rattle.text.specs.Writer.{Wrote}
 use Rattle.listing.proofs.Printed.{listing-long}
+use Rattle.listing.specs.Written.{Written}
 use Rattle.listing.specs.Bound.{longestLines, longestListing}
-use Rattle.bloblines.specs.Blobs.{longestBlob, blobListed, Written}
+use Rattle.bloblines.specs.Blobs.{longestBlob, blobListed}
 use Rattle.bloblines.specs.Listed.{listed}
 use Rattle.bloblines.proofs.InputLaws.{refusal-short}
 

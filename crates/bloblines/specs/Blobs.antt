@@ -1,5 +1,5 @@
 -- The listing of a larger Blob: the bytes that `bloblist` prints. The lines are those of `formlist`.
-use Prim.Native.Nat.{ℕ, _+_, _≤_}
+use Prim.Native.Nat.{ℕ, _+_}
 use mathlib.Core.Bool.{cond}
 use mathlib.Core.List.{List}
 use lib.Dec.{ltb}
@@ -8,7 +8,6 @@ use Rattle.rules.specs.Answer.{refusal, tooLong, badTable}
 use Rattle.rules.specs.Rows.{controlWidth, propertyWidth, room}
 use Rattle.rules.specs.Blob.{outcome}
 use Rattle.rules.specs.Listing.{answerLine, printed, tableLength, tableIn, blobIn}
-use Rattle.text.specs.Writer.{Wrote}
 use Rattle.listing.specs.Bound.{longestLines}
 
 -- the longest Blob that is listed, and how many controls and properties there is room for
@@ -45,8 +44,3 @@ listedIn input controls properties = blobListed input (room controlWidth control
 
 abbrev pub mostIn : List ℕ → List ℕ → ℕ
 mostIn controls properties = longestLines (room controlWidth controls) (room propertyWidth properties)
-
--- a text written from the start of a buffer on, and no longer than `most`
-pub record Written (old text : List ℕ) (most : ℕ) (new : List ℕ) (end : ℕ) : Type 0 where
-  pub wrote : Wrote old 0 text new end
-  pub short : length text ≤ most

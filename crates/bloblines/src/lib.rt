@@ -7,7 +7,8 @@ use rules::BAD_TABLE;
 use rules::TOO_LONG;
 ghost use Rattle.names.specs.Lookup.{Lent};
 ghost use Rattle.listing.specs.Bound.{longestListing};
-ghost use Rattle.bloblines.specs.Blobs.{linesIn, listedIn, mostIn, Written};
+ghost use Rattle.listing.specs.Written.{Written};
+ghost use Rattle.bloblines.specs.Blobs.{linesIn, listedIn, mostIn};
 ghost use Rattle.bloblines.specs.Listed.{listed};
 
 // The longest Blob that is listed.

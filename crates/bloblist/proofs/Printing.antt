@@ -1,12 +1,12 @@
 -- What is printed is the listing of all that standard input had, and a short input has it in little room.
 use mathlib.Core.Path.{_≡_, refl, sym, ap, _∙_}
-use mathlib.Core.Bool.{false, cond}
+use mathlib.Core.Bool.{cond}
 use mathlib.Core.List.{List}
 use Prim.Native.Nat.{ℕ, _+_, _*_, _≤_, _<_}
 use native.Mathlib.Omega.{arith}
 use borrow.Author.Tests.{lt-ltb, le-ltb}
 use lib.Dec.{ltb}
-use lib.ListN.{length, take, length-drop}
+use lib.ListN.{length, length-drop}
 use Rattle.rules.specs.Answer.{refusal, tooLong, badTable}
 use Rattle.rules.specs.Rows.{controlWidth, propertyWidth, room}
 use Rattle.rules.specs.NameTables.{textNames, numberNames, bytesNames, controlTypeNames}
@@ -16,10 +16,7 @@ use Rattle.rules.specs.Listing.{answerLine, printed, tableLength, tableIn, blob
 use Rattle.claims.specs.Rooms.{Never, Lent}
 use Rattle.claims.proofs.Rooms.{rooms}
 use Rattle.listing.specs.Bound.{longestIn, longestType, longestName, longestAnswer, longestControl, longestProperty}
-use Rattle.listing.proofs.Placed.{held}
-use Rattle.inputs.specs.Begun.{Begun}
-use Rattle.inputs.proofs.Came.{all-read}
-use Rattle.bloblines.specs.Blobs.{longestBlob, controlRoom, propertyRoom, blobListed, longestInput, blobListing, listedIn, mostIn, Written}
+use Rattle.bloblines.specs.Blobs.{longestBlob, controlRoom, propertyRoom, blobListed, longestInput, blobListing, listedIn, mostIn}
 use Rattle.bloblines.proofs.BlobLaws.{same-outcome}
 use Rattle.bloblist.specs.Space.{Roomy}
 
@@ -31,13 +28,8 @@ pub too-long : (s : List ℕ) → longestInput < length s → blobListing s ≡ 
 unfolding blobListing
 too-long s h = rw (lt-ltb longestInput (length s) h)
 
-pub all-printed : {s cs ps old new : List ℕ} {end : ℕ} → Written old (listedIn s cs ps) (mostIn cs ps) new end → Roomy s cs ps old
-    → (input : List ℕ) → Begun s false input → take end new ≡ blobListing input
-all-printed {s} w r input b =
-    held (w .wrote) (omega (arith, w .short, r .for-lines))
-    ∙ r .same
-    ∙ sym (not-long s (r .short))
-    ∙ ap blobListing (all-read b refl)
+pub all-listed : {s cs ps out : List ℕ} → Roomy s cs ps out → listedIn s cs ps ≡ blobListing s
+all-listed {s} r = r .same ∙ sym (not-long s (r .short))
 
 -- ---- the longest lines, computed from the name tables
 lines-are : (longestControl ≡ 91) × (longestProperty ≡ 95)

@@ -9,8 +9,9 @@ ghost use mathlib.Core.List.{List};
 ghost use Prim.Native.Nat.{ℕ, _*_, _≤_, _<_};
 ghost use lib.ListN.{length};
 ghost use Rattle.rules.specs.Rows.{controlWidth, propertyWidth};
+ghost use Rattle.listing.specs.Written.{Written};
 ghost use Rattle.inputs.specs.Begun.{Begun};
-ghost use Rattle.bloblines.specs.Blobs.{controlRoom, propertyRoom, longestInput, blobListing, listedIn, mostIn, Written};
+ghost use Rattle.bloblines.specs.Blobs.{controlRoom, propertyRoom, longestInput, blobListing, listedIn, mostIn};
 ghost use Rattle.bloblist.specs.Space.{Roomy};
 
 // Of the large arrays only the length is told, since a proof that computed with their elements would not end.

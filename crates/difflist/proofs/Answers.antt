@@ -27,10 +27,11 @@ use Rattle.joinwhy.specs.Why.{lackText, why}
 use Rattle.joinwhy.proofs.Longest.{lack-short, why-short}
 use Rattle.text.specs.Writer.{Wrote}
 use Rattle.text.proofs.Chain.{nothing, _⨟_}
+use Rattle.listing.specs.Written.{Written}
 use Rattle.listing.specs.Shown.{linesTo}
 use Rattle.listing.proofs.Longest.{Word32, lines-short}
 use Rattle.difflist.specs.Lines.{differenceLine, whyNot}
-use Rattle.difflist.specs.Listed.{named, saidBy, said, mostSaid, Written}
+use Rattle.difflist.specs.Listed.{named, saidBy, said, mostSaid}
 use Rattle.difflist.proofs.Words.{line-short}
 
 -- ---- the cases

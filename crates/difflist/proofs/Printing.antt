@@ -5,14 +5,15 @@ use mathlib.Core.Path.{_≡_, sym, ap, _∙_}
 use mathlib.Core.List.{List}
 use borrow.Author.Tests.{lt-ltb, le-ltb}
 use lib.ListN.{length, take, drop, length-drop, length-replicate}
-use lib.Seq.{take-all, take-at}
+use lib.Seq.{take-all}
 use Rattle.rules.specs.Answer.{refusal, badTable}
 use Rattle.rules.specs.Listing.{answerLine, tableLength, tableIn, blobIn}
+use Rattle.listing.specs.Written.{Written}
 use Rattle.listing.proofs.Longest.{answer-short}
-use Rattle.listing.proofs.Placed.{held}
 use Rattle.text.specs.Writer.{Wrote}
-use Rattle.tabletext.specs.Input.{Began, whole, filled}
-use Rattle.difflist.specs.Listed.{afterLength, listed, listedIn, listedOf, mostRead, mostSaid, lentFor, zeros, smallRows, smallControls, smallProperties, smallSaid, largeRows, largeControls, largeProperties, largeSaid, Ready, Written}
+use Rattle.tabletext.specs.Input.{Began}
+use Rattle.tabletext.proofs.Told.{first-printed}
+use Rattle.difflist.specs.Listed.{afterLength, listed, listedIn, listedOf, mostRead, mostSaid, lentFor, zeros, smallRows, smallControls, smallProperties, smallSaid, largeRows, largeControls, largeProperties, largeSaid, Ready}
 
 -- ---- a table after its length
 refusal-short : (rows : List ℕ) → length (answerLine (refusal badTable)) ≤ mostSaid rows
@@ -84,15 +85,11 @@ module _ {input rows cs ps out : List ℕ} where
   }
 
 -- ---- of the input no more than what is read counts
-of-read : {read all : List ℕ} → length read ≤ mostRead → Began mostRead read all → listedIn read ≡ listedOf all
-unfolding listedOf
-of-read {read} h whole = ap listedIn (sym (take-all mostRead read h))
-of-read {read} h (filled k rest) = let e : length read ≡ mostRead = omega arith in ap listedIn (sym (take-at read rest mostRead e))
-
 lent-is : {read rows cs ps out : List ℕ} → Ready read rows cs ps out → listed read rows cs ps ≡ listedIn read
 unfolding listedIn
 lent-is {read} {rows} {cs} {ps} r = λ i. listed read (sym (r .for-rows) i) (sym (r .for-controls) i) (sym (r .for-properties) i)
 
 pub all-printed : {read rows cs ps old new : List ℕ} {end : ℕ} → Written old (listed read rows cs ps) (mostSaid rows) new end → Ready read rows cs ps old
     → (all : List ℕ) → Began mostRead read all → take end new ≡ listedOf all
-all-printed w r all b = held (w .wrote) (omega (arith, w .short, r .for-lines)) ∙ lent-is r ∙ of-read (r .short) b
+unfolding listedOf
+all-printed w r = first-printed listedIn w (r .for-lines) (lent-is r) (r .short)

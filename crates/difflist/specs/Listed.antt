@@ -11,7 +11,6 @@ use Rattle.rules.specs.Blob.{Exit, exit}
 use Rattle.rules.specs.Differences.{DifferencesExit, differencesExit}
 use Rattle.rules.specs.Listing.{answerLine, tableLength, tableIn, blobIn}
 use Rattle.listing.specs.Shown.{linesTo}
-use Rattle.text.specs.Writer.{Wrote}
 use Rattle.difflist.specs.Lines.{differenceLine, whyNot}
 
 -- ---- of two tables and a stream
@@ -98,8 +97,3 @@ pub record Ready (input rows controls properties out : List ℕ) : Type 0 where
   pub for-controls : lentFor input smallControls largeControls ≡ controls
   pub for-properties : lentFor input smallProperties largeProperties ≡ properties
   pub for-lines : mostSaid rows ≤ length out
-
--- what is written, and that it is no longer than `most`
-pub record Written (old text : List ℕ) (most : ℕ) (new : List ℕ) (end : ℕ) : Type 0 where
-  pub wrote : Wrote old 0 text new end
-  pub short : length text ≤ most

@@ -28,9 +28,10 @@ ghost use Rattle.rules.specs.Rows.{differenceWidth, rowAt};
 ghost use Rattle.rules.specs.Listing.{word};
 ghost use Rattle.text.specs.Writer.{Wrote};
 ghost use Rattle.listing.specs.Shown.{linesTo};
+ghost use Rattle.listing.specs.Written.{Written};
 ghost use Rattle.tabletext.specs.Input.{Began};
 ghost use Rattle.difflist.specs.Lines.{spaced, differenceLine, whyNot};
-ghost use Rattle.difflist.specs.Listed.{said, listedAfter, listed, listedOf, mostRead, mostSaid, zeros, smallRows, smallControls, smallProperties, smallSaid, largeRows, largeControls, largeProperties, largeSaid, Ready, Written};
+ghost use Rattle.difflist.specs.Listed.{said, listedAfter, listed, listedOf, mostRead, mostSaid, zeros, smallRows, smallControls, smallProperties, smallSaid, largeRows, largeControls, largeProperties, largeSaid, Ready};
 
 // One byte more is read than two tables and the longest stream have with the lengths, so that a longer one is told.
 const SPACE: usize = 8 + 131072 + LONGEST + 1;

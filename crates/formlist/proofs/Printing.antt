@@ -8,9 +8,9 @@ use lib.ListN.{length, take, length-append}
 use Rattle.rules.specs.NameTables.{textNames, numberNames, bytesNames, controlTypeNames}
 use Rattle.rules.specs.Listing.{listing}
 use Rattle.listing.specs.Bound.{longestIn, longestType, longestName, longestListing}
-use Rattle.listing.proofs.Placed.{held}
+use Rattle.listing.specs.Written.{Written}
+use Rattle.listing.proofs.Placed.{held-whole}
 use Rattle.listing.proofs.Printed.{listing-long}
-use Rattle.bloblines.specs.Blobs.{Written}
 use Rattle.bloblines.specs.Listed.{listed}
 use Rattle.inputs.specs.Begun.{Begun, whole, longer}
 
@@ -27,4 +27,4 @@ listed-is h (longer {read} b rest) = sym (listing-long (read ++ (b ∷ rest)) (s
 
 pub all-printed : {read old new : List ℕ} {more : Bool} {end : ℕ} → Written old (listed read more) longestListing new end → longestListing ≤ length old
     → (more ≡ true → 32768 ≤ length read) → (input : List ℕ) → Begun read more input → take end new ≡ listing input
-all-printed w room h input b = held (w .wrote) (omega (arith, w .short)) ∙ listed-is h b
+all-printed w room h input b = held-whole w room ∙ listed-is h b

@@ -1,5 +1,5 @@
 -- What is printed is the listing of all that standard input had.
-use mathlib.Core.Path.{_≡_, refl, ap, _∙_}
+use mathlib.Core.Path.{_≡_}
 use mathlib.Core.Bool.{false}
 use mathlib.Core.List.{List}
 use Prim.Native.Nat.{ℕ, _*_, _-_, _/_, _≤_}
@@ -9,9 +9,8 @@ use Rattle.rules.specs.Bytes.{Bytes}
 use Rattle.rules.specs.Rows.{typeInfoWidth, room}
 use Rattle.rules.specs.Room.{typeInfoRoom}
 use Rattle.text.specs.Writer.{Wrote}
-use Rattle.listing.proofs.Placed.{held}
 use Rattle.inputs.specs.Begun.{Begun}
-use Rattle.inputs.proofs.Came.{all-read}
+use Rattle.inputs.proofs.Came as came
 use Rattle.infolines.specs.Infos.{infoPrinted, longestInfo, infoListing, infoMost}
 use Rattle.infolines.proofs.Printed.{listed}
 use Rattle.infolines.proofs.Longest.{printed-short}
@@ -19,11 +18,9 @@ use Rattle.infolist.specs.Space.{Roomy}
 
 pub all-printed : {s rows old new : List ℕ} {end : ℕ} → Wrote old 0 (infoPrinted s (room typeInfoWidth rows)) new end → Bytes s → Roomy s rows old
     → (input : List ℕ) → Begun s false input → take end new ≡ infoListing input
-all-printed {s} {rows} w bytes r input b =
+all-printed {s} {rows} w bytes r =
     let n = room typeInfoWidth rows in
-    held w (omega (arith, printed-short s bytes (omega (arith, r .short)) n, r .for-lines))
-    ∙ listed s (r .short) n (r .for-rows)
-    ∙ ap infoListing (all-read b refl)
+    came.all-printed infoListing (record { wrote = w; short = printed-short s bytes (omega (arith, r .short)) n }) (r .for-lines) (listed s (r .short) n (r .for-rows))
 
 -- room for n bytes is room for fewer
 pub roomy : {s rows out : List ℕ} (n : ℕ) → n ≤ longestInfo → length s ≤ n → (n - 32) / 8 * typeInfoWidth ≤ length rows → infoMost n ≤ length out → Roomy s rows out

@@ -11,7 +11,8 @@ use Rattle.rules.specs.Answer.{refusal, tooLong}
 use Rattle.rules.specs.Listing.{answerLine}
 use Rattle.text.specs.Writer.{Wrote}
 use Rattle.text.proofs.Written.{next}
-use Rattle.listing.proofs.Placed.{within, held}
+use Rattle.listing.specs.Written.{Written}
+use Rattle.listing.proofs.Placed.{within, held, held-whole}
 use Rattle.listing.proofs.Longest.{answer-short}
 use Rattle.inputs.specs.Begun.{Begun, whole, longer}
 use Rattle.inputs.specs.Filled.{Filled}
@@ -23,6 +24,11 @@ all-read (longer b rest) e = let z : _≡_ {A = ℕ} 0 1 = cc in absurd (omega a
 pub more-came : {read input : List ℕ} {more : Bool} → Begun read more input → more ≡ true → length read < length input
 more-came whole e = let z : _≡_ {A = ℕ} 0 1 = cc in absurd (omega arith)
 more-came (longer {read} b rest) e = simp length-append (omega arith)
+
+-- what is printed of an input that was read whole, where its listing was written
+pub all-printed : (listing : List ℕ → List ℕ) {read text old new : List ℕ} {most end : ℕ} → Written old text most new end → most ≤ length old → text ≡ listing read
+    → (input : List ℕ) → Begun read false input → take end new ≡ listing input
+all-printed listing w room is input b = held-whole w room ∙ is ∙ ap listing (all-read b refl)
 
 -- what is printed of an input that has more than so many bytes, where its listing is the refusal of that
 pub refusal-printed : {most : ℕ} {listing : List ℕ → List ℕ} → ((input : List ℕ) → most < length input → listing input ≡ answerLine (refusal tooLong))

@@ -10,6 +10,7 @@ use lib.ListN.{length, set, take, drop, length-set}
 use lib.Seq.{take-at}
 use Rattle.text.specs.Writer.{Buffer, push, write, Wrote}
 use Rattle.text.proofs.Written.{next, all}
+use Rattle.listing.specs.Written.{Written}
 
 -- the place reached stays within the buffer
 inside-by : (t : Bool) (o : List ℕ) (a b : ℕ) → ltb a (length o) ≡ t → a ≤ length o
@@ -32,3 +33,6 @@ held {o} {x} {n} {e} w h =
     let q : e ≡ 0 + length x = next w k in
     let f : length x ≡ e = omega arith in
     ap (take e) (all w k) ∙ take-at x (drop (0 + length x) o) e f
+
+pub held-whole : {o x n : List ℕ} {most e : ℕ} → Written o x most n e → most ≤ length o → take e n ≡ x
+held-whole w h = held (w .wrote) (omega (arith, w .short))

@@ -2,3 +2,4 @@
 pub mod InfoLine
 pub mod Shown
 pub mod Bound
+pub mod Written

@@ -1,5 +1,5 @@
 -- The lines of the controls that found no row, by the rows in the lent slices.
-use Prim.Native.Nat.{ℕ, _+_, _≤_}
+use Prim.Native.Nat.{ℕ, _+_}
 use mathlib.Core.Path.{_≡_}
 use mathlib.Core.Bool.{cond}
 use mathlib.Core.List.{List, [], _∷_, _++_}
@@ -7,6 +7,7 @@ use lib.ListN.{length}
 use Rattle.rules.specs.Rows.{controlWidth, propertyWidth, typeInfoWidth, room}
 use Rattle.text.specs.Writer.{Wrote}
 use Rattle.listing.specs.Shown.{linesTo}
+use Rattle.listing.specs.Written.{Written}
 use Rattle.pairlines.specs.Pairs.{isUnpaired, unpairedLine, countLine, pairPrinted, pairListed, pairMost}
 use Rattle.pairlines.specs.declared.Told.{Told}
 
@@ -23,11 +24,6 @@ unpairedTo s t infos n words =
 pub record Tells (s t : List ℕ) (infos : List (List ℕ)) (n : ℕ) (row old : List ℕ) (before : Told) (new : List ℕ) (after : Told) : Type 0 where
   pub wrote : Wrote old (before .at) (unpairedLine s t infos n row) new (after .at)
   pub counted : after .count ≡ before .count + length (tally s t infos n row)
-
--- a text written from the start of a buffer on, and no longer than `most`
-pub record Written (old text : List ℕ) (most : ℕ) (new : List ℕ) (end : ℕ) : Type 0 where
-  pub wrote : Wrote old 0 text new end
-  pub short : length text ≤ most
 
 -- ---- by the slices lent for TypeInfo rows, controls and properties
 abbrev pub linesIn : ℕ → List ℕ → List ℕ → List ℕ → List ℕ → List ℕ → List ℕ

@@ -7,7 +7,7 @@ use Prim.Native.Nat.{ℕ, _+_, _*_, _-_, _/_, _≤_, _<_}
 use native.Mathlib.Omega.{arith}
 use borrow.Author.Tests.{lt-ltb, le-ltb, ltb-true, ltb-false}
 use lib.Dec.{ltb, eqb}
-use lib.ListN.{length, take, drop, length-drop, length-take}
+use lib.ListN.{length, drop, length-drop, length-take}
 use Rattle.rules.specs.Answer.{refusal, tooLong, otherLayout, longest}
 use Rattle.rules.specs.Bytes.{u32}
 use Rattle.rules.specs.Rows.{controlWidth, propertyWidth, typeInfoWidth, room}
@@ -23,12 +23,9 @@ use Rattle.rules.specs.Listing.{answerLine}
 use Rattle.rules.specs.declared.Answer.{Answer}
 use Rattle.claims.proofs.TakesLater.{tree-fits, scan-fits, short-fits}
 use Rattle.listing.specs.Bound.{longestIn, longestType, longestControl}
-use Rattle.listing.proofs.Placed.{held}
-use Rattle.inputs.specs.Begun.{Begun}
-use Rattle.inputs.proofs.Came.{all-read}
 use Rattle.infolines.proofs.Printed.{same-answer}
 use Rattle.pairlines.specs.Pairs.{infoIn, blobIn, infoRoom, controlRoom, propertyRoom, longestInput, blobPaired, pairPrinted, pairListed, pairListing}
-use Rattle.pairlines.specs.Told.{Listed}
+use Rattle.pairlines.specs.Told.{listedIn}
 use Rattle.pairlist.specs.Space.{Roomy}
 
 not-long : (s : List ℕ) → length s ≤ longestInput → pairListing s ≡ pairListed s infoRoom controlRoom propertyRoom
@@ -39,13 +36,8 @@ pub too-long : (s : List ℕ) → longestInput < length s → pairListing s ≡ 
 unfolding pairListing
 too-long s h = rw (lt-ltb longestInput (length s) h)
 
-pub all-printed : {s is cs ps old new : List ℕ} {end : ℕ} → Listed s is cs ps old new end → Roomy s is cs ps old
-    → (input : List ℕ) → Begun s false input → take end new ≡ pairListing input
-all-printed {s} w r input b =
-    held (w .wrote) (omega (arith, w .short, r .for-lines))
-    ∙ r .same
-    ∙ sym (not-long s (r .short))
-    ∙ ap pairListing (all-read b refl)
+pub all-listed : {s is cs ps out : List ℕ} → Roomy s is cs ps out → listedIn s is cs ps ≡ pairListing s
+all-listed {s} r = r .same ∙ sym (not-long s (r .short))
 
 -- ---- the longest line, computed from the name table
 line-is : longestControl ≡ 91

@@ -12,7 +12,6 @@ use Rattle.rules.specs.Rows.{controlWidth, rowAt}
 use Rattle.rules.specs.Blob.{Exit}
 use Rattle.rules.specs.Panel.{panelExit}
 use Rattle.rules.specs.Listing.{line, word, answerLine, tableLength, tableIn, blobIn}
-use Rattle.text.specs.Writer.{Wrote}
 
 -- ---- the lines
 -- type, mark of the name, where it starts and how many bytes it has
@@ -68,13 +67,12 @@ mostRead = 16842757
 unfoldable pub judgedOf : List ℕ → List ℕ
 judgedOf input = judgedIn (take mostRead input)
 
+-- how long it is: an answer of 51 bytes, and a row's line of 52
+abbrev pub mostSaid : ℕ
+mostSaid = 103
+
 -- ---- what is asked before
 pub record Ready (input controls properties : List ℕ) : Type 0 where
   pub short : length input ≤ mostRead
   pub for-controls : controlsFor input ≡ controls
   pub for-properties : propertiesFor input ≡ properties
-
--- what is written has room
-pub record Written (old text new : List ℕ) (end : ℕ) : Type 0 where
-  pub wrote : Wrote old 0 text new end
-  pub short : length text ≤ 103

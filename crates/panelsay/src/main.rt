@@ -20,8 +20,9 @@ ghost use Prim.Native.Nat.{ℕ, _≤_, _<_};
 ghost use lib.ListN.{length};
 ghost use Rattle.rules.specs.Panel.{panelExit};
 ghost use Rattle.text.specs.Writer.{Wrote};
+ghost use Rattle.listing.specs.Written.{Written};
 ghost use Rattle.tabletext.specs.Input.{Began};
-ghost use Rattle.panelsay.specs.Judged.{rowLine, said, judged, judgedOf, mostRead, zeros, smallControls, smallProperties, largeControls, largeProperties, Ready, Written};
+ghost use Rattle.panelsay.specs.Judged.{rowLine, said, judged, judgedOf, mostRead, mostSaid, zeros, smallControls, smallProperties, largeControls, largeProperties, Ready};
 
 // The longest table that is read; no well-formed one is as long.
 const LONGEST_TABLE: usize = 65536;
@@ -91,7 +92,7 @@ fn write_said(
     properties: &mut [u32],
     out: &mut [u8],
 ) -> usize
-    ensures { λ r. ⌜ Written (now (out .entry)) (said (panelExit (now (table .entry)) (now (stream .entry)) (now (controls .entry)) (now (properties .entry)))) (now (out .exit)) r ⌝ }
+    ensures { λ r. ⌜ Written (now (out .entry)) (said (panelExit (now (table .entry)) (now (stream .entry)) (now (controls .entry)) (now (properties .entry)))) mostSaid (now (out .exit)) r ⌝ }
 {
     let a = panel::check_panel(table, stream, controls, properties);
     let p = answer_line(out, 0, a);
@@ -100,7 +101,7 @@ fn write_said(
 }
 
 fn write_judged(input: &[u8], controls: &mut [u32], properties: &mut [u32], out: &mut [u8]) -> usize
-    ensures { λ r. ⌜ Written (now (out .entry)) (judged (now (input .entry)) (now (controls .entry)) (now (properties .entry))) (now (out .exit)) r ⌝ }
+    ensures { λ r. ⌜ Written (now (out .entry)) (judged (now (input .entry)) (now (controls .entry)) (now (properties .entry))) mostSaid (now (out .exit)) r ⌝ }
 {
     if input.len() < 4 {
         return refusal_line(out, BAD_TABLE);

@@ -2,7 +2,9 @@ use mathlib.Core.Path.{sym}
 use borrow.Author.Needs.{needs}
 use lib.Seq.{length-take-le}
 use Rattle.listing.proofs.Placed.{within}
-use Rattle.pairlist.proofs.Printing.{all-printed}
+use Rattle.inputs.proofs.Came.{all-printed}
+use Rattle.pairlines.specs.Pairs.{pairListing}
+use Rattle.pairlist.proofs.Printing.{all-listed}
 use Rattle.pairlist.proofs.list.Statement.{statement}
 use Rattle.pairlist.proofs.list.Tie as tie
 
@@ -19,7 +21,7 @@ print-requires : tie.Need-print-requires
 print-requires c κs =
     let written : tie.After-write = search in
     let start : tie.Start = search in
-    all-printed (written .write .ensures) (start .pre)
+    all-printed pairListing (written .write .ensures) (start .pre .for-lines) (all-listed (start .pre))
 
 pub list-spec : {M : Type 1} → statement M
 list-spec =
