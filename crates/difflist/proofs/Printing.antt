@@ -1,5 +1,5 @@
 -- What is printed is what is said of all that standard input had.
-use Prim.Native.Nat.{ℕ, _+_, _-_, _*_, _/_, _≤_, _<_}
+use Prim.Native.Nat.{ℕ, _+_, _-_, _*_, _≤_, _<_}
 use native.Mathlib.Omega.{arith}
 use mathlib.Core.Path.{_≡_, sym, ap, _∙_}
 use mathlib.Core.List.{List}
@@ -7,13 +7,14 @@ use borrow.Author.Tests.{lt-ltb, le-ltb}
 use lib.ListN.{length, take, drop, length-drop, length-replicate}
 use lib.Seq.{take-all}
 use Rattle.rules.specs.Answer.{refusal, badTable}
+use Rattle.rules.specs.Rows.{differenceWidth}
 use Rattle.rules.specs.Listing.{answerLine, tableLength, tableIn, blobIn}
 use Rattle.listing.specs.Written.{Written}
 use Rattle.listing.proofs.Longest.{answer-short}
 use Rattle.text.specs.Writer.{Wrote}
 use Rattle.tabletext.specs.Input.{Began}
 use Rattle.tabletext.proofs.Told.{first-printed}
-use Rattle.difflist.specs.Listed.{afterLength, listed, listedIn, listedOf, mostRead, mostSaid, lentFor, zeros, smallRows, smallControls, smallProperties, smallSaid, largeRows, largeControls, largeProperties, largeSaid, Ready}
+use Rattle.difflist.specs.Listed.{afterLength, listed, listedIn, listedOf, mostRead, saidFor, mostSaid, lentFor, zeros, smallRows, smallControls, smallProperties, smallSaid, largeRows, largeControls, largeProperties, largeSaid, Ready}
 
 -- ---- a table after its length
 refusal-short : (rows : List ℕ) → length (answerLine (refusal badTable)) ≤ mostSaid rows
@@ -60,9 +61,9 @@ large-lent : (input : List ℕ) {lent : List ℕ} (small large : ℕ) → 16384 
 unfolding lentFor
 large-lent input small large h e = rw (le-ltb (length input) 16384 h) e
 
-rows-lent : {rows : List ℕ} (n : ℕ) → zeros n ≡ rows → mostSaid rows ≡ 233 + n / 10 * 156
+rows-lent : {rows : List ℕ} (n : ℕ) → zeros (n * differenceWidth) ≡ rows → mostSaid rows ≡ saidFor n
 unfolding zeros mostSaid
-rows-lent n e = let l = ap length (sym e) ∙ length-replicate {A = ℕ} n 0 in rw l
+rows-lent n e = omega (arith, ap length (sym e) ∙ length-replicate {A = ℕ} (n * differenceWidth) 0)
 
 module _ {input rows cs ps out : List ℕ} where
   pub small-ready : length input < 16384 → zeros smallRows ≡ rows → zeros smallControls ≡ cs → zeros smallProperties ≡ ps → smallSaid ≡ length out → Ready input rows cs ps out
@@ -71,7 +72,7 @@ module _ {input rows cs ps out : List ℕ} where
     for-rows = small-lent input smallRows largeRows h d;
     for-controls = small-lent input smallControls largeControls h c;
     for-properties = small-lent input smallProperties largeProperties h p;
-    for-lines = omega (arith, rows-lent smallRows d);
+    for-lines = omega (arith, rows-lent 16384 d);
   }
 
   pub large-ready : 16384 ≤ length input → length input ≤ mostRead → zeros largeRows ≡ rows → zeros largeControls ≡ cs → zeros largeProperties ≡ ps → largeSaid ≡ length out
@@ -81,7 +82,7 @@ module _ {input rows cs ps out : List ℕ} where
     for-rows = large-lent input smallRows largeRows h d;
     for-controls = large-lent input smallControls largeControls h c;
     for-properties = large-lent input smallProperties largeProperties h p;
-    for-lines = omega (arith, rows-lent largeRows d);
+    for-lines = omega (arith, rows-lent 131072 d);
   }
 
 -- ---- of the input no more than what is read counts

@@ -5,8 +5,8 @@ use mathlib.Core.Bool.{cond}
 use mathlib.Core.List.{List, [], _++_}
 use lib.Dec.{ltb, eqb}
 use lib.ListN.{length, take, replicate}
-use Rattle.rules.specs.Answer.{refusal, badTable, noSuccessor}
-use Rattle.rules.specs.Rows.{differenceWidth, room}
+use Rattle.rules.specs.Answer.{refusal, badTable, noSuccessor, longest}
+use Rattle.rules.specs.Rows.{controlWidth, propertyWidth, differenceWidth, room}
 use Rattle.rules.specs.Blob.{Exit, exit}
 use Rattle.rules.specs.Differences.{DifferencesExit, differencesExit}
 use Rattle.rules.specs.Listing.{answerLine, tableLength, tableIn, blobIn}
@@ -47,25 +47,25 @@ listed input rows controls properties = afterLength (λ older rest. listedAfter 
 unfoldable pub zeros : ℕ → List ℕ
 zeros n = replicate n 0
 
--- for 16,384 differences, 5,461 controls and 16,384 properties, which is room for every Blob in an input under 16,384 bytes
+-- room for every Blob in an input under 16,384 bytes
 abbrev pub smallRows : ℕ
-smallRows = 163840
+smallRows = 16384 * differenceWidth
 
 abbrev pub smallControls : ℕ
-smallControls = 43688
+smallControls = 5461 * controlWidth
 
 abbrev pub smallProperties : ℕ
-smallProperties = 98304
+smallProperties = 16384 * propertyWidth
 
--- for 131,072 differences, 16,384 controls and 262,144 properties
+-- for a longer one
 abbrev pub largeRows : ℕ
-largeRows = 1310720
+largeRows = 131072 * differenceWidth
 
 abbrev pub largeControls : ℕ
-largeControls = 131072
+largeControls = 16384 * controlWidth
 
 abbrev pub largeProperties : ℕ
-largeProperties = 1572864
+largeProperties = 262144 * propertyWidth
 
 unfoldable pub lentFor : List ℕ → ℕ → ℕ → List ℕ
 lentFor input small large = cond (ltb (length input) 16384) (zeros small) (zeros large)
@@ -75,20 +75,23 @@ listedIn input = listed input (lentFor input smallRows largeRows) (lentFor input
 
 -- so many bytes are read: with two tables of 65,536 bytes, one more than the longest stream has, so that a longer one is answered 5 whatever comes after it
 abbrev pub mostRead : ℕ
-mostRead = 16908297
+mostRead = 8 + 2 * 65536 + longest + 1
 
 unfoldable pub listedOf : List ℕ → List ℕ
 listedOf input = listedIn (take mostRead input)
 
 -- ---- how long it is: two answers of 51 bytes, why not in 131, a difference in 156
+abbrev pub saidFor : ℕ → ℕ
+saidFor differences = 233 + differences * 156
+
 unfoldable pub mostSaid : List ℕ → ℕ
-mostSaid rows = 233 + room differenceWidth rows * 156
+mostSaid rows = saidFor (room differenceWidth rows)
 
 abbrev pub smallSaid : ℕ
-smallSaid = 2556137
+smallSaid = saidFor 16384
 
 abbrev pub largeSaid : ℕ
-largeSaid = 20447465
+largeSaid = saidFor 131072
 
 -- ---- what is asked before
 pub record Ready (input rows controls properties out : List ℕ) : Type 0 where

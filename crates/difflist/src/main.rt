@@ -33,11 +33,24 @@ ghost use Rattle.tabletext.specs.Input.{Began};
 ghost use Rattle.difflist.specs.Lines.{spaced, differenceLine, whyNot};
 ghost use Rattle.difflist.specs.Listed.{said, listedAfter, listed, listedOf, mostRead, mostSaid, zeros, smallRows, smallControls, smallProperties, smallSaid, largeRows, largeControls, largeProperties, largeSaid, Ready};
 
+// The longest table that is read; no well-formed one is as long.
+const LONGEST_TABLE: usize = 65536;
+
 // One byte more is read than two tables and the longest stream have with the lengths, so that a longer one is told.
-const SPACE: usize = 8 + 131072 + LONGEST + 1;
+const SPACE: usize = 8 + 2 * LONGEST_TABLE + LONGEST + 1;
 
 // A shorter input than this is read into little room.
 const SHORT: usize = 16384;
+
+// Differences for which there is little room, and much.
+const SMALL_ROWS: usize = 16384;
+
+const LARGE_ROWS: usize = 131072;
+
+// How long all is that is said but the differences, and the line of one.
+const BEFORE: usize = 233;
+
+const LINE: usize = 156;
 
 // Of a control's row the words that are shown: its type, and mark, start and length of its name.
 const NAME_WORDS: usize = 4;
@@ -49,10 +62,10 @@ fn large_input() -> [u8; SPACE]
     [0; SPACE]
 }
 
-fn small_rows() -> [u32; 16384 * DIFFERENCE_WIDTH]
+fn small_rows() -> [u32; SMALL_ROWS * DIFFERENCE_WIDTH]
     ensures { λ r. ⌜ zeros smallRows ≡ r ⌝ }
 {
-    [0; 16384 * DIFFERENCE_WIDTH]
+    [0; SMALL_ROWS * DIFFERENCE_WIDTH]
 }
 
 fn small_controls() -> [u32; 5461 * CONTROL_WIDTH]
@@ -67,16 +80,16 @@ fn small_properties() -> [u32; 16384 * PROPERTY_WIDTH]
     [0; 16384 * PROPERTY_WIDTH]
 }
 
-fn small_said() -> [u8; 2556137]
+fn small_said() -> [u8; BEFORE + SMALL_ROWS * LINE]
     ensures { λ r. ⌜ smallSaid ≡ length r ⌝ }
 {
-    [0; 2556137]
+    [0; BEFORE + SMALL_ROWS * LINE]
 }
 
-fn large_rows() -> [u32; 131072 * DIFFERENCE_WIDTH]
+fn large_rows() -> [u32; LARGE_ROWS * DIFFERENCE_WIDTH]
     ensures { λ r. ⌜ zeros largeRows ≡ r ⌝ }
 {
-    [0; 131072 * DIFFERENCE_WIDTH]
+    [0; LARGE_ROWS * DIFFERENCE_WIDTH]
 }
 
 fn large_controls() -> [u32; 16384 * CONTROL_WIDTH]
@@ -91,10 +104,10 @@ fn large_properties() -> [u32; 262144 * PROPERTY_WIDTH]
     [0; 262144 * PROPERTY_WIDTH]
 }
 
-fn large_said() -> [u8; 20447465]
+fn large_said() -> [u8; BEFORE + LARGE_ROWS * LINE]
     ensures { λ r. ⌜ largeSaid ≡ length r ⌝ }
 {
-    [0; 20447465]
+    [0; BEFORE + LARGE_ROWS * LINE]
 }
 
 // ---- the lines of differences

@@ -91,20 +91,20 @@ module _ {s : List ℕ} {p q size k : ℕ} (c : Comparing s p q size k) (hp : p 
 
 -- ---- a row's name, by the words of the slice
 module _ (s cs : List ℕ) (n start size : ℕ) where
-  pub start-is : getD cs (n * 8 + 2) 0 ≡ startAt cs n
+  pub start-is : getD cs (n * controlWidth + 2) 0 ≡ startAt cs n
   start-is = sym (word-in controlWidth n 2 cs (omega arith))
 
-  pub size-is : getD cs (n * 8 + 3) 0 ≡ sizeAt cs n
+  pub size-is : getD cs (n * controlWidth + 3) 0 ≡ sizeAt cs n
   size-is = sym (word-in controlWidth n 3 cs (omega arith))
 
-  pub size-other : startAt cs n + sizeAt cs n ≤ length s → start + size ≤ length s → (getD cs (n * 8 + 3) 0 ≡ size → ⊥)
+  pub size-other : startAt cs n + sizeAt cs n ≤ length s → start + size ≤ length s → (getD cs (n * controlWidth + 3) 0 ≡ size → ⊥)
       → false ≡ same (bytesAt s cs n) (part s start size)
   size-other h k o =
       let a = part-long s (startAt cs n) (sizeAt cs n) h in
       let b = part-long s start size k in
       sym (other-length (bytesAt s cs n) (part s start size) (λ e. o (size-is ∙ sym a ∙ e ∙ b)))
 
-  pub size-same : (r : Bool) → getD cs (n * 8 + 3) 0 ≡ size → r ≡ same (part s (getD cs (n * 8 + 2) 0) size) (part s start size)
+  pub size-same : (r : Bool) → getD cs (n * controlWidth + 3) 0 ≡ size → r ≡ same (part s (getD cs (n * controlWidth + 2) 0) size) (part s start size)
       → r ≡ same (bytesAt s cs n) (part s start size)
   size-same r e h = h ∙ ap₂ (λ (p k : ℕ). same (part s p k) (part s start size)) start-is (sym e ∙ size-is)
 

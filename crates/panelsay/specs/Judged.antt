@@ -1,5 +1,5 @@
 -- What is printed for a stream that is judged by the rules of panels: the line of the answer, and a line with a control row's type and name.
-use Prim.Native.Nat.{ℕ, _+_, _≤_}
+use Prim.Native.Nat.{ℕ, _+_, _*_, _≤_}
 use mathlib.Core.Path.{_≡_}
 use mathlib.Core.Bool.{cond}
 use mathlib.Core.List.{List, [], _∷_, _++_}
@@ -7,8 +7,8 @@ use lib.Dec.{ltb}
 use lib.ListN.{length, take, replicate}
 use Rattle.rules.specs.Lists.{text}
 use Rattle.rules.specs.Digits.{decimal}
-use Rattle.rules.specs.Answer.{refusal, badTable}
-use Rattle.rules.specs.Rows.{controlWidth, rowAt}
+use Rattle.rules.specs.Answer.{refusal, badTable, longest}
+use Rattle.rules.specs.Rows.{controlWidth, propertyWidth, rowAt}
 use Rattle.rules.specs.Blob.{Exit}
 use Rattle.rules.specs.Panel.{panelExit}
 use Rattle.rules.specs.Listing.{line, word, answerLine, tableLength, tableIn, blobIn}
@@ -37,19 +37,19 @@ judged input controls properties =
 unfoldable pub zeros : ℕ → List ℕ
 zeros n = replicate n 0
 
--- for 5,461 controls and 16,384 properties, which is room for every Blob in an input under 16,384 bytes
+-- room for every Blob in an input under 16,384 bytes
 abbrev pub smallControls : ℕ
-smallControls = 43688
+smallControls = 5461 * controlWidth
 
 abbrev pub smallProperties : ℕ
-smallProperties = 98304
+smallProperties = 16384 * propertyWidth
 
--- for 16,384 controls and 262,144 properties
+-- for a longer one
 abbrev pub largeControls : ℕ
-largeControls = 131072
+largeControls = 16384 * controlWidth
 
 abbrev pub largeProperties : ℕ
-largeProperties = 1572864
+largeProperties = 262144 * propertyWidth
 
 unfoldable pub controlsFor : List ℕ → List ℕ
 controlsFor input = cond (ltb (length input) 16384) (zeros smallControls) (zeros largeControls)
@@ -62,7 +62,7 @@ judgedIn input = judged input (controlsFor input) (propertiesFor input)
 
 -- so many bytes are read: with a table of 65,536 bytes, one more than the longest stream has, so that a longer one is answered 5 whatever comes after it
 abbrev pub mostRead : ℕ
-mostRead = 16842757
+mostRead = 4 + 65536 + longest + 1
 
 unfoldable pub judgedOf : List ℕ → List ℕ
 judgedOf input = judgedIn (take mostRead input)

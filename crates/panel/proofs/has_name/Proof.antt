@@ -2,6 +2,7 @@ use Prim.Native.Nat.{_+_, _*_}
 use native.Mathlib.Omega.{arith}
 use mathlib.Core.Path.{_≡_}
 use borrow.Author.Needs.{needs}
+use Rattle.rules.specs.Rows.{controlWidth}
 use Rattle.panel.proofs.NameLaws.{start-is, size-is, size-other, size-same}
 use Rattle.panel.proofs.has_name.Statement.{statement}
 use Rattle.panel.proofs.has_name.Tie as tie
@@ -40,6 +41,6 @@ has-name-spec =
     (λ c. search needs)
     (λ c. search needs)
     (λ c. let start : tie.Start = search in let l = start .pre .0 .lent in omega arith)
-    (λ c. let start : tie.Start = search in omega (arith, c .shared-slice-known4 .given (start .args .n * 8 + 2)))
+    (λ c. let start : tie.Start = search in omega (arith, c .shared-slice-known4 .given (start .args .n * controlWidth + 2)))
     same-bytes-requires
     returns-2)
