@@ -1,4 +1,12 @@
 // How the value of a property is shown: the word of its mark, and what it is. Each is written into a lent buffer; the place after it is returned.
+use rules::MARK_BINARY;
+use rules::MARK_BOOL;
+use rules::MARK_DOUBLE;
+use rules::MARK_GUID;
+use rules::MARK_LONG;
+use rules::MARK_NOT_DEFAULT;
+use rules::MARK_SHORT;
+use rules::MARK_TEXT;
 use text::put_byte;
 use text::put_decimal;
 use text::put_guid;
@@ -13,14 +21,14 @@ pub fn put_word(out: &mut [u8], at: usize, mark: u32) -> usize
     ensures { λ r. ⌜ Wrote (now (out .entry)) at (markWord mark) (now (out .exit)) r ⌝ }
 {
     match mark {
-        0 => put_text(out, at, b"bool"),
-        1 => put_text(out, at, b"notdefault"),
-        2 => put_text(out, at, b"short"),
-        3 => put_text(out, at, b"long"),
-        4 => put_text(out, at, b"double"),
-        5 => put_text(out, at, b"guid"),
-        6 => put_text(out, at, b"text"),
-        7 => put_text(out, at, b"binary"),
+        MARK_BOOL => put_text(out, at, b"bool"),
+        MARK_NOT_DEFAULT => put_text(out, at, b"notdefault"),
+        MARK_SHORT => put_text(out, at, b"short"),
+        MARK_LONG => put_text(out, at, b"long"),
+        MARK_DOUBLE => put_text(out, at, b"double"),
+        MARK_GUID => put_text(out, at, b"guid"),
+        MARK_TEXT => put_text(out, at, b"text"),
+        MARK_BINARY => put_text(out, at, b"binary"),
         _ => put_text(out, at, b"loose"),
     }
 }
@@ -84,16 +92,16 @@ pub fn put_value(
     ensures { λ r. ⌜ Wrote (now (out .entry)) at (valueColumn mark low high size (part (now (stream .entry)) start size)) (now (out .exit)) r ⌝ }
 {
     match mark {
-        0 => put_yes(out, at, low),
-        1 => put_byte(out, at, b'-'),
-        2 => put_signed(out, at, low),
-        3 => put_signed(out, at, low),
-        4 => {
+        MARK_BOOL => put_yes(out, at, low),
+        MARK_NOT_DEFAULT => put_byte(out, at, b'-'),
+        MARK_SHORT => put_signed(out, at, low),
+        MARK_LONG => put_signed(out, at, low),
+        MARK_DOUBLE => {
             let p = put_hex(out, at, 8, high);
             put_hex(out, p, 8, low)
         }
-        5 => put_guid(out, at, value_bytes(stream, start, size)),
-        6 => put_characters(out, at, stream, start, size),
+        MARK_GUID => put_guid(out, at, value_bytes(stream, start, size)),
+        MARK_TEXT => put_characters(out, at, stream, start, size),
         _ => put_decimal(out, at, size),
     }
 }
