@@ -2,7 +2,9 @@
 mod types; // types.rt: the types that have a name
 
 use names::place_in;
+use rules::NO_READING;
 use rules::Property;
+use rules::TOO_MANY_ENTRIES;
 use rules::UNMAPPED;
 use types::TYPE_CODES;
 use types::TYPE_PLACES;
@@ -33,6 +35,9 @@ pub const CEILING: u32 = 4294967295;
 const FIRST_TYPE: u32 = 0x64;
 
 const OTHER_TYPES: usize = 30;
+
+// The refusals up to this one are TypeInfo's, and have no place.
+const LAST_LEFT_OUT: usize = TOO_MANY_ENTRIES as usize;
 
 // One more at a place. A number at the ceiling stays, and so does all where there is no such place.
 pub fn bump(words: &mut [u32], place: usize)
@@ -88,13 +93,13 @@ pub fn count_property(words: &mut [u32], in_2000: bool, p: Property)
     bump(words, MARKS_AT + v.mark as usize);
 }
 
-// Counts a stream by its answer's number: 0, 4, 5, 6, 7 or 8.
+// Counts a stream by its answer's number: READ, or NO_READING to BAD_TABLE.
 pub fn count_answer(words: &mut [u32], number: u32)
     ensures { λ _. ⌜ now (words .exit) ≡ bump (now (words .entry)) (answerPlace number) ⌝ }
 {
-    if number < 4 {
+    if number < NO_READING {
         bump(words, 0);
         return;
     }
-    bump(words, number as usize - 3);
+    bump(words, number as usize - LAST_LEFT_OUT);
 }
