@@ -1,4 +1,7 @@
 // The functions that C and Rust call: each hands its arguments on to a proved function.
+use rules::NAME_LOOSE;
+use rules::NAME_NUMBERED;
+use rules::NAME_TEXT;
 use rules::Totals;
 use totals::count_blob;
 ghost use mathlib.Core.Path.{_≡_};
@@ -284,8 +287,8 @@ pub extern "C" fn oskuramos_control_name(
     ensures { λ r. ⌜ r ≡ handedPart (namePart (now (stream .entry)) (now (label .entry)) mark start length) ⌝ }
 {
     match mark {
-        0 | 2 => part_or(0, stream.len(), start, length),
-        1 => part_or(1, label.len(), 0, length),
+        NAME_TEXT | NAME_LOOSE => part_or(0, stream.len(), start, length),
+        NAME_NUMBERED => part_or(1, label.len(), 0, length),
         _ => part_or(0, 0, 0, 0),
     }
 }
