@@ -7,7 +7,9 @@ use differ2000::list_stream;
 use rules::Answer;
 use rules::BAD_TABLE;
 use rules::LONGEST;
+use rules::MORE_CONTROLS;
 use rules::NO_READING;
+use rules::READ;
 use rules::TOO_LONG;
 use succession::succeeds;
 use text::refused;
@@ -19,9 +21,6 @@ ghost use Rattle.differences.specs.Exit.{exited, Fits};
 
 // The newer table is no successor of the older.
 pub const NO_SUCCESSOR: u32 = 19;
-
-// More rows are needed than lent.
-const FEW_ROWS: u32 = 6;
 
 fn counted(number: u32, rows: u32, properties: u32) -> Answer
     ensures { λ r. ⌜ r ≡ answer number rows properties 0 ⌝ }
@@ -42,10 +41,10 @@ fn listed(older: &[u8], newer: &[u8], stream: &[u8], rows: &mut [u32], propertie
     let mut nowhere = [0; 1];
     let n = list_stream(older, newer, stream, &mut nowhere);
     if rows.len() / DIFFERENCE_WIDTH < n as usize {
-        return counted(FEW_ROWS, n, properties);
+        return counted(MORE_CONTROLS, n, properties);
     }
     list_stream(older, newer, stream, rows);
-    counted(0, n, properties)
+    counted(READ, n, properties)
 }
 
 // A row for each property of a stream that the newer table shows otherwise than the older. A refusal leaves the rows as they were.
@@ -73,5 +72,5 @@ pub fn differences(older: &[u8], newer: &[u8], stream: &[u8], rows: &mut [u32]) 
     if is_2000(older, stream) {
         return listed(older, newer, stream, rows, seen.second);
     }
-    counted(0, 0, seen.second)
+    counted(READ, 0, seen.second)
 }
