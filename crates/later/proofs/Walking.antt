@@ -13,7 +13,7 @@ use Rattle.rules.specs.Bytes.{u16}
 use Rattle.rules.specs.Answer.{longest}
 use Rattle.rules.specs.Rows.{controlWidth}
 use Rattle.rules.specs.Reading.{nameWords}
-use Rattle.rules.specs.Tree.{Node, noParent, isReported}
+use Rattle.rules.specs.Tree.{Node, levels, noParent, isReported}
 use Rattle.rules.specs.Later.{Prop, childrenAt, nodesAt}
 use Rattle.rules.specs.ReadLater.{propertyOf, controlOf}
 use Rattle.rules.specs.declared.Name.{Name}
@@ -70,10 +70,10 @@ parts s p x e = go (groupIn s p .trailer) refl e
 pub record Going (s : List ℕ) (whole : Nodes Prop) (old : State) (a : List ℕ) (c : Cursor) (now : State) : Type 0 where
   pub walk : laws.Going (stepAt s) (length s ≤ longest) (treeControl s) whole old a c now
 
-pub going-start : {s a : List ℕ} {n at : ℕ} {b r : Cursor} {cs ps : List ℕ} {pi : ℕ} → length a ≡ 512 → NodesReady s (topNodes (nodesAt 256 s n at)) (state cs 0 ps pi)
-    → b ≡ cursor at 0 n noParent → Passed (stepAt s) isReported b r → Going s (topNodes (nodesAt 256 s n at)) (state cs 0 ps pi) a r (state cs 0 ps pi)
+pub going-start : {s a : List ℕ} {n at : ℕ} {b r : Cursor} {cs ps : List ℕ} {pi : ℕ} → length a ≡ 512 → NodesReady s (topNodes (nodesAt levels s n at)) (state cs 0 ps pi)
+    → b ≡ cursor at 0 n noParent → Passed (stepAt s) isReported b r → Going s (topNodes (nodesAt levels s n at)) (state cs 0 ps pi) a r (state cs 0 ps pi)
 going-start {s} {a} {n} {at} {b} {r} {cs} {ps} {pi} l h e p =
-    record { walk = laws.going-start (state cs 0 ps pi) a n at r (ap topNodes (sym (nodes-same s 256 n at))) refl l h (rw e at p) }
+    record { walk = laws.going-start (state cs 0 ps pi) a n at r (ap topNodes (sym (nodes-same s levels n at))) refl l h (rw e at p) }
 
 module _ {s : List ℕ} {whole : Nodes Prop} {old : State} {a : List ℕ} {c : Cursor} {cs : List ℕ} {ci : ℕ} {ps : List ℕ} {pi : ℕ} (g : Going s whole old a c (state cs ci ps pi)) where
   pub going-small : length s ≤ longest

@@ -28,13 +28,17 @@ use rows::judge;
 use rows::put_control;
 use rows::put_property;
 use rules::Answer;
+use rules::MARK_LOOSE;
+use rules::MARK_TEXT;
 use rules::Name;
 use rules::Property;
+use rules::READ;
 ghost use mathlib.Core.Path.{_≡_};
 ghost use mathlib.Core.Option.{some};
 ghost use Prim.Native.Nat.{_-_, _≤_};
 ghost use lib.ListN.{length};
 ghost use Rattle.rules.specs.Answer.{longest};
+ghost use Rattle.rules.specs.Tree.{levels};
 ghost use Rattle.rules.specs.Later.{propertyAt, nodesAt};
 ghost use Rattle.rules.specs.ReadLater.{propertyOf, textName, nameBy, readLater};
 ghost use Rattle.rows.specs.Get.{propertiesFrom};
@@ -49,11 +53,6 @@ const TYPE_AT: usize = 2;
 
 // The id of a control's name.
 const NAME_ID: u32 = 0x14;
-
-// The value marks of Text: UTF-16, and bytes that aren't.
-const TEXT: u32 = 6;
-
-const LOOSE: u32 = 8;
 
 // What was written of a group; the trailer is 0 where none ended it.
 pub struct WrittenGroup {
@@ -83,7 +82,7 @@ fn text_name(q: Property) -> Name
     ensures { λ r. ⌜ r ≡ textName q ⌝ }
 {
     let v = q.value;
-    if v.mark == TEXT {
+    if v.mark == MARK_TEXT {
         return Name::Text {
             start: q.start,
             size: q.size,
@@ -100,7 +99,7 @@ fn name_by(q: Property) -> Name
     ensures { λ r. ⌜ r ≡ nameBy q ⌝ }
 {
     let v = q.value;
-    if v.mark == TEXT || v.mark == LOOSE {
+    if v.mark == MARK_TEXT || v.mark == MARK_LOOSE {
         return text_name(q);
     }
     Name::Numbered
@@ -163,8 +162,8 @@ fn write_sections(
     properties: &mut [u32],
     property: usize,
 ) -> Next
-    requires { ⌜ NodesReady (now s) (topNodes (nodesAt 256 (now s) n at)) (state (now controls) 0 (now properties) property) ⌝ }
-    ensures { λ r. ⌜ NodesDone (now (s .entry)) (topNodes (nodesAt 256 (now (s .entry)) n at)) (state (now (controls .entry)) 0 (now (properties .entry)) property) (now (controls .exit)) (now (properties .exit)) r ⌝ }
+    requires { ⌜ NodesReady (now s) (topNodes (nodesAt levels (now s) n at)) (state (now controls) 0 (now properties) property) ⌝ }
+    ensures { λ r. ⌜ NodesDone (now (s .entry)) (topNodes (nodesAt levels (now (s .entry)) n at)) (state (now (controls .entry)) 0 (now (properties .entry)) property) (now (controls .exit)) (now (properties .exit)) r ⌝ }
 {
     let mut stack = [0; STACK_WORDS];
     let mut c = reported(s, top(at, n));
@@ -283,7 +282,7 @@ pub fn read(stream: &[u8], controls: &mut [u32], properties: &mut [u32]) -> Answ
     ensures { λ r. ⌜ Exits (some (readLater (now (stream .entry)))) (now (controls .entry)) (now (properties .entry)) r (now (controls .exit)) (now (properties .exit)) ⌝ }
 {
     if stream.len() < OBJECT_AT {
-        return counted(0, 0, 0, 0);
+        return counted(READ, 0, 0, 0);
     }
     let n = count(stream);
     let a = judge(
@@ -293,7 +292,7 @@ pub fn read(stream: &[u8], controls: &mut [u32], properties: &mut [u32]) -> Answ
         controls.len(),
         properties.len(),
     );
-    if a.number != 0 {
+    if a.number != READ {
         return a;
     }
     write_blob(stream, n.tree, controls, properties);

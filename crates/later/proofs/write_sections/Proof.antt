@@ -3,6 +3,7 @@ use borrow.Author.Needs.{needs}
 use Prim.Native.Nat.{ℕ, _+_, _≤_, _<_}
 use lib.ListN.{length-replicate}
 use Rattle.rules.specs.Answer.{longest}
+use Rattle.rules.specs.Tree.{levels}
 use Rattle.rules.specs.Later.{nodesAt}
 use Rattle.rows.specs.Writing.{state}
 use Rattle.rows.specs.Acts.{topNodes}
@@ -14,7 +15,7 @@ use Rattle.later.proofs.write_sections.Tie as tie
 
 abbrev Inv-loop : tie.InvT-loop
 Inv-loop s n at controls₀ properties₀ property stack₀ c₀ i₀ j₀ controls properties stack c i j =
-    Going s (topNodes (nodesAt 256 s n at)) (state controls₀ 0 properties₀ property) stack c (state controls i properties j)
+    Going s (topNodes (nodesAt levels s n at)) (state controls₀ 0 properties₀ property) stack c (state controls i properties j)
 
 abbrev μ-loop : tie.MeasureT-loop
 μ-loop s n at controls₀ properties₀ property stack₀ c₀ i₀ j₀ controls properties stack c i j = howMany (left (stepAt s) i stack c)
