@@ -1,7 +1,20 @@
 // A code table as text; specs/Text.antt says it line by line. Each part is written into a lent buffer; the place after it is returned.
+use codetable::CODE_AT;
+use codetable::CODE_SIZE;
+use codetable::HEADER_AT;
+use codetable::HEADER_COUNT_AT;
+use codetable::ROW_COUNT_AT;
+use codetable::ROW_SIZE;
+use codetable::SCOPE_COUNT_AT;
+use codetable::SCOPE_SIZE;
 use codetable::read_row;
 use numbers::byte_number;
 use numbers::u16_number;
+use rules::MARK_BINARY;
+use rules::MARK_DOUBLE;
+use rules::MARK_GUID;
+use rules::MARK_LONG;
+use rules::MARK_TEXT;
 use text::put_byte;
 use text::put_hex;
 use text::put_text;
@@ -12,6 +25,23 @@ ghost use Rattle.rules.specs.Names.{nameIn, namesFor};
 ghost use Rattle.rules.specs.CodeTable.{codesAt, tiesAt, scopesAt};
 ghost use Rattle.text.specs.Writer.{Wrote};
 ghost use Rattle.tabletext.specs.Text as t;
+
+// The numbers of `rules` in the types that they are compared in here.
+const LAST_SIZED_ID: usize = rules::LAST_SIZED_ID as usize;
+
+const KIND_NUMBER: usize = rules::KIND_NUMBER as usize;
+
+const KIND_TEXT: usize = rules::KIND_TEXT as usize;
+
+const KIND_GUID: usize = rules::KIND_GUID as usize;
+
+const KIND_DOUBLE: usize = rules::KIND_DOUBLE as usize;
+
+const SCOPE_FORM: u32 = rules::SCOPE_FORM as u32;
+
+const SCOPE_REPORT: u32 = rules::SCOPE_REPORT as u32;
+
+const SCOPE_ENTRY: u32 = rules::SCOPE_ENTRY as u32;
 
 // ---- names
 // A name, after the sign of a comment.
@@ -50,10 +80,10 @@ fn put_kind(out: &mut [u8], at: usize, kind: usize) -> usize
     ensures { λ r. ⌜ Wrote (now (out .entry)) at (t.kindWord kind) (now (out .exit)) r ⌝ }
 {
     match kind {
-        0 => put_text(out, at, b"number"),
-        1 => put_text(out, at, b"text"),
-        2 => put_text(out, at, b"guid"),
-        3 => put_text(out, at, b"double"),
+        KIND_NUMBER => put_text(out, at, b"number"),
+        KIND_TEXT => put_text(out, at, b"text"),
+        KIND_GUID => put_text(out, at, b"guid"),
+        KIND_DOUBLE => put_text(out, at, b"double"),
         _ => put_text(out, at, b"bytes"),
     }
 }
@@ -61,15 +91,15 @@ fn put_kind(out: &mut [u8], at: usize, kind: usize) -> usize
 fn mark_of(id: usize, kind: usize) -> u32
     ensures { λ r. ⌜ r ≡ t.kindMark id kind ⌝ }
 {
-    if id <= 0xBC {
-        return 3;
+    if id <= LAST_SIZED_ID {
+        return MARK_LONG;
     }
     match kind {
-        0 => 7,
-        1 => 6,
-        2 => 5,
-        3 => 4,
-        _ => 7,
+        KIND_NUMBER => MARK_BINARY,
+        KIND_TEXT => MARK_TEXT,
+        KIND_GUID => MARK_GUID,
+        KIND_DOUBLE => MARK_DOUBLE,
+        _ => MARK_BINARY,
     }
 }
 
@@ -97,7 +127,7 @@ fn put_rows(out: &mut [u8], at: usize, table: &[u8], start: usize, n: usize) -> 
     while 0 < left {
         let r = read_row(table, place);
         p = put_row(out, p, r.id, r.target, r.kind);
-        place += 4;
+        place += ROW_SIZE;
         left -= 1;
     }
     p
@@ -108,8 +138,8 @@ pub fn put_scope_name(out: &mut [u8], at: usize, kind: u32, code: u32) -> usize
     ensures { λ r. ⌜ Wrote (now (out .entry)) at (t.scopeName kind code) (now (out .exit)) r ⌝ }
 {
     match kind {
-        0 => put_text(out, at, b"form"),
-        1 => put_text(out, at, b"report"),
+        SCOPE_FORM => put_text(out, at, b"form"),
+        SCOPE_REPORT => put_text(out, at, b"report"),
         _ => {
             let p = put_text(out, at, b"entry ");
             put_hex(out, p, 4, code)
@@ -120,7 +150,7 @@ pub fn put_scope_name(out: &mut [u8], at: usize, kind: u32, code: u32) -> usize
 pub fn put_type_remark(out: &mut [u8], at: usize, kind: u32, code: u16) -> usize
     ensures { λ r. ⌜ Wrote (now (out .entry)) at (t.typeRemark kind code) (now (out .exit)) r ⌝ }
 {
-    if kind < 2 {
+    if kind < SCOPE_ENTRY {
         return at;
     }
     put_type_name(out, at, code)
@@ -154,12 +184,12 @@ fn put_scopes(
     let mut left = n;
     while 0 < left {
         let kind = byte_number(table, place);
-        let code = u16_number(table, place + 1);
-        let count = u16_number(table, place + 3);
+        let code = u16_number(table, place + CODE_AT);
+        let count = u16_number(table, place + ROW_COUNT_AT);
         let q = put_scope(out, p, kind, code);
         p = put_rows(out, q, table, body, count);
-        place += 5;
-        body += 4 * count;
+        place += SCOPE_SIZE;
+        body += ROW_SIZE * count;
         left -= 1;
     }
     p
@@ -185,7 +215,7 @@ fn put_headers(out: &mut [u8], at: usize, table: &[u8], start: usize, n: usize) 
     let mut left = n;
     while 0 < left {
         p = put_header(out, p, u16_number(table, place));
-        place += 2;
+        place += CODE_SIZE;
         left -= 1;
     }
     p
@@ -195,12 +225,19 @@ fn put_headers(out: &mut [u8], at: usize, table: &[u8], start: usize, n: usize) 
 pub fn table_text(table: &[u8], out: &mut [u8]) -> usize
     ensures { λ r. ⌜ Wrote (now (out .entry)) 0 (t.tableText (now (table .entry))) (now (out .exit)) r ⌝ }
 {
-    let headers = byte_number(table, 1);
-    let scopes = u16_number(table, 2);
-    let contents = 4 + 2 * headers;
+    let headers = byte_number(table, HEADER_COUNT_AT);
+    let scopes = u16_number(table, SCOPE_COUNT_AT);
+    let contents = HEADER_AT + CODE_SIZE * headers;
     let p = put_text(out, 0, b"layout ");
     let p = put_hex(out, p, 2, byte_number(table, 0) as u32);
     let p = put_byte(out, p, b'\n');
-    let p = put_headers(out, p, table, 4, headers);
-    put_scopes(out, p, table, contents, contents + 5 * scopes, scopes)
+    let p = put_headers(out, p, table, HEADER_AT, headers);
+    put_scopes(
+        out,
+        p,
+        table,
+        contents,
+        contents + SCOPE_SIZE * scopes,
+        scopes,
+    )
 }
