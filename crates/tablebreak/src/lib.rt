@@ -1,10 +1,15 @@
 // Where a code table first breaks one of document 01's rules, and which: specs/Rules.antt has them by number.
+use codetable::CODE_AT;
 use codetable::CODE_SIZE;
 use codetable::CODES;
 use codetable::HEADER_AT;
+use codetable::HEADER_COUNT_AT;
+use codetable::LONGEST_TABLE;
 use codetable::MOST_HEADERS;
 use codetable::MOST_SCOPES;
+use codetable::ROW_COUNT_AT;
 use codetable::ROW_SIZE;
+use codetable::SCOPE_COUNT_AT;
 use codetable::SCOPE_SIZE;
 use codetable::read_row;
 use numbers::byte_number;
@@ -14,38 +19,42 @@ ghost use Prim.Native.Nat.{_+_, _*_, _≤_, _<_, _^_};
 ghost use lib.ListN.{length};
 ghost use Rattle.tablebreak.specs.Rules as law;
 
-const MANY_HEADERS: u32 = 1;
+// The rules by number, 0 for none; those up to SCOPE_ORDER are of the contents.
+pub const MANY_HEADERS: u32 = 1;
 
-const MANY_SCOPES: u32 = 2;
+pub const MANY_SCOPES: u32 = 2;
 
-const HEADER_ORDER: u32 = 3;
+pub const HEADER_ORDER: u32 = 3;
 
-const SCOPE_KIND: u32 = 4;
+pub const SCOPE_KIND: u32 = 4;
 
-const SCOPE_CODE: u32 = 5;
+pub const SCOPE_CODE: u32 = 5;
 
-const SCOPE_ORDER: u32 = 6;
+pub const SCOPE_ORDER: u32 = 6;
 
-const ID_ORDER: u32 = 7;
+pub const ID_ORDER: u32 = 7;
 
-const ID_HIGH: u32 = 8;
+pub const ID_HIGH: u32 = 8;
 
-const TARGET_HIGH: u32 = 9;
+pub const TARGET_HIGH: u32 = 9;
 
-const ROW_KIND: u32 = 10;
+pub const ROW_KIND: u32 = 10;
 
-const TOO_SHORT: u32 = 11;
+pub const TOO_SHORT: u32 = 11;
 
-const TOO_LONG: u32 = 12;
+pub const TOO_LONG: u32 = 12;
 
-const OVER_LONGEST: u32 = 13;
-
-const LONGEST: usize = 65100;
+pub const OVER_LONGEST: u32 = 13;
 
 // The limits of document 01.
 const LAST_ID: usize = rules::LAST_ID as usize;
 
 const LAST_TARGET: usize = codetable::LAST_TARGET as usize;
+
+// In a row the target stands after the id, and the kind of its value after that.
+const TARGET_AT: usize = 1;
+
+const KIND_AT: usize = 3;
 
 // The last kind of a scope, which alone has codes, and the last kind of a row.
 const SCOPE_ENTRY: usize = rules::SCOPE_ENTRY as usize;
@@ -160,7 +169,7 @@ fn scope_rule(at: usize, kind: usize, code: usize, least: usize) -> Break
         return order_rule(at, key, least);
     }
     if 0 < code {
-        return broken(SCOPE_CODE, at + 1, code, 0);
+        return broken(SCOPE_CODE, at + CODE_AT, code, 0);
     }
     order_rule(at, key, least)
 }
@@ -176,7 +185,7 @@ fn scope_break(table: &[u8], start: usize, n: usize) -> Break
     let mut least = 0;
     while 0 < left {
         let kind = byte_number(table, at);
-        let code = u16_number(table, at + 1);
+        let code = u16_number(table, at + CODE_AT);
         let found = scope_rule(at, kind, code, least);
         if found.rule != 0 {
             return placed(found, number, kind, code, 0);
@@ -198,7 +207,7 @@ fn bodies_end(table: &[u8], start: usize, bodies: usize, n: usize) -> usize
     let mut end = bodies;
     let mut left = n;
     while 0 < left {
-        end += ROW_SIZE * u16_number(table, at + 3);
+        end += ROW_SIZE * u16_number(table, at + ROW_COUNT_AT);
         at += SCOPE_SIZE;
         left -= 1;
     }
@@ -217,10 +226,10 @@ fn row_rule(at: usize, id: usize, target: usize, kind: usize, least: usize) -> B
         return broken(ID_HIGH, at, id, 0);
     }
     if LAST_TARGET < target {
-        return broken(TARGET_HIGH, at + 1, target, 0);
+        return broken(TARGET_HIGH, at + TARGET_AT, target, 0);
     }
     if KIND_BYTES < kind {
-        return broken(ROW_KIND, at + 3, kind, 0);
+        return broken(ROW_KIND, at + KIND_AT, kind, 0);
     }
     unbroken()
 }
@@ -259,8 +268,8 @@ fn rows_break(table: &[u8], start: usize, bodies: usize, n: usize) -> Break
     let mut number = 1;
     while 0 < left {
         let kind = byte_number(table, at);
-        let code = u16_number(table, at + 1);
-        let count = u16_number(table, at + 3);
+        let code = u16_number(table, at + CODE_AT);
+        let count = u16_number(table, at + ROW_COUNT_AT);
         let found = row_break(table, body, count, number, kind, code);
         if found.rule != 0 {
             return found;
@@ -298,13 +307,13 @@ fn search(table: &[u8]) -> Break
     if size < HEADER_AT {
         return broken(TOO_SHORT, size, HEADER_AT - size, 0);
     }
-    let headers = byte_number(table, 1);
+    let headers = byte_number(table, HEADER_COUNT_AT);
     if MOST_HEADERS < headers {
-        return broken(MANY_HEADERS, 1, headers, 0);
+        return broken(MANY_HEADERS, HEADER_COUNT_AT, headers, 0);
     }
-    let scopes = u16_number(table, 2);
+    let scopes = u16_number(table, SCOPE_COUNT_AT);
     if MOST_SCOPES < scopes {
-        return broken(MANY_SCOPES, 2, scopes, 0);
+        return broken(MANY_SCOPES, SCOPE_COUNT_AT, scopes, 0);
     }
     let contents = HEADER_AT + CODE_SIZE * headers;
     let bodies = contents + SCOPE_SIZE * scopes;
@@ -329,8 +338,8 @@ pub fn first_break(table: &[u8]) -> Break
     if codetable::well_formed(table) {
         return unbroken();
     }
-    if LONGEST < table.len() {
-        return broken(OVER_LONGEST, LONGEST, 0, 0);
+    if LONGEST_TABLE < table.len() {
+        return broken(OVER_LONGEST, LONGEST_TABLE, 0, 0);
     }
     search(table)
 }
