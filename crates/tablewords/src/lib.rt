@@ -1,5 +1,16 @@
 // The words for a code table that isn't well formed: one line with the place and the rule that it breaks there.
 use tablebreak::Break;
+use tablebreak::HEADER_ORDER;
+use tablebreak::ID_HIGH;
+use tablebreak::ID_ORDER;
+use tablebreak::MANY_HEADERS;
+use tablebreak::MANY_SCOPES;
+use tablebreak::ROW_KIND;
+use tablebreak::SCOPE_CODE;
+use tablebreak::SCOPE_KIND;
+use tablebreak::TARGET_HIGH;
+use tablebreak::TOO_LONG;
+use tablebreak::TOO_SHORT;
 use tabletext::put_scope_name;
 use text::put_byte;
 use text::put_decimal;
@@ -10,7 +21,7 @@ ghost use Rattle.text.specs.Writer.{Wrote};
 ghost use Rattle.tablewords.specs.Words as w;
 
 // The rules before it are of the contents, those from it on of rows and of the length.
-const FIRST_BODY_RULE: u32 = 7;
+const FIRST_BODY_RULE: u32 = ID_ORDER;
 
 fn put_scope_place(out: &mut [u8], at: usize, scope: u32) -> usize
     ensures { λ r. ⌜ Wrote (now (out .entry)) at (w.scopePlace scope) (now (out .exit)) r ⌝ }
@@ -84,16 +95,16 @@ fn put_scopes_order(out: &mut [u8], at: usize, b: Break) -> usize
     put_text(out, p, b"; form, report, entries by code must ascend")
 }
 
-// The rules of the contents, up to 6.
+// The rules of the contents, up to SCOPE_ORDER.
 fn put_contents_rule(out: &mut [u8], at: usize, b: Break) -> usize
     ensures { λ r. ⌜ Wrote (now (out .entry)) at (w.contentsRule b) (now (out .exit)) r ⌝ }
 {
     let rule = b.rule;
     match rule {
         0 => put_text(out, at, b"nothing is broken"),
-        1 => put_counted(out, at, b"there are ", b.found, b" header codes; at most 4"),
-        2 => put_counted(out, at, b"there are ", b.found, b" scopes; at most 64"),
-        3 => put_ordered(
+        MANY_HEADERS => put_counted(out, at, b"there are ", b.found, b" header codes; at most 4"),
+        MANY_SCOPES => put_counted(out, at, b"there are ", b.found, b" scopes; at most 64"),
+        HEADER_ORDER => put_ordered(
             out,
             at,
             b"header code ",
@@ -102,8 +113,8 @@ fn put_contents_rule(out: &mut [u8], at: usize, b: Break) -> usize
             b.before,
             b"; they must ascend",
         ),
-        4 => put_counted(out, at, b"kind ", b.found, b" is above 2 (entry)"),
-        5 => put_coded(
+        SCOPE_KIND => put_counted(out, at, b"kind ", b.found, b" is above 2 (entry)"),
+        SCOPE_CODE => put_coded(
             out,
             at,
             b"code ",
@@ -115,19 +126,19 @@ fn put_contents_rule(out: &mut [u8], at: usize, b: Break) -> usize
     }
 }
 
-// The rules of rows and of the length, from 7 on.
+// The rules of rows and of the length, from FIRST_BODY_RULE on.
 fn put_body_rule(out: &mut [u8], at: usize, b: Break) -> usize
     requires { ⌜ 7 ≤ b .rule ⌝ }
     ensures { λ r. ⌜ Wrote (now (out .entry)) at (w.bodyRule b) (now (out .exit)) r ⌝ }
 {
     let rule = b.rule;
     match rule {
-        7 => put_ordered(out, at, b"id ", 2, b.found, b.before, b"; ids must ascend"),
-        8 => put_coded(out, at, b"id ", 2, b.found, b" is above FC"),
-        9 => put_coded(out, at, b"target ", 4, b.found, b" is above 7FFF"),
-        10 => put_counted(out, at, b"kind ", b.found, b" is above 4 (bytes)"),
-        11 => put_counted(out, at, b"it is too short; bytes missing: ", b.found, b""),
-        12 => put_counted(out, at, b"it is too long; bytes left over: ", b.found, b""),
+        ID_ORDER => put_ordered(out, at, b"id ", 2, b.found, b.before, b"; ids must ascend"),
+        ID_HIGH => put_coded(out, at, b"id ", 2, b.found, b" is above FC"),
+        TARGET_HIGH => put_coded(out, at, b"target ", 4, b.found, b" is above 7FFF"),
+        ROW_KIND => put_counted(out, at, b"kind ", b.found, b" is above 4 (bytes)"),
+        TOO_SHORT => put_counted(out, at, b"it is too short; bytes missing: ", b.found, b""),
+        TOO_LONG => put_counted(out, at, b"it is too long; bytes left over: ", b.found, b""),
         _ => put_text(out, at, b"it goes on here; a table has at most 65100 bytes"),
     }
 }
