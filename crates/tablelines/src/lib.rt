@@ -35,6 +35,22 @@ const NO_CODE: u32 = 65536;
 
 const NO_ROW_KIND: u32 = 5;
 
+// The kinds of a row as numbers of 32 bits.
+const KIND_NUMBER: u32 = rules::KIND_NUMBER as u32;
+
+const KIND_TEXT: u32 = rules::KIND_TEXT as u32;
+
+const KIND_GUID: u32 = rules::KIND_GUID as u32;
+
+const KIND_DOUBLE: u32 = rules::KIND_DOUBLE as u32;
+
+const KIND_BYTES: u32 = rules::KIND_BYTES as u32;
+
+// What the byte of a letter has above its digit, where A and a are 10.
+const CAPITAL_ABOVE: u8 = b'A' - 10;
+
+const SMALL_ABOVE: u8 = b'a' - 10;
+
 // What a line says.
 pub enum Item {
     Nothing,
@@ -127,19 +143,19 @@ fn digit_of(b: u8) -> u32
         return NO_DIGIT;
     }
     if b <= b'9' {
-        return (b - 48) as u32;
+        return (b - b'0') as u32;
     }
     if b < b'A' {
         return NO_DIGIT;
     }
     if b <= b'F' {
-        return (b - 55) as u32;
+        return (b - CAPITAL_ABOVE) as u32;
     }
     if b < b'a' {
         return NO_DIGIT;
     }
     if b <= b'f' {
-        return (b - 87) as u32;
+        return (b - SMALL_ABOVE) as u32;
     }
     NO_DIGIT
 }
@@ -195,19 +211,19 @@ fn row_kind_of(word: &[u8]) -> u32
     ensures { λ r. ⌜ r ≡ w.rowKindOf (now (word .entry)) ⌝ }
 {
     if same_word(word, b"number") {
-        return 0;
+        return KIND_NUMBER;
     }
     if same_word(word, b"text") {
-        return 1;
+        return KIND_TEXT;
     }
     if same_word(word, b"guid") {
-        return 2;
+        return KIND_GUID;
     }
     if same_word(word, b"double") {
-        return 3;
+        return KIND_DOUBLE;
     }
     if same_word(word, b"bytes") {
-        return 4;
+        return KIND_BYTES;
     }
     NO_ROW_KIND
 }
