@@ -1,5 +1,5 @@
 -- The lines, field by field as the code writes them.
-use mathlib.Core.Path.{_≡_}
+use mathlib.Core.Path.{_≡_, refl}
 use mathlib.Core.List.{List, [], _∷_, _++_, append-assoc}
 use Prim.Native.Nat.{ℕ}
 use Rattle.rules.specs.Lists.{text}
@@ -16,6 +16,7 @@ use Rattle.text.proofs.Chain.{_⨟_}
 use Rattle.rows.specs.Get.{ControlOf, PropertyOf}
 use Rattle.rows.specs.declared.ControlRow.{ControlRow}
 use Rattle.fields.specs.Parts.{fields, shownFields}
+use Rattle.listing.specs.Numbers.{numbersLine}
 
 pub control-text : (stream : List ℕ) (n : ℕ) (row : List ℕ) → controlLine stream n row
     ≡ fields (text "C" ∷ decimal n ∷ hex 4 (word row 0) ∷ [])
@@ -37,16 +38,20 @@ unfolding propertyLine shownFields
 property-text stream n row = simp append-assoc
 
 -- ---- a line written, by the writers of its fields
-pub answer-wrote : (a : Answer) {o b1 b2 b3 b4 b5 b6 b7 b8 b9 new : List ℕ} {at p1 p2 p3 p4 p5 p6 p7 p8 p9 e : ℕ}
-    → Wrote o at (text "answer") b1 p1
-    → Wrote b1 p1 (text " ") b2 p2 → Wrote b2 p2 (decimal (a .number)) b3 p3
-    → Wrote b3 p3 (text " ") b4 p4 → Wrote b4 p4 (decimal (a .first)) b5 p5
-    → Wrote b5 p5 (text " ") b6 p6 → Wrote b6 p6 (decimal (a .second)) b7 p7
-    → Wrote b7 p7 (text " ") b8 p8 → Wrote b8 p8 (decimal (a .third)) b9 p9
+pub numbers-wrote : (word : List ℕ) (a b c d : ℕ) {o b1 b2 b3 b4 b5 b6 b7 b8 b9 new : List ℕ} {at p1 p2 p3 p4 p5 p6 p7 p8 p9 e : ℕ}
+    → Wrote o at word b1 p1
+    → Wrote b1 p1 (text " ") b2 p2 → Wrote b2 p2 (decimal a) b3 p3
+    → Wrote b3 p3 (text " ") b4 p4 → Wrote b4 p4 (decimal b) b5 p5
+    → Wrote b5 p5 (text " ") b6 p6 → Wrote b6 p6 (decimal c) b7 p7
+    → Wrote b7 p7 (text " ") b8 p8 → Wrote b8 p8 (decimal d) b9 p9
     → Wrote b9 p9 (text "\n") new e
-    → Wrote o at (answerLine a) new e
-unfolding answerLine
-answer-wrote a w1 w2 w3 w4 w5 w6 w7 w8 w9 w10 = w1 ⨟ w2 ⨟ w3 ⨟ w4 ⨟ w5 ⨟ w6 ⨟ w7 ⨟ w8 ⨟ w9 ⨟ w10
+    → Wrote o at (numbersLine word a b c d) new e
+unfolding numbersLine
+numbers-wrote word a b c d w1 w2 w3 w4 w5 w6 w7 w8 w9 w10 = w1 ⨟ w2 ⨟ w3 ⨟ w4 ⨟ w5 ⨟ w6 ⨟ w7 ⨟ w8 ⨟ w9 ⨟ w10
+
+pub answer-is : (a : Answer) → numbersLine (text "answer") (a .number) (a .first) (a .second) (a .third) ≡ answerLine a
+unfolding numbersLine answerLine
+answer-is a = refl
 
 module _ (n : ℕ) (row : List ℕ) where
   pub control-wrote : (stream : List ℕ) {o b1 b2 b3 b4 b5 b6 b7 b8 b9 b10 new : List ℕ} {at p1 p2 p3 p4 p5 p6 p7 p8 p9 p10 e : ℕ} {r : ControlRow}

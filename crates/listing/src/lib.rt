@@ -21,22 +21,30 @@ ghost use Rattle.rules.specs.Rows.{controlWidth, propertyWidth, typeInfoWidth, 
 ghost use Rattle.rules.specs.Listing.{orDash, answerLine, controlLine, propertyLine};
 ghost use Rattle.names.specs.Lookup.{Lent};
 ghost use Rattle.text.specs.Writer.{Wrote};
+ghost use Rattle.listing.specs.Numbers.{numbersLine};
 ghost use Rattle.listing.specs.InfoLine.{isShown, nameByte, nameBytes, sizeColumn, infoLine};
 ghost use Rattle.listing.specs.Shown.{lineOf, widthOf, linesTo};
+
+// A line of a word and four numbers.
+pub fn numbers_line(out: &mut [u8], at: usize, word: &[u8], a: u32, b: u32, c: u32, d: u32) -> usize
+    ensures { λ r. ⌜ Wrote (now (out .entry)) at (numbersLine (now (word .entry)) a b c d) (now (out .exit)) r ⌝ }
+{
+    let p = put_text(out, at, word);
+    let p = put_byte(out, p, b' ');
+    let p = put_decimal(out, p, a);
+    let p = put_byte(out, p, b' ');
+    let p = put_decimal(out, p, b);
+    let p = put_byte(out, p, b' ');
+    let p = put_decimal(out, p, c);
+    let p = put_byte(out, p, b' ');
+    let p = put_decimal(out, p, d);
+    put_end(out, p)
+}
 
 pub fn answer_line(out: &mut [u8], at: usize, a: Answer) -> usize
     ensures { λ r. ⌜ Wrote (now (out .entry)) at (answerLine a) (now (out .exit)) r ⌝ }
 {
-    let p = put_text(out, at, b"answer");
-    let p = put_byte(out, p, b' ');
-    let p = put_decimal(out, p, a.number);
-    let p = put_byte(out, p, b' ');
-    let p = put_decimal(out, p, a.first);
-    let p = put_byte(out, p, b' ');
-    let p = put_decimal(out, p, a.second);
-    let p = put_byte(out, p, b' ');
-    let p = put_decimal(out, p, a.third);
-    put_end(out, p)
+    numbers_line(out, at, b"answer", a.number, a.first, a.second, a.third)
 }
 
 // The listing of what is refused by a number: its answer line from the start of the buffer on.

@@ -7,7 +7,6 @@ use borrow.Author.Tests.{lt-ltb, le-ltb}
 use lib.ListN.{length, take, drop, length-drop, length-append}
 use lib.Seq.{take-all}
 use Rattle.rules.specs.Lists.{text}
-use Rattle.rules.specs.Digits.{decimal}
 use Rattle.rules.specs.Answer.{refusal, badTable}
 use Rattle.rules.specs.Rows.{controlWidth, rowAt}
 use Rattle.rules.specs.Blob.{Exit}
@@ -17,6 +16,7 @@ use Rattle.rules.specs.declared.Answer.{Answer}
 use Rattle.blob.specs.Exit.{exited}
 use Rattle.rows.specs.Get.{ControlOf}
 use Rattle.rows.specs.declared.ControlRow.{ControlRow}
+use Rattle.listing.specs.Numbers.{numbersLine}
 use Rattle.listing.specs.Written.{Written}
 use Rattle.listing.proofs.Longest.{Word32, decimal-short, answer-short}
 use Rattle.text.specs.Writer.{Wrote}
@@ -27,19 +27,8 @@ use Rattle.panelsay.specs.Judged.{rowLine, rowText, said, judged, contro
 
 -- ---- a row's line
 module _ (k m s z : ℕ) where
-  pub row-wrote : {o b1 b2 b3 b4 b5 b6 b7 b8 b9 new : List ℕ} {at p1 p2 p3 p4 p5 p6 p7 p8 p9 e : ℕ}
-      → Wrote o at (text "control") b1 p1
-      → Wrote b1 p1 (text " ") b2 p2 → Wrote b2 p2 (decimal k) b3 p3
-      → Wrote b3 p3 (text " ") b4 p4 → Wrote b4 p4 (decimal m) b5 p5
-      → Wrote b5 p5 (text " ") b6 p6 → Wrote b6 p6 (decimal s) b7 p7
-      → Wrote b7 p7 (text " ") b8 p8 → Wrote b8 p8 (decimal z) b9 p9
-      → Wrote b9 p9 (text "\n") new e
-      → Wrote o at (rowLine k m s z) new e
-  unfolding rowLine
-  row-wrote w1 w2 w3 w4 w5 w6 w7 w8 w9 w10 = w1 ⨟ w2 ⨟ w3 ⨟ w4 ⨟ w5 ⨟ w6 ⨟ w7 ⨟ w8 ⨟ w9 ⨟ w10
-
   pub row-short : Word32 k → Word32 m → Word32 s → Word32 z → length (rowLine k m s z) ≤ 52
-  unfolding rowLine
+  unfolding numbersLine
   row-short h0 h1 h2 h3 = simp length-append (omega (arith, decimal-short k h0, decimal-short m h1, decimal-short s h2, decimal-short z h3))
 
 row-is : (row : List ℕ) {r : ControlRow} → ControlOf row r → rowLine (r .«type_code») (r .mark) (r .start) (r .size) ≡ rowText row

@@ -2,21 +2,21 @@
 use Prim.Native.Nat.{ℕ, _+_, _*_, _≤_}
 use mathlib.Core.Path.{_≡_}
 use mathlib.Core.Bool.{cond}
-use mathlib.Core.List.{List, [], _∷_, _++_}
+use mathlib.Core.List.{List, _++_}
 use lib.Dec.{ltb}
 use lib.ListN.{length, take, replicate}
 use Rattle.rules.specs.Lists.{text}
-use Rattle.rules.specs.Digits.{decimal}
 use Rattle.rules.specs.Answer.{refusal, badTable, longest}
 use Rattle.rules.specs.Rows.{controlWidth, propertyWidth, rowAt}
 use Rattle.rules.specs.Blob.{Exit}
 use Rattle.rules.specs.Panel.{panelExit}
-use Rattle.rules.specs.Listing.{line, word, answerLine, tableLength, tableIn, blobIn}
+use Rattle.rules.specs.Listing.{word, answerLine, tableLength, tableIn, blobIn}
+use Rattle.listing.specs.Numbers.{numbersLine}
 
 -- ---- the lines
 -- type, mark of the name, where it starts and how many bytes it has
-unfoldable pub rowLine : ℕ → ℕ → ℕ → ℕ → List ℕ
-rowLine type mark start size = line (text "control" ∷ decimal type ∷ decimal mark ∷ decimal start ∷ decimal size ∷ [])
+abbrev pub rowLine : ℕ → ℕ → ℕ → ℕ → List ℕ
+rowLine type mark start size = numbersLine (text "control") type mark start size
 
 -- by the words of a row
 unfoldable pub rowText : List ℕ → List ℕ

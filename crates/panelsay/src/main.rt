@@ -1,8 +1,8 @@
 // Judges the Blob that standard input holds after its code table by the rules of panels; specs/Judged.antt says what is printed.
-use fields::put_end;
 use libc::STDIN_FILENO;
 use libc::STDOUT_FILENO;
 use listing::answer_line;
+use listing::numbers_line;
 use listing::refusal_line;
 use numbers::u32_at;
 use rows::CONTROL_WIDTH;
@@ -11,9 +11,6 @@ use rows::PROPERTY_WIDTH;
 use rows::get_control;
 use rules::BAD_TABLE;
 use rules::LONGEST;
-use text::put_byte;
-use text::put_decimal;
-use text::put_text;
 ghost use mathlib.Core.Path.{_≡_};
 ghost use mathlib.Core.List.{List};
 ghost use Prim.Native.Nat.{ℕ, _≤_, _<_};
@@ -72,16 +69,15 @@ fn large_properties() -> [u32; 262144 * PROPERTY_WIDTH]
 fn row_line(out: &mut [u8], at: usize, row: ControlRow) -> usize
     ensures { λ r. ⌜ Wrote (now (out .entry)) at (rowLine (row .«type_code») (row .mark) (row .start) (row .size)) (now (out .exit)) r ⌝ }
 {
-    let p = put_text(out, at, b"control");
-    let p = put_byte(out, p, b' ');
-    let p = put_decimal(out, p, row.type_code);
-    let p = put_byte(out, p, b' ');
-    let p = put_decimal(out, p, row.mark);
-    let p = put_byte(out, p, b' ');
-    let p = put_decimal(out, p, row.start);
-    let p = put_byte(out, p, b' ');
-    let p = put_decimal(out, p, row.size);
-    put_end(out, p)
+    numbers_line(
+        out,
+        at,
+        b"control",
+        row.type_code,
+        row.mark,
+        row.start,
+        row.size,
+    )
 }
 
 // The answer, and the control row that its second count names.

@@ -1,8 +1,8 @@
 use borrow.Author.Needs.{needs}
 use Rattle.text.proofs.Chain.{same}
-use Rattle.panelsay.proofs.Printing.{row-wrote}
-use Rattle.panelsay.proofs.row_line.Statement.{statement}
-use Rattle.panelsay.proofs.row_line.Tie as tie
+use Rattle.listing.proofs.Rows.{numbers-wrote}
+use Rattle.listing.proofs.numbers_line.Statement.{statement}
+use Rattle.listing.proofs.numbers_line.Tie as tie
 
 -- the places that are too far from the end to be found from there
 blank-of : tie.After-put-decimal → tie.After-put-byte
@@ -26,8 +26,8 @@ returns c =
     let number : tie.After-put-decimal = search in
     let blank = blank-of number in
     let word = word-of blank in
-    let row = start-of word .args .row in
-    row-wrote (row .«type_code») (row .mark) (row .start) (row .size)
+    let a = start-of word .args in
+    numbers-wrote (a .word .now) (a .a) (a .b) (a .c) (a .d)
     (word .put-text .ensures)
     (blank .put-byte .ensures)
     (number .put-decimal .ensures)
@@ -42,11 +42,11 @@ returns c =
 same-length : tie.Need-same-length
 same-length c = same (returns c)
 
-pub row-line-spec : {M : Type 1} → statement M
-row-line-spec =
+pub numbers-line-spec : {M : Type 1} → statement M
+numbers-line-spec =
     tie.close
     (tie.spec
-    (λ c. search needs) (λ c κs. search needs) (λ c κs. search needs) (λ c κs. search needs) (λ c κs. search needs)
+    (λ c κs. search needs) (λ c κs. search needs) (λ c κs. search needs) (λ c κs. search needs)
     (λ c κs. search needs) (λ c κs. search needs) (λ c κs. search needs) (λ c κs. search needs) (λ c κs. search needs)
     (λ c κs. search needs)
     same-length
