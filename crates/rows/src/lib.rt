@@ -1,11 +1,14 @@
 // What a reading is lent and answers, whatever the layout: rows with their widths and words by name, the cursor of whoever writes them,
 // what was counted of a stream, and the answer for these counts in the room that there is.
 use rules::Answer;
+use rules::MORE_CONTROLS;
+use rules::MORE_PROPERTIES;
 use rules::NAME_LOOSE;
 use rules::NAME_NUMBERED;
 use rules::NAME_TEXT;
 use rules::Name;
 use rules::Property;
+use rules::READ;
 use rules::Value;
 use text::label_length;
 ghost use mathlib.Core.Path.{_≡_};
@@ -37,11 +40,6 @@ pub const NO_PARENT: u32 = 0xFFFFFFFF;
 const FIRST_SECTION: usize = 0x98;
 
 const LAST_SECTION: usize = 0x9E;
-
-// The refusals for want of room.
-const FEW_CONTROL_ROWS: u32 = 6;
-
-const FEW_PROPERTY_ROWS: u32 = 7;
 
 // The words of a control's row.
 pub struct ControlRow {
@@ -272,10 +270,10 @@ pub fn judge(
     ensures { λ r. ⌜ Judged controls props own («control_words» / controlWidth) («property_words» / propertyWidth) r ⌝ }
 {
     if control_words / CONTROL_WIDTH < controls {
-        return counted(FEW_CONTROL_ROWS, controls, props, own);
+        return counted(MORE_CONTROLS, controls, props, own);
     }
     if property_words / PROPERTY_WIDTH < props {
-        return counted(FEW_PROPERTY_ROWS, controls, props, own);
+        return counted(MORE_PROPERTIES, controls, props, own);
     }
-    counted(0, controls, props, own)
+    counted(READ, controls, props, own)
 }
