@@ -31,10 +31,12 @@ pub const CODE_AT: usize = 1;
 
 pub const ROW_COUNT_AT: usize = 3;
 
-// In a row the target stands after the id, and the kind of its value after that.
-const TARGET_AT: usize = 1;
+// In a row the target stands after the id, low byte first, and the kind of its value after that, as its last byte.
+pub const TARGET_AT: usize = 1;
 
-const KIND_AT: usize = 3;
+const TARGET_HIGH_AT: usize = TARGET_AT + 1;
+
+pub const KIND_AT: usize = 3;
 
 // A table has no more header codes and scopes than these.
 pub const MOST_HEADERS: usize = 4;
@@ -70,7 +72,7 @@ pub fn read_row(table: &[u8], at: usize) -> RowRead
     requires { ⌜ at + 3 < 2 ^ 60 ⌝ }
     ensures { λ r. ⌜ ReadsRow (now (table .entry)) at r ⌝ }
 {
-    if at + 3 < table.len() {
+    if at + KIND_AT < table.len() {
         return RowRead {
             id: number_of(table[at]),
             target: number_of(table[at + TARGET_AT]) + 256 * number_of(table[at + TARGET_AT + 1]),
@@ -117,8 +119,7 @@ fn ties_ok(table: &[u8], start: usize, n: usize) -> bool
         if id < least {
             return false;
         }
-        // the target's high byte
-        if TARGET_HIGH < table[at + 2] {
+        if TARGET_HIGH < table[at + TARGET_HIGH_AT] {
             return false;
         }
         if KIND_BYTES < table[at + KIND_AT] {

@@ -4,6 +4,7 @@ use codetable::CODE_SIZE;
 use codetable::CODES;
 use codetable::HEADER_AT;
 use codetable::HEADER_COUNT_AT;
+use codetable::KIND_AT;
 use codetable::LONGEST_TABLE;
 use codetable::MOST_HEADERS;
 use codetable::MOST_SCOPES;
@@ -11,6 +12,7 @@ use codetable::ROW_COUNT_AT;
 use codetable::ROW_SIZE;
 use codetable::SCOPE_COUNT_AT;
 use codetable::SCOPE_SIZE;
+use codetable::TARGET_AT;
 use codetable::read_row;
 use numbers::byte_number;
 use numbers::u16_number;
@@ -50,11 +52,6 @@ pub const OVER_LONGEST: u32 = 13;
 const LAST_ID: usize = rules::LAST_ID as usize;
 
 const LAST_TARGET: usize = codetable::LAST_TARGET as usize;
-
-// In a row the target stands after the id, and the kind of its value after that.
-const TARGET_AT: usize = 1;
-
-const KIND_AT: usize = 3;
 
 // The last kind of a scope, which alone has codes, and the last kind of a row.
 const SCOPE_ENTRY: usize = rules::SCOPE_ENTRY as usize;
