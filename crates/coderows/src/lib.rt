@@ -24,6 +24,11 @@ pub const LISTED_WORDS: usize = 3;
 
 pub const SCOPE_LIST_WORDS: usize = LISTED_WORDS * MOST_SCOPES;
 
+// After the word of a scope's kind and code stands where its rows start, and then how many they are.
+const LISTED_START_AT: usize = 1;
+
+const LISTED_COUNT_AT: usize = 2;
+
 // Where the rows of a scope are, and how many. A scope that is missing has none.
 pub struct Body {
     pub start: u32,
@@ -103,8 +108,8 @@ pub fn list_scopes(table: &[u8], scopes: &mut [u32])
         let count = u16_number(table, at + ROW_COUNT_AT);
         let k = LISTED_WORDS * i;
         scopes[k] = key as u32;
-        scopes[k + 1] = body as u32;
-        scopes[k + 2] = count as u32;
+        scopes[k + LISTED_START_AT] = body as u32;
+        scopes[k + LISTED_COUNT_AT] = count as u32;
         body += ROW_SIZE * count;
         at += SCOPE_SIZE;
         i += 1;
@@ -165,8 +170,8 @@ pub fn scope_near(
     let k = LISTED_WORDS * index;
     Scope {
         body: Body {
-            start: scopes[k + 1],
-            count: scopes[k + 2],
+            start: scopes[k + LISTED_START_AT],
+            count: scopes[k + LISTED_COUNT_AT],
         },
         near: index,
     }
