@@ -11,7 +11,7 @@ use Rattle.rows.specs.Writing.{State, writeControls}
 use Rattle.rows.specs.Acts.{Nodes, topNodes, Held, Fit, actBy, Ready}
 use Rattle.rows.proofs.WritingLaws.{write-lengths}
 use Rattle.rows.proofs.ActLaws.{at-place}
-use Rattle.cursor.specs.Walk.{Step, Steps, entryBy, _before_}
+use Rattle.cursor.specs.Walk.{Step, Steps, entryBy}
 use Rattle.cursor.specs.Stack.{countOf, Before, Moved, stackWords}
 use Rattle.cursor.specs.Cursors.{cursor, Passed}
 use Rattle.cursor.specs.declared.Cursor.{Cursor}

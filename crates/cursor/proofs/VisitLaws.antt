@@ -7,7 +7,7 @@ use mathlib.Core.Option.{some}
 use lib.ListN.{length}
 use Rattle.rules.specs.Tree.{Node, levels, levelsAt, isReported, noParent}
 use Rattle.rows.specs.Acts.{Nodes, topNodes, Held}
-use Rattle.cursor.specs.Walk.{Step, nodeOf, Steps, entryBy, _before_}
+use Rattle.cursor.specs.Walk.{Step, nodeOf, Steps, entryBy}
 use Rattle.cursor.specs.Stack.{countOf, Before, Moved, stackWords}
 use Rattle.cursor.specs.Cursors.{cursor, Picked, Passed}
 use Rattle.cursor.specs.Work.{Ran}

@@ -1,19 +1,19 @@
 -- Names by their bytes, compared from the last one on; and the names of the rows before one.
-use Prim.Native.Nat.{ℕ, zero, suc, _+_, _*_, _-_, _≤_, _<_}
+use Prim.Native.Nat.{ℕ, suc, _+_, _*_, _-_, _≤_, _<_}
 use native.Mathlib.Omega.{arith}
 use mathlib.Core.Path.{_≡_, refl, sym, ap, ap₂, _∙_}
 use mathlib.Core.Bool.{Bool, true, false, not, _&&_}
 use mathlib.Core.List.{List, [], _∷_, _++_}
 use borrow.Author.Tests.{eq-eqb, ne-eqb}
 use lib.Dec.{eqb}
-use lib.ListN.{length, getD, take, drop, length-drop}
+use lib.ListN.{length, getD, drop, length-drop}
 use lib.Seq.{take-suc, getD-drop, length-take-le}
 use Rattle.rules.specs.Lists.{all, same}
 use Rattle.rules.specs.Bytes.{byte, part}
 use Rattle.rules.specs.Rows.{controlWidth}
 use Rattle.rules.specs.Panel.{isNewName}
 use Rattle.rows.proofs.GetLaws.{word-in}
-use Rattle.panel.specs.ByRows.{rowOf, startAt, sizeAt, bytesAt, namesBefore}
+use Rattle.panel.specs.ByRows.{startAt, sizeAt, bytesAt, namesBefore}
 
 -- ---- lists that are the same
 and-true : (b : Bool) → (b && true) ≡ b

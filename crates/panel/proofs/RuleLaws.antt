@@ -1,26 +1,22 @@
 -- The first rule that a row breaks, and the first row that breaks one.
-use Prim.Native.Nat.{ℕ, zero, suc, _+_, _*_, _-_, _≤_, _<_}
+use Prim.Native.Nat.{ℕ, suc, _+_, _-_, _≤_, _<_}
 use native.Mathlib.Omega.{arith}
 use native.Mathlib.Numerals.{add-one}
 use mathlib.Core.Path.{_≡_, refl, sym, ap, ap₂, _∙_}
-use mathlib.Core.Bool.{Bool, true, false, cond, not}
+use mathlib.Core.Bool.{Bool, true, false, cond}
 use mathlib.Core.List.{List, [], _∷_}
 use mathlib.Core.Option.{Option, none, some}
 use borrow.Author.Tests.{eqb-true, eq-eqb, ne-eqb, le-leb, lt-leb}
 use lib.Dec.{eqb, leb}
-use lib.ListN.{length}
 use Rattle.rules.specs.Answer.{answer}
-use Rattle.rules.specs.Rows.{controlWidth}
 use Rattle.rules.specs.Listing.{word}
 use Rattle.rules.specs.Reading.{Control}
 use Rattle.rules.specs.Bytes.{part}
-use Rattle.rules.specs.declared.Answer.{Answer}
-use Rattle.rules.specs.declared.Name.{Name}
-use Rattle.rules.specs.declared.Name.the-variants.{Text, Numbered, Loose}
-use Rattle.rules.specs.Panel.{hasTypeName, isTextName, nameBytes, isNewName, isFilled, isPlaced, isShallow, kept, firstBroken, rowOr, brokenFrom, broken, verdict}
-use Rattle.rows.specs.Get.{ControlOf, propertiesFrom}
+use Rattle.rules.specs.declared.Name.the-variants.{Numbered, Loose}
+use Rattle.rules.specs.Panel.{hasTypeName, isTextName, nameBytes, isNewName, isFilled, isPlaced, kept, firstBroken, rowOr, brokenFrom, broken, verdict}
+use Rattle.rows.specs.Get.{ControlOf}
 use Rattle.rows.specs.declared.ControlRow.{ControlRow}
-use Rattle.panel.specs.ByRows.{rowOf, markAt, startAt, sizeAt, nameBy, controlBy, controlsFrom, bytesAt, namesBefore, between, Inside, Rows, Before, ruleOr0, ruleOf}
+use Rattle.panel.specs.ByRows.{rowOf, markAt, nameBy, controlBy, controlsFrom, bytesAt, namesBefore, between, Inside, Rows, Before, ruleOr0, ruleOf}
 use Rattle.panel.proofs.PropertyLaws.{counted}
 
 -- ---- names by their words

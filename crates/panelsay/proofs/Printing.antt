@@ -6,7 +6,6 @@ use mathlib.Core.List.{List, _++_}
 use borrow.Author.Tests.{lt-ltb, le-ltb}
 use lib.ListN.{length, take, drop, length-drop, length-append}
 use lib.Seq.{take-all}
-use Rattle.rules.specs.Lists.{text}
 use Rattle.rules.specs.Answer.{refusal, badTable}
 use Rattle.rules.specs.Rows.{controlWidth, rowAt}
 use Rattle.rules.specs.Blob.{Exit}

@@ -10,7 +10,6 @@ use types::TYPE_CODES;
 use types::TYPE_PLACES;
 ghost use mathlib.Core.Path.{_≡_};
 ghost use mathlib.Core.Bool.{cond, _&&_};
-ghost use mathlib.Core.List.{[], _∷_};
 ghost use Prim.Native.Nat.{_+_};
 ghost use lib.Dec.{leb};
 ghost use Rattle.totallaws.proofs.TotalsLaws.{typePlace};

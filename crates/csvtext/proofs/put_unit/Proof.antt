@@ -2,7 +2,6 @@ use borrow.Author.Needs.{needs}
 use native.Mathlib.Omega.{arith}
 use mathlib.Core.Path.{sym, ap, _∙_}
 use Rattle.rules.specs.Utf8.{utf8Of}
-use Rattle.rules.specs.Scalars.{scalar}
 use Rattle.text.proofs.Chain.{nothing, _⨟_, wrote-as}
 use Rattle.csvtext.proofs.Spelling.{first-half}
 use Rattle.csvtext.specs.Units.{doubledOf}

@@ -1,6 +1,5 @@
 use Prim.Native.Nat.{_+_, _*_}
 use native.Mathlib.Omega.{arith}
-use mathlib.Core.Path.{_≡_}
 use borrow.Author.Needs.{needs}
 use Rattle.rules.specs.Rows.{controlWidth}
 use Rattle.panel.proofs.NameLaws.{start-is, size-is, size-other, size-same}
