@@ -1,5 +1,5 @@
 -- What is printed for an input: a form, line by line, or the line of a refusal.
-use Prim.Native.Nat.{ℕ, _+_, _≤_}
+use Prim.Native.Nat.{ℕ, _+_, _*_, _≤_}
 use mathlib.Core.Path.{_≡_}
 use mathlib.Core.Bool.{cond}
 use mathlib.Core.List.{List}
@@ -7,6 +7,7 @@ use lib.Dec.{ltb, eqb}
 use lib.ListN.{length, drop, replicate}
 use Rattle.rules.specs.Bytes.{u32, part}
 use Rattle.rules.specs.Answer.{refusal, tooLong, badTable, noRoomForText}
+use Rattle.rules.specs.Rows.{controlWidth, propertyWidth, typeInfoWidth}
 use Rattle.rules.specs.Listing.{answerLine}
 use Rattle.tabletext.specs.Input.{Began}
 use Rattle.showlines.specs.Shown.{shownBlob, shownPaired}
@@ -17,7 +18,7 @@ longestStream = 4194304
 
 -- a code table of up to 65,536 bytes always has room beside both
 abbrev pub longestInput : ℕ
-longestInput = 8454152
+longestInput = 4 + 65536 + 4 + 2 * longestStream
 
 -- ---- the input: the length of the code table, the code table, the length of TypeInfo, TypeInfo, a Blob
 abbrev pub infoAt : List ℕ → ℕ
@@ -55,25 +56,25 @@ shownIn input infos controls properties =
 unfoldable pub zeros : ℕ → List ℕ
 zeros n = replicate n 0
 
--- for 2,048 rows of TypeInfo, 5,461 controls and 16,384 properties, which is room for all that an input under 16,384 bytes can have
+-- room for all that an input under 16,384 bytes can have
 abbrev pub smallInfos : ℕ
-smallInfos = 10240
+smallInfos = 2048 * typeInfoWidth
 
 abbrev pub smallControls : ℕ
-smallControls = 43688
+smallControls = 5461 * controlWidth
 
 abbrev pub smallProperties : ℕ
-smallProperties = 98304
+smallProperties = 16384 * propertyWidth
 
--- for 524,284 rows of TypeInfo, as many as 4,194,304 bytes can have, 16,384 controls and 262,144 properties
+-- for a longer one: 524,284 rows of TypeInfo are as many as 4,194,304 bytes can have
 abbrev pub largeInfos : ℕ
-largeInfos = 2621420
+largeInfos = 524284 * typeInfoWidth
 
 abbrev pub largeControls : ℕ
-largeControls = 131072
+largeControls = 16384 * controlWidth
 
 abbrev pub largeProperties : ℕ
-largeProperties = 1572864
+largeProperties = 262144 * propertyWidth
 
 unfoldable pub infosFor : List ℕ → List ℕ
 infosFor input = cond (ltb (length input) 16384) (zeros smallInfos) (zeros largeInfos)
@@ -101,7 +102,7 @@ printed input = fitted (shownFor input)
 -- ---- what is asked before
 -- so many bytes are read, one more than the longest input has, so that a longer one is told
 abbrev pub mostRead : ℕ
-mostRead = 8454153
+mostRead = longestInput + 1
 
 pub record Ready (input infos controls properties : List ℕ) : Type 0 where
   pub short : length input ≤ mostRead
