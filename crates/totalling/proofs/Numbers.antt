@@ -10,7 +10,7 @@ use Rattle.rules.specs.Bytes.{u32}
 use Rattle.rules.specs.Listing.{answerLine}
 use Rattle.rules.specs.declared.Totals.{Totals}
 use Rattle.rules.specs.declared.Totalled.{Totalled}
-use Rattle.totalling.specs.Counted.{numbersAt, recordIn, fourBytes, numberBytes, recordBytes, said}
+use Rattle.totalling.specs.Counted.{numbersAt, recordIn, fourBytes, numberBytes, recordBytes, said, mostSaid}
 
 -- ---- read
 pub numbers-start : (s out : List ℕ) (p n : ℕ) → numbersAt s p n ≡ take 0 out ++ numbersAt s p (n - 0)
@@ -59,6 +59,6 @@ unfolding recordBytes
 record-many t a b m =
     simp length-append (omega (arith, bytes-many (t .answers), bytes-many (t .types), bytes-many (t .marks)))
 
-pub said-short : (e : Totalled) → length (answerLine (e .answer)) ≤ 51 → length (recordBytes (e .totals)) ≡ 192 → length (said e) ≤ 243
+pub said-short : (e : Totalled) → length (answerLine (e .answer)) ≤ 51 → length (recordBytes (e .totals)) ≡ 192 → length (said e) ≤ mostSaid
 unfolding said
 said-short e h k = simp length-append (omega arith)

@@ -1,5 +1,5 @@
 -- What is printed for a stream that is counted into a record: the line of the answer, and after it the record at exit.
-use Prim.Native.Nat.{ℕ, zero, suc, _+_, _/_, _%_, _≤_}
+use Prim.Native.Nat.{ℕ, zero, suc, _+_, _/_, _%_}
 use mathlib.Core.Bool.{cond}
 use mathlib.Core.List.{List, [], _∷_, _++_}
 use lib.Dec.{ltb}
@@ -10,7 +10,6 @@ use Rattle.rules.specs.Listing.{answerLine}
 use Rattle.rules.specs.Totals.{totalsExit}
 use Rattle.rules.specs.declared.Totals.{Totals}
 use Rattle.rules.specs.declared.Totalled.{Totalled}
-use Rattle.text.specs.Writer.{Wrote}
 
 -- ---- the input: room for controls and for properties, the record, the table's length, all in numbers of four bytes; then the table, and the stream
 -- so many numbers, from a place on
@@ -72,7 +71,6 @@ mostRead = 16842957
 unfoldable pub countedOf : List ℕ → List ℕ
 countedOf input = counted (take mostRead input)
 
--- ---- what is written has room
-pub record Written (old text new : List ℕ) (end : ℕ) : Type 0 where
-  pub wrote : Wrote old 0 text new end
-  pub short : length text ≤ 243
+-- an answer's line and the record are no longer than this
+abbrev pub mostSaid : ℕ
+mostSaid = 51 + 192

@@ -16,7 +16,8 @@ ghost use lib.ListN.{length};
 ghost use Rattle.rules.specs.Totals.{totalsExit};
 ghost use Rattle.text.specs.Writer.{Wrote};
 ghost use Rattle.tabletext.specs.Input.{Began};
-ghost use Rattle.totalling.specs.Counted.{numbersAt, recordIn, controlRoomIn, propertyRoomIn, fourBytes, numberBytes, recordBytes, said, counted, mostRead, countedOf, Written};
+ghost use Rattle.listing.specs.Written.{Written};
+ghost use Rattle.totalling.specs.Counted.{numbersAt, recordIn, controlRoomIn, propertyRoomIn, fourBytes, numberBytes, recordBytes, said, counted, mostRead, mostSaid, countedOf};
 
 // Where the input's parts stand: room for rows, the record's numbers, the table's length, the table.
 const PROPERTY_ROOM_AT: usize = 4;
@@ -122,7 +123,7 @@ fn put_record(out: &mut [u8], at: usize, t: Totals) -> usize
 // ---- what is printed
 // The answer to a stream, and the record at exit; record and room are the input's.
 fn write_said(input: &[u8], table: &[u8], stream: &[u8], out: &mut [u8]) -> usize
-    ensures { λ r. ⌜ Written (now (out .entry)) (said (totalsExit (recordIn (now (input .entry))) (now (table .entry)) (now (stream .entry)) (controlRoomIn (now (input .entry))) (propertyRoomIn (now (input .entry))))) (now (out .exit)) r ⌝ }
+    ensures { λ r. ⌜ Written (now (out .entry)) (said (totalsExit (recordIn (now (input .entry))) (now (table .entry)) (now (stream .entry)) (controlRoomIn (now (input .entry))) (propertyRoomIn (now (input .entry))))) mostSaid (now (out .exit)) r ⌝ }
 {
     let old = record_in(input);
     let controls = u32_at(input, 0);
@@ -133,7 +134,7 @@ fn write_said(input: &[u8], table: &[u8], stream: &[u8], out: &mut [u8]) -> usiz
 }
 
 fn write_counted(input: &[u8], out: &mut [u8]) -> usize
-    ensures { λ r. ⌜ Written (now (out .entry)) (counted (now (input .entry))) (now (out .exit)) r ⌝ }
+    ensures { λ r. ⌜ Written (now (out .entry)) (counted (now (input .entry))) mostSaid (now (out .exit)) r ⌝ }
 {
     if input.len() < TABLE_AT {
         return refusal_line(out, BAD_TABLE);
