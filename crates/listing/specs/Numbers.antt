@@ -1,4 +1,4 @@
--- A line of a word and four numbers, as an answer has and a control of whom it says where its name is.
+-- A line of a word and four numbers: that of an answer, and that of a judged control.
 use Prim.Native.Nat.{ℕ}
 use mathlib.Core.List.{List, [], _∷_}
 use Rattle.rules.specs.Digits.{decimal}
