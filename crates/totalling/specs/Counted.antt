@@ -57,12 +57,16 @@ recordBytes t = numberBytes (t .answers) ++ (numberBytes (t .types) ++ (fourByte
 unfoldable pub said : Totalled → List ℕ
 said e = answerLine (e .answer) ++ recordBytes (e .totals)
 
+-- of a table and a stream, counted into the record of an input in its room
+abbrev pub saidFor : List ℕ → List ℕ → List ℕ → List ℕ
+saidFor input table stream = said (totalsExit (recordIn input) table stream (controlRoomIn input) (propertyRoomIn input))
+
 -- an input that is too short for its table is refused as a bad table, and no record is printed
 unfoldable pub counted : List ℕ → List ℕ
 counted input =
     cond (ltb (length input) 204) (answerLine (refusal badTable))
     (cond (ltb (length input) (204 + tableLengthIn input)) (answerLine (refusal badTable))
-    (said (totalsExit (recordIn input) (tableIn input) (streamIn input) (controlRoomIn input) (propertyRoomIn input))))
+    (saidFor input (tableIn input) (streamIn input)))
 
 -- so many bytes are read: with a table of 65,536 bytes, one more than the longest stream has, so that a longer one is answered 5 whatever comes after it
 abbrev pub mostRead : ℕ

@@ -13,11 +13,10 @@ ghost use mathlib.Core.Bool.{true};
 ghost use mathlib.Core.List.{List};
 ghost use Prim.Native.Nat.{ℕ, _+_, _*_, _≤_};
 ghost use lib.ListN.{length};
-ghost use Rattle.rules.specs.Totals.{totalsExit};
 ghost use Rattle.text.specs.Writer.{Wrote};
 ghost use Rattle.tabletext.specs.Input.{Began};
 ghost use Rattle.listing.specs.Written.{Written};
-ghost use Rattle.totalling.specs.Counted.{numbersAt, recordIn, controlRoomIn, propertyRoomIn, fourBytes, numberBytes, recordBytes, said, counted, mostRead, mostSaid, countedOf};
+ghost use Rattle.totalling.specs.Counted.{numbersAt, recordIn, fourBytes, numberBytes, recordBytes, saidFor, counted, mostRead, mostSaid, countedOf};
 
 // Where the input's parts stand: room for rows, the record's numbers, the table's length, the table.
 const PROPERTY_ROOM_AT: usize = 4;
@@ -123,7 +122,7 @@ fn put_record(out: &mut [u8], at: usize, t: Totals) -> usize
 // ---- what is printed
 // The answer to a stream, and the record at exit; record and room are the input's.
 fn write_said(input: &[u8], table: &[u8], stream: &[u8], out: &mut [u8]) -> usize
-    ensures { λ r. ⌜ Written (now (out .entry)) (said (totalsExit (recordIn (now (input .entry))) (now (table .entry)) (now (stream .entry)) (controlRoomIn (now (input .entry))) (propertyRoomIn (now (input .entry))))) mostSaid (now (out .exit)) r ⌝ }
+    ensures { λ r. ⌜ Written (now (out .entry)) (saidFor (now (input .entry)) (now (table .entry)) (now (stream .entry))) mostSaid (now (out .exit)) r ⌝ }
 {
     let old = record_in(input);
     let controls = u32_at(input, 0);
