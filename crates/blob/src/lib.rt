@@ -1,4 +1,6 @@
 // A Blob of either layout, and the name of a control.
+#![tactic(auto)]
+
 ghost use Rattle.std.specs.Prelude.{◌≡◌, true, ◌+◌, ◌≤◌, length};
 ghost use Rattle.rules.specs.Answer.{longest};
 ghost use Rattle.rules.specs.CodeTable.{well_formed_lem};

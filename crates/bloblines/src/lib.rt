@@ -1,4 +1,6 @@
 // The listing of a Blob after its code table, read into rows and written whole into a lent buffer.
+#![tactic(auto)]
+
 ghost use Rattle.names.specs.Lookup.{Lent};
 ghost use Rattle.listing.specs.Bound.{longest_listing};
 ghost use Rattle.listing.specs.Written.{Written};

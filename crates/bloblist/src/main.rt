@@ -1,4 +1,6 @@
 // Lists the Blob that standard input holds after its code table, as `formlist` does, for larger Blobs.
+#![tactic(auto)]
+
 ghost use Rattle.std.specs.Prelude.{◌≡◌, true, List, ℕ, ◌*◌, ◌≤◌, ◌<◌, length};
 ghost use Rattle.rules.specs.Rows.{control_width, property_width};
 ghost use Rattle.listing.specs.Written.{Written};

@@ -1,4 +1,6 @@
 // Look-ups in a code table that go first where the last one for the same ended: the scope of a code, the row of an id. Such a hint may be wrong; nothing but time rests on it.
+#![tactic(auto)]
+
 ghost use Rattle.std.specs.Prelude.{◌≡◌, ◌<◌};
 ghost use Rattle.rules.specs.Lists.{find};
 ghost use Rattle.rules.specs.CodeTable.{ties_at, is_tied};

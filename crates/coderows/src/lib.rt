@@ -1,4 +1,6 @@
 // What a code table that a caller lends ties an id to: the rows of a scope, and the row of an id.
+#![tactic(auto)]
+
 ghost use Rattle.std.specs.Prelude.{◌≡◌, ◌+◌, ◌*◌, ◌<◌, ◌^◌, length};
 ghost use Rattle.rules.specs.Lists.{find};
 ghost use Rattle.rules.specs.CodeTable as t;
@@ -21,35 +23,35 @@ const LISTED_START_AT: usize = 1;
 const LISTED_COUNT_AT: usize = 2;
 
 // Where the rows of a scope are, and how many. A scope that is missing has none.
-#[derive(Drop)]
+#[derive(Clone, Copy)]
 pub struct Body {
     pub start: u32,
     pub count: u32,
 }
 
 // A scope's rows, and the scope at which to look first for them the next time.
-#[derive(Drop)]
+#[derive(Clone, Copy)]
 pub struct Scope {
     pub body: Body,
     pub near: usize,
 }
 
 // What a scope says of an id: the target, and the kind of the value.
-#[derive(Drop)]
+#[derive(Clone, Copy)]
 pub enum Row {
     Tied { target: u16, kind: u8 },
     Untied,
 }
 
 // What rows say of an id, and the row at which to look first for it the next time.
-#[derive(Drop)]
+#[derive(Clone, Copy)]
 pub struct Sought {
     pub row: Row,
     pub near: usize,
 }
 
 // What a row, with the one before it, tells of an id.
-#[derive(Drop)]
+#[derive(Clone, Copy)]
 pub enum Glance {
     Tied { target: u16, kind: u8 },
     Untied,
@@ -57,7 +59,7 @@ pub enum Glance {
 }
 
 // Which scope of the contents is wanted, counted from 0.
-#[derive(Drop)]
+#[derive(Clone, Copy)]
 enum FoundScope {
     At(usize),
     Missing,

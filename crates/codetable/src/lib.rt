@@ -1,4 +1,6 @@
 // The code table that a caller lends, as bytes: whether it is well formed, its layout and header codes, and its rows one by one.
+#![tactic(auto)]
+
 ghost use Rattle.std.specs.Prelude.{◌≡◌, ◌+◌, ◌*◌, ◌≤◌, ◌<◌, ◌^◌, length};
 ghost use Rattle.rules.specs.Lists.{has, ascends};
 ghost use Rattle.rules.specs.CodeTable as t;
@@ -56,7 +58,7 @@ const LAST_SCOPE_KIND: usize = SCOPE_ENTRY as usize;
 const PAST_IDS: usize = LAST_ID as usize + 2;
 
 // The numbers of a row: id, target, and the kind of its value.
-#[derive(Drop)]
+#[derive(Clone, Copy)]
 pub struct RowRead {
     pub id: usize,
     pub target: usize,

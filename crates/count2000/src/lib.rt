@@ -1,4 +1,6 @@
 // Counts what an Access 2000 stream has.
+#![tactic(auto)]
+
 ghost use Rattle.std.specs.Prelude.{◌≡◌};
 ghost use Rattle.rules.specs.Tree.{levels};
 ghost use Rattle.rules.specs.Access2000.{entries_at, stream_of};
@@ -16,7 +18,7 @@ pub const OBJECT_RUN: usize = 10;
 const BELOW_TOP: usize = 255;
 
 // An entry with all below it. `kept` says whether it is reported at the top.
-#[derive(Drop)]
+#[derive(Clone, Copy)]
 enum EntryTally {
     Bad,
     Of {
@@ -28,7 +30,7 @@ enum EntryTally {
 }
 
 // What a whole stream has: reported entries, property rows, and those of the object.
-#[derive(Drop)]
+#[derive(Clone, Copy)]
 pub enum StreamTally {
     Bad,
     Of {

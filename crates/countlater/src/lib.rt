@@ -1,4 +1,6 @@
 // Counts what a stream of the later layout has: groups, nodes and the scan.
+#![tactic(auto)]
+
 ghost use Rattle.std.specs.Prelude.{◌≡◌, ◌+◌, ◌≤◌, length};
 ghost use Rattle.rules.specs.Later.{ends_group, group_at, children_at, nodes_at};
 ghost use Rattle.rows.specs.Counting.{tally1, tally, tally_top};
@@ -34,13 +36,13 @@ const BELOW_TOP: usize = 255;
 
 // ---- properties and groups
 // A property inside its group: its value's size, where the next one starts, and its trailer.
-#[derive(Drop)]
+#[derive(Clone, Copy)]
 pub enum Extent {
     Outside,
     Inside(usize, usize, u32),
 }
 
-#[derive(Drop)]
+#[derive(Clone, Copy)]
 pub enum Group {
     Unended {
         count: usize,
@@ -53,14 +55,14 @@ pub enum Group {
     },
 }
 
-#[derive(Drop)]
+#[derive(Clone, Copy)]
 pub enum Children {
     Bad,
     Of { count: usize, next: usize },
 }
 
 // A node's head: how many properties it has, how many children, and where they start.
-#[derive(Drop)]
+#[derive(Clone, Copy)]
 pub enum Head {
     Bad,
     Of {
@@ -71,19 +73,19 @@ pub enum Head {
 }
 
 // A top node is reported, or it is skipped.
-#[derive(Drop)]
+#[derive(Clone, Copy)]
 pub enum TopNode {
     Reported,
     Skipped { next: usize },
 }
 
-#[derive(Drop)]
+#[derive(Clone, Copy)]
 pub struct Scanned {
     pub controls: usize,
     pub props: usize,
 }
 
-#[derive(Drop)]
+#[derive(Clone, Copy)]
 pub struct Counts {
     pub tree: bool,
     pub own: usize,

@@ -1,4 +1,6 @@
 // What an Access 2000 stream's records take of a room, by a walk that keeps no row.
+#![tactic(auto)]
+
 ghost use Rattle.csv2000.specs.Room as room;
 
 use codehints::{HINTS, find_scope};
@@ -15,7 +17,7 @@ use shown2000::property;
 use walk2000::{Extent, Opens, head, value};
 
 // The place after a run or an entry, and what is left of the room.
-#[derive(Drop)]
+#[derive(Clone, Copy)]
 pub struct Left {
     pub at: usize,
     pub left: usize,

@@ -1,4 +1,6 @@
 // What the records of a stream of the later layout take of a room, by a walk that keeps no row.
+#![tactic(auto)]
+
 ghost use Rattle.csvlater.specs.Room as room;
 
 use countlater::{
@@ -15,7 +17,7 @@ use numbers::u16_at;
 const NO_TYPE: u32 = 0;
 
 // After a group: whether it has a property, how it ended, and what is left of the room; the trailer is 0 where none ended it.
-#[derive(Drop)]
+#[derive(Clone, Copy)]
 pub struct GroupLeft {
     pub any: bool,
     pub stop: usize,

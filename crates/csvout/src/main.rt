@@ -1,4 +1,6 @@
 // Writes the Blob that standard input holds after its code table as comma-separated text; specs/Sheets.antt says what is printed.
+#![tactic(auto)]
+
 ghost use Rattle.std.specs.Prelude.{◌≡◌, true, List, ◌++◌, ℕ, ◌*◌, ◌≤◌, ◌<◌, length};
 ghost use Rattle.rules.specs.Rows.{control_width, property_width};
 ghost use Rattle.inputs.specs.Begun.{Begun};

@@ -1,4 +1,6 @@
 // Comma-separated text with five fields in every record, read into lent room. The text is walked twice, a byte at a time: to count, and then to write.
+#![tactic(auto)]
+
 ghost use Rattle.std.specs.Prelude.{◌≡◌, [], ◌∷◌, ◌+◌, ◌-◌, ◌*◌, ◌≤◌, ◌<◌, ◌^◌, length};
 ghost use Rattle.rules.specs.Rows.{field_width};
 ghost use Rattle.rules.specs.Csv.{is_data, field_end, step, read_from, countable, fields_exit};
@@ -28,7 +30,7 @@ const FIELD_WIDTH: usize = 2;
 const MOST: usize = 0xFFFFFFFF;
 
 // Where the text is read: the reader's mode, the field of the record, and how many bytes and fields came before.
-#[derive(Drop)]
+#[derive(Clone, Copy)]
 struct Place {
     mode: Mode,
     field: u32,
@@ -37,14 +39,14 @@ struct Place {
 }
 
 // The place after a byte, unless the byte may not stand there.
-#[derive(Drop)]
+#[derive(Clone, Copy)]
 enum Next {
     Refused,
     At { place: Place },
 }
 
 // How many bytes and fields a text has, if it is of the grammar.
-#[derive(Drop)]
+#[derive(Clone, Copy)]
 enum Counted {
     Bad,
     Of { bytes: usize, fields: usize },

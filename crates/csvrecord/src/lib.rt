@@ -1,4 +1,6 @@
 // A property's record of comma-separated text: written into a lent buffer, or only taken off a room.
+#![tactic(auto)]
+
 ghost use Rattle.std.specs.Prelude.{◌≡◌, ◌+◌, ◌-◌, ◌<◌, length, ◌++◌};
 ghost use Rattle.rules.specs.Digits.{decimal};
 ghost use Rattle.rules.specs.Listing.{mark_word, number32, yes_or_no};
@@ -16,7 +18,7 @@ use text::{label_length, put_byte, put_decimal, put_four, put_hex, put_six, put_
 use values::{put_value, value_bytes};
 
 // Whose property a record tells: the object's, or a control's.
-#[derive(Drop)]
+#[derive(Clone, Copy)]
 pub enum Owner {
     Object,
     Control { number: u32, type_code: u32 },

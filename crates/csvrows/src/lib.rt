@@ -1,4 +1,6 @@
 // The comma-separated text of a Blob by its rows: the header, the object's records, then each control's in turn.
+#![tactic(auto)]
+
 ghost use Rattle.text.specs.Writer.{Wrote};
 ghost use Rattle.rules.specs.Rows.{property_width, row_at};
 ghost use Rattle.rows.specs.Get.{PropertyOf};
@@ -10,7 +12,7 @@ use rows::{PROPERTY_WIDTH, get_control, get_property};
 use rules::{Property, Value};
 
 // So many property rows, from one on.
-#[derive(Drop)]
+#[derive(Clone, Copy)]
 pub struct Run {
     pub first: u32,
     pub count: u32,

@@ -1,5 +1,7 @@
 // UTF-16 text as a field of comma-separated text: UTF-8, quoted where it must be; and bytes as hex. Each is written into a lent buffer, or only
 // counted: what it takes is taken off a room, and nothing is left where it has none.
+#![tactic(auto)]
+
 ghost use Rattle.std.specs.Prelude.{◌≡◌, ◌-◌, ◌≤◌, ◌<◌, true, cond, length, drop};
 ghost use Rattle.rules.specs.Lists.{all};
 ghost use Rattle.rules.specs.Utf16.{is_high};

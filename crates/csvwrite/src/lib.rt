@@ -1,4 +1,6 @@
 // Writes the properties of a Blob as comma-separated text. Unless the room is ample, what the text takes is counted before a row is written.
+#![tactic(auto)]
+
 ghost use Rattle.std.specs.Prelude.{◌≡◌, true, ◌/◌, ◌≤◌};
 ghost use Rattle.rules.specs.Rows.{control_width, property_width};
 ghost use Rattle.rules.specs.Csv.{countable, csv_exit};

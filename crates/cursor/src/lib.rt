@@ -1,4 +1,6 @@
 // A walk over the entries of a tree in output order, by a loop. What it means stands in specs/.
+#![tactic(auto)]
+
 ghost use Rattle.std.specs.Prelude.{◌≡◌, ◌≤◌};
 ghost use Rattle.rules.specs.Tree.{no_parent, levels};
 ghost use Rattle.cursor.specs.Stack.{Before, Unwound, Moved};
@@ -15,7 +17,7 @@ pub const STACK_WORDS: usize = LEVELS * LEVEL_WORDS;
 
 // Where a walk stands: before an entry, or at the end where `left` is 0. `level` is that of the innermost list that is open, `left` how many of
 // its entries are left, and `parent` the row of the entry that holds it. The lists around it stand on a lent stack, two words for each level.
-#[derive(Drop)]
+#[derive(Clone, Copy)]
 pub struct Cursor {
     pub at: usize,
     pub level: usize,

@@ -1,4 +1,6 @@
 // A walk over the entries of an Access 2000 stream that fits a reading, by a loop.
+#![tactic(auto)]
+
 ghost use Rattle.rules.specs.Tree.{is_reported};
 ghost use Rattle.cursor.specs.Cursors.{Passed, PastReady, Past};
 ghost use Rattle.cursor2000.specs.Steps.{step_at, list_at_lem, Skips};
@@ -9,7 +11,7 @@ use rows::is_section;
 use walk2000::{Opens, Run, head, run_at};
 
 // Whether an entry of the top list is skipped.
-#[derive(Drop)]
+#[derive(Clone, Copy)]
 enum Pass {
     Over(usize),
     Not,

@@ -1,4 +1,6 @@
 // A walk over the nodes of a later stream that fits a tree, by a loop.
+#![tactic(auto)]
+
 ghost use Rattle.rules.specs.Tree.{is_reported};
 ghost use Rattle.rules.specs.Later.{children_at};
 ghost use Rattle.cursor.specs.Cursors.{Passed, PastReady, Past};

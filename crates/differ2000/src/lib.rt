@@ -1,4 +1,6 @@
 // The properties of an Access 2000 stream that a newer code table shows otherwise than the older that it succeeds: one walk, two look-ups for each property. No row of a reading is kept.
+#![tactic(auto)]
+
 ghost use Rattle.std.specs.Prelude.{◌≡◌, [], ◌∷◌, ◌+◌, ◌*◌, ◌≤◌, ◌<◌, length};
 ghost use Rattle.rules.specs.Rows.{difference_width};
 ghost use Rattle.rows.specs.Put.{put};
@@ -23,7 +25,7 @@ pub const DIFFERENCE_WIDTH: usize = 10;
 const NO_CONTROL: u32 = 0xFFFFFFFF;
 
 // The words of a difference's row.
-#[derive(Drop)]
+#[derive(Clone, Copy)]
 struct Difference {
     property: u32,
     control: u32,
@@ -38,7 +40,7 @@ struct Difference {
 }
 
 // Where a list goes on: the place in the stream, the control row, the next property row, and the next row of the list.
-#[derive(Drop)]
+#[derive(Clone, Copy)]
 pub struct Place {
     pub at: usize,
     pub control: u32,
@@ -47,7 +49,7 @@ pub struct Place {
 }
 
 // A scope, and where its rows are in either table.
-#[derive(Drop)]
+#[derive(Clone, Copy)]
 struct Scope {
     kind: u8,
     code: u16,
@@ -56,7 +58,7 @@ struct Scope {
 }
 
 // A property of a run.
-#[derive(Drop)]
+#[derive(Clone, Copy)]
 struct Stored {
     id: u8,
     start: usize,

@@ -1,4 +1,6 @@
 // What a newer code table changes in a stream: the properties that come out otherwise, each with what the two tables show.
+#![tactic(auto)]
+
 ghost use Rattle.std.specs.Prelude.{◌≡◌};
 ghost use Rattle.rules.specs.Answer.{answer};
 ghost use Rattle.rules.specs.Differences.{differences_exit};

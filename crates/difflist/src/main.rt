@@ -1,4 +1,6 @@
 // Lists what a newer code table changes in a Blob. Standard input holds the older table and the newer, each after its length, then the Blob; specs/Listed.antt says what is printed.
+#![tactic(auto)]
+
 ghost use Rattle.std.specs.Prelude.{◌≡◌, true, List, ℕ, ◌≤◌, ◌<◌, length};
 ghost use Rattle.rules.specs.Bytes.{part};
 ghost use Rattle.rules.specs.CodeTable.{well_formed_lem};

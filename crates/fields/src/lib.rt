@@ -1,4 +1,6 @@
 // The fields of a line. Each is written into a lent buffer; the place after it is returned.
+#![tactic(auto)]
+
 ghost use Rattle.std.specs.Prelude.{[], ◌∷◌, ◌++◌};
 ghost use Rattle.rules.specs.Lists.{text};
 ghost use Rattle.rules.specs.Bytes.{part};

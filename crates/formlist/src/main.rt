@@ -1,4 +1,6 @@
 // Lists the Blob that standard input holds after its code table, as document 01's program `formlist` does.
+#![tactic(auto)]
+
 ghost use Rattle.std.specs.Prelude.{◌≡◌, List, ℕ};
 ghost use Rattle.rules.specs.Listing.{listing};
 ghost use Rattle.names.specs.Lookup.{Lent};

@@ -1,4 +1,6 @@
 // The listing of a TypeInfo stream, written whole into a lent buffer.
+#![tactic(auto)]
+
 ghost use Rattle.rules.specs.Rows.{type_info_width, room};
 ghost use Rattle.names.specs.Lookup.{Lent};
 ghost use Rattle.text.specs.Writer.{Wrote};

@@ -1,4 +1,6 @@
 // Lists the TypeInfo stream that standard input holds.
+#![tactic(auto)]
+
 ghost use Rattle.std.specs.Prelude.{◌≡◌, true, List, ℕ, ◌*◌, ◌≤◌, length};
 ghost use Rattle.rules.specs.Rows.{type_info_width};
 ghost use Rattle.inputs.specs.Begun.{Begun};

@@ -1,4 +1,6 @@
 // Standard input in a lent buffer, for programs that read a short input into little room and a long one into more.
+#![tactic(auto)]
+
 ghost use Rattle.std.specs.Prelude.{◌≡◌, true, ◌≤◌};
 ghost use Rattle.inputs.specs.Filled.{Filled};
 

@@ -1,5 +1,7 @@
 // Two code tables joined: the scopes and the rows of either, each once, in order. Both tables are walked at once: to count, and to find two different rows
 // for one scope and id; then to write.
+#![tactic(auto)]
+
 ghost use Rattle.std.specs.Prelude.{◌≡◌, true, ◌∷◌, ◌++◌, ◌+◌, ◌-◌, ◌*◌, ◌<◌, ◌^◌};
 ghost use Rattle.rules.specs.Lists.{same};
 ghost use Rattle.rules.specs.CodeTable as t;
@@ -20,14 +22,14 @@ use tablebytes::{Row, put_row, put_scope, put_two, row_at};
 use text::{put_byte, refused, wrote};
 
 // Rows of a scope that are left: where the next one is, and how many they are.
-#[derive(Drop)]
+#[derive(Clone, Copy)]
 struct Rows {
     at: usize,
     left: usize,
 }
 
 // Scopes of a table that are left: where the contents tell the next one, where its rows start, and how many scopes they are.
-#[derive(Drop)]
+#[derive(Clone, Copy)]
 struct Scopes {
     at: usize,
     body: usize,
@@ -35,7 +37,7 @@ struct Scopes {
 }
 
 // The next row of two scopes, whether it is the only one with its id, and what is left.
-#[derive(Drop)]
+#[derive(Clone, Copy)]
 struct RowTurn {
     row: Row,
     agreed: bool,
@@ -44,14 +46,14 @@ struct RowTurn {
 }
 
 // What a turn takes of a table's scopes: the rows of the scope that it takes, or none, and the scopes that are left.
-#[derive(Drop)]
+#[derive(Clone, Copy)]
 struct Taken {
     rows: Rows,
     rest: Scopes,
 }
 
 // The next scope of two tables, kind and code as one number, and what is taken of each.
-#[derive(Drop)]
+#[derive(Clone, Copy)]
 struct ScopeTurn {
     key: usize,
     front: Taken,
@@ -59,14 +61,14 @@ struct ScopeTurn {
 }
 
 // How many rows two scopes have together, if no id has two different ones.
-#[derive(Drop)]
+#[derive(Clone, Copy)]
 struct Counted {
     agreed: bool,
     rows: usize,
 }
 
 // The same of two tables, with the number of scopes.
-#[derive(Drop)]
+#[derive(Clone, Copy)]
 struct Sized {
     agreed: bool,
     scopes: usize,

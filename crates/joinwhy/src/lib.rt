@@ -1,4 +1,6 @@
 // Why two code tables can't be joined; specs/Why.antt says it line by line. The lines are written into a lent buffer at a place; the place after them is returned.
+#![tactic(auto)]
+
 ghost use Rattle.std.specs.Prelude.{◌+◌, ◌*◌, ◌<◌, ◌^◌};
 ghost use Rattle.rules.specs.CodeTable as t;
 ghost use Rattle.text.specs.Writer.{Wrote};

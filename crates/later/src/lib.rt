@@ -1,4 +1,6 @@
 // The later layout's reader: a stream counted, then written as rows.
+#![tactic(auto)]
+
 ghost use Rattle.std.specs.Prelude.{◌≡◌, ◌-◌, ◌≤◌, length};
 ghost use Rattle.std.proofs.Math.Option.{some};
 ghost use Rattle.rules.specs.Answer.{longest};
@@ -33,7 +35,7 @@ const TYPE_AT: usize = 2;
 const NAME_ID: u32 = 0x14;
 
 // What was written of a group; the trailer is 0 where none ended it.
-#[derive(Drop)]
+#[derive(Clone, Copy)]
 pub struct WrittenGroup {
     pub count: usize,
     pub stop: usize,

@@ -1,4 +1,6 @@
 // The lines of the listings. Each is written into a lent buffer at a place; the place after it is returned.
+#![tactic(auto)]
+
 ghost use Rattle.std.specs.Prelude.{◌≡◌};
 ghost use Rattle.rules.specs.Answer.{refusal};
 ghost use Rattle.rules.specs.Rows.{control_width, property_width, type_info_width, row_at};
@@ -188,7 +190,7 @@ fn info_line(
 
 // ---- the lines of rows
 // What the rows are of.
-#[derive(Drop)]
+#[derive(Clone, Copy)]
 pub enum Kind {
     Control,
     Property,

@@ -1,4 +1,6 @@
 // Finds where the scan's six bytes stand in a stream of the later layout.
+#![tactic(auto)]
+
 ghost use Rattle.std.specs.Prelude.{◌≡◌, ◌+◌, ◌≤◌, length};
 ghost use Rattle.rules.specs.Later.{match_at};
 ghost use Rattle.matchlater.specs.Match.{ruled_out, none_of_lem, Stretch, Leapt, MatchBefore, NextMatch};

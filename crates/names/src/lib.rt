@@ -1,4 +1,6 @@
 // The names of values and of control types, by their ids.
+#![tactic(auto)]
+
 ghost use Rattle.std.specs.Prelude.{◌≡◌, [], true, ◌≤◌, ◌<◌, T, length};
 ghost use Rattle.rules.specs.Lists.{ascends};
 ghost use Rattle.rules.specs.NameTables.{text_names, number_names, bytes_names, control_type_names};
@@ -79,7 +81,7 @@ pub fn type_name_in<'a>(index: &[u32], letters: &'a [u8], id: u16) -> &'a [u8]
 }
 
 // Rows of the directory, from one up to another.
-#[derive(Drop)]
+#[derive(Clone, Copy)]
 struct Span {
     from: usize,
     to: usize,

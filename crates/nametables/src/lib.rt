@@ -1,5 +1,7 @@
 // jetdb's four name tables as one directory: all ids with where each name starts, and the names end to end.
 // A program that looks many names up has both arrays once, from their functions here, and lends them.
+#![tactic(auto)]
+
 mod tables; // tables.rt: the constants
 
 ghost use Rattle.std.specs.Prelude.{◌≡◌};

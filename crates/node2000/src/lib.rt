@@ -1,4 +1,6 @@
 // Writes an entry of an Access 2000 stream without its list: its control row, and its property rows.
+#![tactic(auto)]
+
 ghost use Rattle.std.specs.Prelude.{◌≡◌, cond};
 ghost use Rattle.rules.specs.CodeTable.{header};
 ghost use Rattle.rules.specs.Read2000.{is_report, type_code, name_id};

@@ -1,4 +1,6 @@
 // Numbers out of bytes: one byte, two or four of a slice, low byte first; signed numbers; a single widened to a double.
+#![tactic(auto)]
+
 ghost use Rattle.std.specs.Prelude.{◌≡◌, ◌+◌, ◌*◌, ◌%◌, ◌≤◌, ◌<◌, ◌^◌, length};
 ghost use Rattle.std.specs.Float.{binary32, binary64};
 ghost use Rattle.std.specs.Float.Ieee.{of_bits};
@@ -94,7 +96,7 @@ pub fn u16_number(s: &[u8], at: usize) -> usize
 }
 
 // Two bytes, or that they aren't both there.
-#[derive(Drop)]
+#[derive(Clone, Copy)]
 pub enum IfInside {
     Outside,
     Of(usize),
@@ -121,13 +123,13 @@ pub fn low_byte(n: usize) -> u8
 }
 
 // ---- whole numbers
-#[derive(Drop)]
+#[derive(Clone, Copy)]
 pub enum Int {
     Of(i32),
     Nothing,
 }
 
-#[derive(Drop)]
+#[derive(Clone, Copy)]
 pub enum Short {
     Fits(i16),
     Not,
@@ -192,7 +194,7 @@ pub fn integer_value(bytes: &[u8]) -> Int
 }
 
 // ---- fractions
-#[derive(Drop)]
+#[derive(Clone, Copy)]
 pub struct Wide {
     pub low: u32,
     pub high: u32,

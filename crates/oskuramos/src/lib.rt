@@ -1,4 +1,6 @@
 // The functions that C and Rust call: each hands its arguments on to a proved function.
+#![tactic(auto)]
+
 ghost use Rattle.std.specs.Prelude.{◌≡◌};
 ghost use Rattle.rules.specs.Blob.{exit, exit2000, exit_later};
 ghost use Rattle.rules.specs.CodeTable.{well_formed_lem};
@@ -26,7 +28,7 @@ use totals::count_blob;
 // ---- structs laid out as C's
 // Document 01's answer number with its three counts.
 #[repr(C)]
-#[derive(Drop)]
+#[derive(Clone, Copy)]
 pub struct Answer {
     pub number: u32,
     pub first: u32,
@@ -36,7 +38,7 @@ pub struct Answer {
 
 // A property's value.
 #[repr(C)]
-#[derive(Drop)]
+#[derive(Clone, Copy)]
 pub struct Value {
     pub mark: u32,
     pub low: u32,
@@ -45,7 +47,7 @@ pub struct Value {
 
 // A part of the stream (source 0) or of the label (source 1).
 #[repr(C)]
-#[derive(Drop)]
+#[derive(Clone, Copy)]
 pub struct Part {
     pub source: u32,
     pub start: u32,
@@ -54,7 +56,7 @@ pub struct Part {
 
 // Rows to lend, not words.
 #[repr(C)]
-#[derive(Drop)]
+#[derive(Clone, Copy)]
 pub struct Room {
     pub controls: u32,
     pub properties: u32,

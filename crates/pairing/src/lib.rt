@@ -1,4 +1,6 @@
 // Controls paired with TypeInfo by their names: all rows counted are judged first, then each control's type is set.
+#![tactic(auto)]
+
 ghost use Rattle.std.specs.Prelude.{◌≡◌, true, ◌+◌, ◌≤◌, leb, length};
 ghost use Rattle.std.proofs.Math.Option.{some};
 ghost use Rattle.rules.specs.Lists.{all, find};
@@ -24,7 +26,7 @@ const FOLD: u8 = b'a' - b'A';
 const LABEL_SIZE: usize = 18;
 
 // A name that is looked for: where its bytes stand, how many letters it has, and whether two bytes make a letter.
-#[derive(Drop)]
+#[derive(Clone, Copy)]
 pub struct Wanted {
     pub start: usize,
     pub letters: usize,

@@ -1,4 +1,6 @@
 // The listing of a later Blob whose controls are paired with TypeInfo, written whole into a lent buffer.
+#![tactic(auto)]
+
 ghost use Rattle.std.specs.Prelude.{◌≡◌, true, ◌∷◌, ◌<◌, min, drop};
 ghost use Rattle.rules.specs.Lists.{all};
 ghost use Rattle.rules.specs.Pairing.{infos_in, is_named, control_ok, may_pair};
@@ -21,7 +23,7 @@ use values::value_bytes;
 const LONGEST_SHOWN: u32 = 255;
 
 // Where lines end, and how many controls they are of.
-#[derive(Drop)]
+#[derive(Clone, Copy)]
 pub struct Told {
     pub at: usize,
     pub count: u32,

@@ -1,5 +1,7 @@
 // Lists the controls of a later Blob, paired with TypeInfo: standard input holds the layout byte and the length of TypeInfo, four bytes each, then both
 // streams.
+#![tactic(auto)]
+
 ghost use Rattle.std.specs.Prelude.{◌≡◌, true, List, ℕ, ◌*◌, ◌≤◌, ◌<◌, length};
 ghost use Rattle.rules.specs.Rows.{control_width, property_width, type_info_width};
 ghost use Rattle.inputs.specs.Begun.{Begun};

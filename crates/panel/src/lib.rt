@@ -1,4 +1,6 @@
 // The rules of panels: a Blob is read, and its control rows are judged one by one.
+#![tactic(auto)]
+
 ghost use Rattle.std.specs.Prelude.{◌≡◌, ◌+◌, ◌≤◌, ◌<◌, length};
 ghost use Rattle.rules.specs.Lists.{keep, same};
 ghost use Rattle.rules.specs.Bytes.{part};

@@ -1,4 +1,6 @@
 // Judges the Blob that standard input holds after its code table by the rules of panels; specs/Judged.antt says what is printed.
+#![tactic(auto)]
+
 ghost use Rattle.std.specs.Prelude.{◌≡◌, List, ℕ, ◌≤◌, ◌<◌, length};
 ghost use Rattle.rules.specs.Panel.{panel_exit};
 ghost use Rattle.text.specs.Writer.{Wrote};

@@ -1,4 +1,6 @@
 // A property's value out of its bytes, and how many bytes its id tells. Every public function but sized_stored_value has an answer for every input.
+#![tactic(auto)]
+
 ghost use Rattle.std.specs.Prelude.{◌≡◌, cond, length};
 ghost use Rattle.rules.specs.Utf16.{is_utf16_lem};
 ghost use Rattle.rules.specs.Value.{value, integer_value_lem, long_or, short_or, bool_value, binary_value, yes_no_value, entry_value_lem, stored_value_lem, value_as_lem};
@@ -134,7 +136,7 @@ pub fn entry_value(type_code: u32, bytes: &[u8]) -> Value
 
 // ---- the Access 2000 layout
 // How many bytes a value has: the id tells, or a length before them.
-#[derive(Drop)]
+#[derive(Clone, Copy)]
 pub enum Size {
     Told(usize),
     Stored,

@@ -1,4 +1,6 @@
 // Replays a batch file of cases from standard input and prints what each gives; compare/README.md has both formats.
+#![tactic(auto)]
+
 mod lines; // lines.rt: the lines that are printed
 
 use bloblines::LONGEST_LISTING;
@@ -17,7 +19,7 @@ const UNTOUCHED: u8 = 0xA5;
 const NO_LAYOUT: u32 = 256;
 
 // What stands in front of a frame's bytes.
-#[derive(Drop)]
+#[derive(Clone, Copy)]
 pub struct Head {
     pub kind: u32,
     pub first: u32,
@@ -25,7 +27,7 @@ pub struct Head {
     pub size: u32,
 }
 
-#[derive(Drop)]
+#[derive(Clone, Copy)]
 pub enum Next {
     Frame(Head),
     End,

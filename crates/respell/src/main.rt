@@ -1,4 +1,6 @@
 // Rewrites the Access 2000 stream that standard input holds; specs/Respelled.antt says what is printed.
+#![tactic(auto)]
+
 ghost use Rattle.std.specs.Prelude.{◌≡◌, true, List, ◌++◌, ℕ, ◌≤◌, ◌<◌, length};
 ghost use Rattle.rules.specs.Answer.{longest};
 ghost use Rattle.inputs.specs.Begun.{Begun};

@@ -1,5 +1,7 @@
 // An Access 2000 stream in its short spelling. A stream that fits a reading is, from byte 10 on, one piece after the other: a property, or what stands after
 // a run with the type of the entry that follows. So one loop walks it, without levels: to count what is written, and then to write it.
+#![tactic(auto)]
+
 ghost use Rattle.std.specs.Prelude.{◌≡◌, true, false, ◌≤◌, ◌<◌, length};
 ghost use Rattle.rules.specs.Access2000.{goes_on_lem};
 ghost use Rattle.rules.specs.Rewrite.{rewrite_exit};
@@ -22,7 +24,7 @@ const LONG: u8 = 0xFF;
 const SHORT: usize = 254;
 
 // A piece as it is written: its bytes up to `keep`, the byte `lead`, and its bytes from `start` on. The next piece is at `next`.
-#[derive(Drop)]
+#[derive(Clone, Copy)]
 struct Piece {
     keep: usize,
     lead: u8,

@@ -1,4 +1,6 @@
 // How many rows to lend so that no stream of at most `length` bytes needs more. They are rows and not words, and fit 32 bits for every length.
+#![tactic(auto)]
+
 ghost use Rattle.std.specs.Prelude.{◌≡◌, ◌-◌};
 ghost use Rattle.rules.specs.Room.{readable, room2000, room_later_lem, room_for, type_info_room_lem};
 

@@ -1,4 +1,6 @@
 // Prints how many rows are enough for every stream of at most so many bytes. Standard input has the number as four bytes, the lowest first.
+#![tactic(auto)]
+
 ghost use Rattle.std.specs.Prelude.{◌≡◌, ◌≤◌};
 ghost use Rattle.rules.specs.Answer.{longest};
 ghost use Rattle.text.specs.Writer.{Wrote};

@@ -1,5 +1,7 @@
 // What a reading is lent and answers, whatever the layout: rows with their widths and words by name, the cursor of whoever writes them,
 // what was counted of a stream, and the answer for these counts in the room that there is.
+#![tactic(auto)]
+
 ghost use Rattle.std.specs.Prelude.{◌≡◌, [], ◌∷◌, ◌++◌, ◌+◌, ◌*◌, ◌/◌, ◌≤◌, length};
 ghost use Rattle.rules.specs.Answer.{answer};
 ghost use Rattle.rules.specs.Rows.{control_width, property_width, type_info_width, row_at};
@@ -34,7 +36,7 @@ const FIRST_SECTION: usize = 0x98;
 const LAST_SECTION: usize = 0x9E;
 
 // The words of a control's row.
-#[derive(Drop)]
+#[derive(Clone, Copy)]
 pub struct ControlRow {
     pub type_code: u32,
     pub mark: u32,
@@ -47,14 +49,14 @@ pub struct ControlRow {
 }
 
 // Where a control stands in the tree: its level below the reported top entry, and its parent's row.
-#[derive(Drop)]
+#[derive(Clone, Copy)]
 pub struct Nesting {
     pub level: u32,
     pub parent: u32,
 }
 
 // The words of a TypeInfo row.
-#[derive(Drop)]
+#[derive(Clone, Copy)]
 pub struct InfoRow {
     pub type_code: u32,
     pub index: u32,
@@ -64,7 +66,7 @@ pub struct InfoRow {
 }
 
 // What was counted from a place of a stream on: controls, their properties, and the place after them.
-#[derive(Drop)]
+#[derive(Clone, Copy)]
 pub enum Tally {
     Bad,
     Of {
@@ -75,7 +77,7 @@ pub enum Tally {
 }
 
 // Where a writer goes on: the place in the stream, and the next row of each slice.
-#[derive(Drop)]
+#[derive(Clone, Copy)]
 pub struct Next {
     pub at: usize,
     pub control: usize,

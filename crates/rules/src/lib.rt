@@ -1,7 +1,8 @@
 // The structs, enums and numbers that the definitions share with the code. What they mean stands in specs/.
+#![tactic(auto)]
 
 // Document 01's answer number with its three counts.
-#[derive(Drop)]
+#[derive(Clone, Copy)]
 pub struct Answer {
     pub number: u32,
     pub first: u32,
@@ -10,7 +11,7 @@ pub struct Answer {
 }
 
 // A property's value: mark, low and high.
-#[derive(Drop)]
+#[derive(Clone, Copy)]
 pub struct Value {
     pub mark: u32,
     pub low: u32,
@@ -18,7 +19,7 @@ pub struct Value {
 }
 
 // A property as it is shown: the value's bytes start at `start` and are `size` many.
-#[derive(Drop)]
+#[derive(Clone, Copy)]
 pub struct Property {
     pub id: u32,
     pub value: Value,
@@ -27,7 +28,7 @@ pub struct Property {
 }
 
 // A control's name: UTF-16 text, a number from its place in the output, or text that isn't UTF-16.
-#[derive(Drop)]
+#[derive(Clone, Copy)]
 pub enum Name {
     Text { start: u32, size: u32 },
     Numbered,
@@ -35,7 +36,7 @@ pub enum Name {
 }
 
 // How many rows a caller lends.
-#[derive(Drop)]
+#[derive(Clone, Copy)]
 pub struct Room {
     pub controls: u32,
     pub properties: u32,
@@ -44,7 +45,7 @@ pub struct Room {
 // Running totals over many streams: by answer number, by type name, unmapped and mapped properties, by mark.
 // What each place counts stands in specs/Totals.antt. It is laid out as C lays it out, since C programs lend it.
 #[repr(C)]
-#[derive(Drop)]
+#[derive(Clone, Copy)]
 pub struct Totals {
     pub answers: [u32; 6],
     pub types: [u32; 31],
@@ -54,14 +55,14 @@ pub struct Totals {
 }
 
 // What a stream's count comes to: the answer, and the totals at exit.
-#[derive(Drop)]
+#[derive(Clone, Copy)]
 pub struct Totalled {
     pub answer: Answer,
     pub totals: Totals,
 }
 
 // Where a reader of comma-separated text is: at the start of a field, in one that isn't quoted, in one that is, after a quote in that one, after CR.
-#[derive(Drop)]
+#[derive(Clone, Copy)]
 pub enum Mode {
     Start,
     Plain,
@@ -71,7 +72,7 @@ pub enum Mode {
 }
 
 // What a byte does, with where the reader is then and in which field of the record: it is none of a field's; it is the field's; it ends the field; it may not stand there.
-#[derive(Drop)]
+#[derive(Clone, Copy)]
 pub enum Step {
     Pass { mode: Mode, field: u32 },
     Put { mode: Mode, field: u32 },

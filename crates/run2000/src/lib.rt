@@ -1,4 +1,6 @@
 // A run of an Access 2000 stream: its properties written as rows, and the name that it holds.
+#![tactic(auto)]
+
 ghost use Rattle.std.specs.Prelude.{◌≡◌, ◌+◌, ◌≤◌, length};
 ghost use Rattle.std.specs.Int.Bits.{bit_or};
 ghost use Rattle.coderows.specs.Look.{body_rows};
@@ -18,7 +20,7 @@ use walk2000::{Extent, value};
 pub const NO_ID: u8 = 0xFF;
 
 // The place after a run, the row after its last, and the name that it holds.
-#[derive(Drop)]
+#[derive(Clone, Copy)]
 pub struct RunRows {
     pub at: usize,
     pub row: usize,
@@ -26,7 +28,7 @@ pub struct RunRows {
 }
 
 // The name of a run as far as it was read, and the id that the name has: none has it once a name was met.
-#[derive(Drop)]
+#[derive(Clone, Copy)]
 struct Naming {
     name: Name,
     wanted: u8,

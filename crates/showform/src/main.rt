@@ -1,4 +1,6 @@
 // Shows the Blob that standard input holds after its code table and TypeInfo; specs/Printed.antt says what is printed.
+#![tactic(auto)]
+
 ghost use Rattle.std.specs.Prelude.{◌≡◌, List, ℕ, ◌≤◌, ◌<◌, length};
 ghost use Rattle.text.specs.Writer.{Wrote};
 ghost use Rattle.tabletext.specs.Input.{Began};

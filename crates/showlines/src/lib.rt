@@ -1,4 +1,6 @@
 // A Blob shown to a person: lines with what it is, its controls and their properties, written into a lent buffer.
+#![tactic(auto)]
+
 ghost use Rattle.std.specs.Prelude.{◌≡◌};
 ghost use Rattle.rules.specs.CodeTable.{header};
 ghost use Rattle.rules.specs.Names.{name_in_lem, names_for};
@@ -47,7 +49,7 @@ const NO_SCOPE: u32 = 3;
 const LAST_NAMED: u32 = 0xffff;
 
 // Whose properties are shown: the scope of its codes, an entry's code, and how deep the properties stand.
-#[derive(Drop)]
+#[derive(Clone, Copy)]
 pub struct Owner {
     pub kind: u32,
     pub code: u32,
@@ -55,7 +57,7 @@ pub struct Owner {
 }
 
 // What is told of a reading: which one it is, and its counts.
-#[derive(Drop)]
+#[derive(Clone, Copy)]
 pub struct Counts {
     pub kind: u32,
     pub controls: u32,

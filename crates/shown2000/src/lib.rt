@@ -1,5 +1,7 @@
 // A property of an Access 2000 stream as a code table shows it, for whoever walks a stream beside the reader: run2000 has a function of its own for this,
 // which goes by hints and is compiled into the reader's loop (docs/SPEED.md).
+#![tactic(auto)]
+
 ghost use Rattle.std.specs.Prelude.{◌≡◌, ◌+◌, ◌≤◌, length};
 ghost use Rattle.coderows.specs.Look.{Sorted, as_row, body_rows};
 ghost use Rattle.rules.specs.Bytes.{part};

@@ -1,4 +1,6 @@
 // Texts, bytes and values as they are shown to a person. Each is written into a lent buffer; the place after it is returned.
+#![tactic(auto)]
+
 ghost use Rattle.std.specs.Prelude.{◌≡◌, ◌<◌, min};
 ghost use Rattle.rules.specs.Reading.{property_row};
 ghost use Rattle.text.specs.Writer.{Wrote};

@@ -1,4 +1,6 @@
 // The first row of a code table for which another has another row or none; whether a newer table succeeds an older.
+#![tactic(auto)]
+
 ghost use Rattle.std.specs.Prelude.{◌≡◌, true};
 ghost use Rattle.std.proofs.Math.Option.{none};
 ghost use Rattle.rules.specs.CodeTable as t;
@@ -16,7 +18,7 @@ use numbers::{byte_number, u16_number};
 use tablebytes::{Row, row_at};
 
 // A row of the one table, and what the other has for its scope and id; or none.
-#[derive(Drop)]
+#[derive(Clone, Copy)]
 pub struct Lack {
     pub found: bool,
     pub kind: u8,

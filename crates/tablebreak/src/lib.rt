@@ -1,4 +1,6 @@
 // Where a code table first breaks one of document 01's rules, and which: specs/Rules.antt has them by number.
+#![tactic(auto)]
+
 ghost use Rattle.std.specs.Prelude.{◌≡◌, ◌+◌, ◌*◌, ◌≤◌, ◌<◌, ◌^◌, length};
 ghost use Rattle.tablebreak.specs.Rules as law;
 
@@ -47,7 +49,7 @@ const KIND_BYTES: usize = rules::KIND_BYTES as usize;
 
 // A rule broken at a byte, 0 for none. Scopes and rows are counted from 1, and 0 where the rule is of none; kind and code are the scope's.
 // `found` is what stands there, `before` what stands before it.
-#[derive(Drop)]
+#[derive(Clone, Copy)]
 pub struct Break {
     pub rule: u32,
     pub at: u32,

@@ -1,4 +1,6 @@
 // The bytes of a code table: a row as it is read, a row and a scope's place in the contents as they are written into a lent buffer.
+#![tactic(auto)]
+
 ghost use Rattle.std.specs.Prelude.{◌≡◌, ◌∷◌, ◌++◌, ◌+◌, ◌<◌, ◌^◌};
 ghost use Rattle.rules.specs.CodeTable.{tie_at};
 ghost use Rattle.rules.specs.Bytes.{two_bytes_lem};
@@ -9,7 +11,7 @@ ghost use Rattle.tablebytes.specs.Rows.{tie_of};
 use codetable::read_row;
 use text::put_byte;
 
-#[derive(Drop)]
+#[derive(Clone, Copy)]
 pub struct Row {
     pub id: u8,
     pub target: u16,

@@ -1,4 +1,6 @@
 // Joins the two code tables that standard input holds after the length of the first; specs/Said.antt says what is printed.
+#![tactic(auto)]
+
 ghost use Rattle.std.specs.Prelude.{◌≡◌, List, ℕ};
 ghost use Rattle.rules.specs.Answer.{refusal};
 ghost use Rattle.rules.specs.Listing.{answer_line};

@@ -1,4 +1,6 @@
 // What a line of a code table's text says, or why it can't be taken: its words (specs/Words.antt), and the item that they make (specs/Items.antt).
+#![tactic(auto)]
+
 pub mod faults; // faults.rt: why a text makes no table
 
 ghost use Rattle.std.specs.Prelude.{◌≡◌, ◌≤◌, ◌<◌, length};
@@ -45,7 +47,7 @@ const CAPITAL_ABOVE: u8 = b'A' - 10;
 const SMALL_ABOVE: u8 = b'a' - 10;
 
 // What a line says.
-#[derive(Drop)]
+#[derive(Clone, Copy)]
 pub enum Item {
     Nothing,
     Layout { byte: u8 },
@@ -56,14 +58,14 @@ pub enum Item {
 }
 
 // A word: its first byte, and the place after it.
-#[derive(Drop)]
+#[derive(Clone, Copy)]
 pub struct Word {
     pub from: usize,
     pub to: usize,
 }
 
 // What a line says, and where the next one begins.
-#[derive(Drop)]
+#[derive(Clone, Copy)]
 pub struct Line {
     pub item: Item,
     pub next: usize,

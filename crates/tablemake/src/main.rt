@@ -1,4 +1,6 @@
 // Makes a code table of the text on standard input: prints `table`, its size and its bytes, or the line that is refused and why.
+#![tactic(auto)]
+
 ghost use Rattle.std.specs.Prelude.{◌≡◌, List, ◌++◌, ℕ, length};
 ghost use Rattle.tabletext.specs.Input.{Began};
 ghost use Rattle.tablemake.specs.Printed.{printed, MakeReady};

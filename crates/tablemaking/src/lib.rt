@@ -1,4 +1,6 @@
 // The code table that a text says, or the first line that breaks a rule: lines are judged first (specs/Judged.antt), then written (specs/Made.antt).
+#![tactic(auto)]
+
 ghost use Rattle.std.specs.Prelude.{◌≡◌, ◌∷◌, ◌+◌, ◌≤◌, ◌<◌, ◌^◌, length, drop};
 ghost use Rattle.rules.specs.CodeTable.{key_of};
 ghost use Rattle.text.specs.Writer.{Wrote};
@@ -33,7 +35,7 @@ const LAST_TARGET: u32 = codetable::LAST_TARGET as u32;
 const HEAD_SIZE: usize = 4;
 
 // What the lines so far say: the layout byte, how many header codes, scopes and rows, and the least code, key and id that may follow.
-#[derive(Drop)]
+#[derive(Clone, Copy)]
 pub struct Seen {
     pub layout: u32,
     pub headers: u32,
@@ -45,7 +47,7 @@ pub struct Seen {
 }
 
 // A text that was judged: what its table has, or the line that breaks a rule and which.
-#[derive(Drop)]
+#[derive(Clone, Copy)]
 pub struct Judged {
     pub error: u32,
     pub line: u32,
@@ -56,7 +58,7 @@ pub struct Judged {
 }
 
 // The size of the table, or the line that is refused and why: `error` is 0 where nothing is wrong.
-#[derive(Drop)]
+#[derive(Clone, Copy)]
 pub struct Made {
     pub error: u32,
     pub line: u32,

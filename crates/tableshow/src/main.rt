@@ -1,4 +1,6 @@
 // Prints the text of the code table on standard input, or the line that says where it breaks which rule.
+#![tactic(auto)]
+
 ghost use Rattle.std.specs.Prelude.{◌≡◌, List, ℕ};
 ghost use Rattle.tabletext.specs.Input.{Began};
 ghost use Rattle.tableshow.specs.Shown.{shown_text, ShownIn, ShowReady};

@@ -1,4 +1,6 @@
 // A code table as text; specs/Text.antt says it line by line. Each part is written into a lent buffer; the place after it is returned.
+#![tactic(auto)]
+
 ghost use Rattle.std.specs.Prelude.{◌≡◌, ◌+◌, ◌*◌, ◌<◌, ◌^◌};
 ghost use Rattle.rules.specs.NameTables.{control_type_names};
 ghost use Rattle.rules.specs.Names.{name_in_lem, names_for};

@@ -1,5 +1,7 @@
 // The words for a text that makes no table: the line, what is wrong there and what to write. `tablelines::faults` has the numbers.
 // Beside them the line that stands before the bytes of a table that was made.
+#![tactic(auto)]
+
 ghost use Rattle.std.specs.Prelude.{◌≤◌};
 ghost use Rattle.text.specs.Writer.{Wrote};
 ghost use Rattle.tablewhy.specs.Why as w;

@@ -1,4 +1,6 @@
 // The words for a code table that isn't well formed: one line with the place and the rule that it breaks there.
+#![tactic(auto)]
+
 ghost use Rattle.std.specs.Prelude.{◌≤◌};
 ghost use Rattle.text.specs.Writer.{Wrote};
 ghost use Rattle.tablewords.specs.Words as w;

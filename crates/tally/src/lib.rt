@@ -1,4 +1,6 @@
 // What a reading adds to running totals, counted as it is met: a word for each number of the record, in the record's order.
+#![tactic(auto)]
+
 mod types; // types.rt: the types that have a name
 
 ghost use Rattle.std.specs.Prelude.{◌≡◌, cond, ◌&&◌, ◌+◌, leb};

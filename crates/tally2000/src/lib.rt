@@ -1,4 +1,6 @@
 // What an Access 2000 stream adds to running totals: judged by its counts, then gone through once. No row is kept.
+#![tactic(auto)]
+
 ghost use Rattle.form2000.specs.Acts.{ReadReady};
 ghost use Rattle.tally2000.specs.Counting as counting;
 

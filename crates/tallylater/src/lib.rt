@@ -1,4 +1,6 @@
 // What a stream of the later layout adds to running totals: judged by its counts, then gone through once. No row is kept.
+#![tactic(auto)]
+
 ghost use Rattle.std.specs.Prelude.{◌≤◌, length};
 ghost use Rattle.rules.specs.Answer.{longest};
 ghost use Rattle.tallylater.specs.Counting as counting;
@@ -19,7 +21,7 @@ use tally::{count_property, count_type};
 const NO_TYPE: u32 = 0;
 
 // What was counted of a group: whether it has a property, and how it ended; the trailer is 0 where none ended it.
-#[derive(Drop)]
+#[derive(Clone, Copy)]
 pub struct CountedGroup {
     pub any: bool,
     pub stop: usize,

@@ -1,4 +1,6 @@
 // Text in a lent buffer. A `put` function writes at a place and returns the place after it; what has no room is left out.
+#![tactic(auto)]
+
 ghost use Rattle.std.specs.Prelude.{◌≡◌, [], ◌∷◌, ◌++◌, ◌+◌, ◌-◌, ◌/◌, ◌%◌, ◌^◌, ◌≤◌, ◌<◌, length, drop};
 ghost use Rattle.rules.specs.Bytes.{part};
 ghost use Rattle.rules.specs.Answer.{refusal, answer};

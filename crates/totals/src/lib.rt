@@ -1,4 +1,6 @@
 // Running totals over many streams: what a stream adds, the ceiling, and the record that is lent to each count and altered there.
+#![tactic(auto)]
+
 ghost use Rattle.std.specs.Prelude.{◌≡◌, true, ◌+◌, length};
 ghost use Rattle.rules.specs.Lists.{all};
 ghost use Rattle.rules.specs.Blob.{is2000, outcome};

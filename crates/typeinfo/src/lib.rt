@@ -1,4 +1,6 @@
 // The TypeInfo reader: entries are counted first, then written as rows. Names stay bytes of the stream.
+#![tactic(auto)]
+
 ghost use Rattle.std.specs.Prelude.{◌≡◌, map, ◌+◌, ◌≤◌, ◌<◌, ◌^◌, length, drop};
 ghost use Rattle.rules.specs.Rows.{type_info_width};
 ghost use Rattle.rules.specs.TypeInfo.{before_nul, nul_terminated, info_at, next_info, type_info_row, type_info_exit};
@@ -32,7 +34,7 @@ const ACTIVE_X_TAIL: usize = 36;
 const UNREPORTED: u16 = 0x1EFF;
 
 // Where a name stands, and the place after its NUL. `cut` is 1 where the stream's end ended it, 0 where a NUL did.
-#[derive(Drop)]
+#[derive(Clone, Copy)]
 pub struct Named {
     pub start: usize,
     pub size: usize,
@@ -41,7 +43,7 @@ pub struct Named {
 }
 
 // An entry, and where the next one starts.
-#[derive(Drop)]
+#[derive(Clone, Copy)]
 pub struct Entry {
     pub type_code: u16,
     pub index: u32,
@@ -52,14 +54,14 @@ pub struct Entry {
 }
 
 // What the header says: how many entries, or the refusal.
-#[derive(Drop)]
+#[derive(Clone, Copy)]
 pub enum Header {
     Entries(u32),
     Refused(u32),
 }
 
 // Whether the rows lent hold all that is reported, or how many it is.
-#[derive(Drop)]
+#[derive(Clone, Copy)]
 pub enum Fit {
     Whole,
     Short(u32),

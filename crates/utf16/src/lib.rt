@@ -1,4 +1,6 @@
 // Whether bytes are UTF-16: units of two bytes, low byte first, whose surrogates stand in pairs; and how many characters they are.
+#![tactic(auto)]
+
 ghost use Rattle.std.specs.Prelude.{◌≡◌, true, ◌+◌, ◌≤◌, length};
 ghost use Rattle.rules.specs.Utf16.{is_utf16_lem, is_high, is_low};
 ghost use Rattle.rules.specs.Scalars.{scalars};

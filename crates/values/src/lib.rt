@@ -1,4 +1,6 @@
 // How the value of a property is shown: the word of its mark, and what it is. Each is written into a lent buffer; the place after it is returned.
+#![tactic(auto)]
+
 ghost use Rattle.std.specs.Prelude.{◌≡◌};
 ghost use Rattle.rules.specs.Bytes.{part};
 ghost use Rattle.rules.specs.Listing.{mark_word, yes_or_no, number32, characters, value_column};

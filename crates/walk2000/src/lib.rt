@@ -1,4 +1,6 @@
 // Reads the parts of an Access 2000 stream: a value, a run, and what stands after a run. A cursor is a place in the stream, by value.
+#![tactic(auto)]
+
 ghost use Rattle.std.specs.Prelude.{◌≡◌, ◌<◌, length};
 ghost use Rattle.rules.specs.Access2000.{length_at, extent_at, property_at, run_at, head_at_lem};
 ghost use Rattle.walk2000.specs.Told as told;
@@ -17,21 +19,21 @@ const LIST: u8 = 0xFF;
 const LONG_LENGTH: u8 = 0xFF;
 
 // Where a value's bytes stand.
-#[derive(Drop)]
+#[derive(Clone, Copy)]
 pub enum Extent {
     Bad,
     At { start: usize, size: usize },
 }
 
 // How many properties a run has, and the place after it.
-#[derive(Drop)]
+#[derive(Clone, Copy)]
 pub enum Run {
     Bad,
     Of { count: usize, next: usize },
 }
 
 // What stands after a run: the end of an entry, or a list.
-#[derive(Drop)]
+#[derive(Clone, Copy)]
 pub enum Opens {
     Bad,
     Plain { next: usize },
