@@ -85,6 +85,7 @@ module _ (out : List ℕ) (room : Roomy out) where
   -- so does a table that is in a plan, joined to what comes of the plan
   absorbs : (p : Plan) → Ready p → (t : List ℕ) → Table t → Memᴰ t (tables p) → both out (outcome p) (some t) ≡ outcome p
   unfolding tables outcome Ready
+  absorbs (Rattle.claims.specs.JoiningMany.table u) U t T (Memᴰ.tail x7) = elim x7 [ ]
   absorbs (Plan.table u) U t T (Memᴰ.head e) = ap (λ (v : List ℕ). both out (some u) (some v)) e ∙ wish12.with_itself u out U room
   absorbs (Plan.join p q o) R t T m =
       let same = joins p q o R in

@@ -45,10 +45,12 @@ mapped f (x ∷ xs) y (mathlib.Core.List.Memᴰ.head e) = (x, mathlib.Core.List.
 mapped f (x ∷ xs) y (mathlib.Core.List.Memᴰ.tail m) = let r = mapped f xs y m in (r.0, mathlib.Core.List.Memᴰ.tail r.1, r.2)
 
 there-mapped : {A B : Type 0} (f : A → B) (xs : List A) (x : A) → Memᴰ x xs → Memᴰ (f x) (map f xs)
+there-mapped {A = A} {B = B} f [] x x3 = elim x3 [ ]
 there-mapped f (y ∷ ys) x (mathlib.Core.List.Memᴰ.head e) = mathlib.Core.List.Memᴰ.head (ap f e)
 there-mapped f (y ∷ ys) x (mathlib.Core.List.Memᴰ.tail m) = mathlib.Core.List.Memᴰ.tail (there-mapped f ys x m)
 
 place_of : {A : Type 0} (xs : List A) (x : A) → Memᴰ x xs → (i : ℕ) × (i < length xs) × ((d : A) → get_or xs i d ≡ x)
+place_of {A = A} [] x x3 = elim x3 [ ]
 place_of (y ∷ ys) x (mathlib.Core.List.Memᴰ.head e) = (0, omega arith, λ d. sym e)
 place_of (y ∷ ys) x (mathlib.Core.List.Memᴰ.tail m) = let r = place_of ys x m in (suc r.0, omega (arith, r.1), r.2)
 
@@ -83,6 +85,7 @@ module _ {A B : Type 0} (p : B → Bool) (f g : A → B) (so : (x : A) → p (f 
 
   fewer : (xs : List A) (x : A) → Memᴰ x xs → p (f x) ≡ false → p (g x) ≡ true → F xs < G xs
   unfolding keep
+  fewer [] x x5 e k = elim x5 [ ]
   fewer (y ∷ ys) x (mathlib.Core.List.Memᴰ.head q) e k =
       let e' : p (f y) ≡ false = ap (λ z. p (f z)) (sym q) ∙ e in
       let k' : p (g y) ≡ true = ap (λ z. p (g z)) (sym q) ∙ k in

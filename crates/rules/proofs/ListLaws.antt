@@ -50,6 +50,7 @@ sets-append l i (x ∷ xs) b = sets-append (set l i x) (suc i) xs b ∙ ap (λ (
 -- ---- all, find
 pub all_there : {A : Type 0} (p : A → Bool) (xs : List A) (x : A) → all p xs ≡ true → Memᴰ x xs → p x ≡ true
 unfolding all
+all_there p [] x e m = elim m [ ]
 all_there p (y ∷ ys) x e (Memᴰ.head q) = ap p q ∙ and_l (p y) (all p ys) e
 all_there p (y ∷ ys) x e (Memᴰ.tail m) = all_there p ys x (and_r (p y) (all p ys) e) m
 
@@ -72,6 +73,7 @@ module _ {A : Type 0} (f : A → ℕ) where
 
   -- nothing in it is below where it starts
   pub ascends-least : (least : ℕ) (xs : List A) (x : A) → ascends least (map f xs) ≡ true → Memᴰ x xs → least ≤ f x
+  ascends-least least [] x e m = elim m [ ]
   ascends-least least (y ∷ ys) x e (Memᴰ.head p) = rw p (ascends-head least y ys e).0
   ascends-least least (y ∷ ys) x e (Memᴰ.tail m) =
       let h = ascends-head least y ys e in
@@ -82,6 +84,7 @@ module _ {A : Type 0} (f : A → ℕ) where
   pub there-found : (p : A → Bool) (least : ℕ) (xs : List A) (x : A) → ((y : A) → p y ≡ true → f y ≡ f x) → p x ≡ true
       → ascends least (map f xs) ≡ true → Memᴰ x xs → find p xs ≡ some x
   unfolding find
+  there-found p least [] x only px e m = elim m [ ]
   there-found p least (y ∷ ys) x only px e (Memᴰ.head q) = rw (ap p (sym q) ∙ px) (ap some (sym q))
   there-found p least (y ∷ ys) x only px e (Memᴰ.tail m) =
       let h = ascends-head least y ys e in

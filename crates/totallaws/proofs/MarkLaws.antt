@@ -145,5 +145,6 @@ once (suc (suc (suc (suc (suc (suc (suc (suc zero)))))))) h = refl
 once (suc (suc (suc (suc (suc (suc (suc (suc (suc m))))))))) h = absurd (omega arith)
 
 pub marked_once : (ps : List Property) → AllMarked ps → (p : Property) → Memᴰ p ps → how_many (λ k. eqb p.value.mark k) marks_counted ≡ 1
+marked_once [] h p x'' = elim x'' [ ]
 marked_once (q ∷ ps) h p (Memᴰ.head e) = ap (λ (z : Property). how_many (λ k. eqb z.value.mark k) marks_counted) e ∙ once q.value.mark h.0
 marked_once (q ∷ ps) h p (Memᴰ.tail m) = marked_once ps h.1 p m

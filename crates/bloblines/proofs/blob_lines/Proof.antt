@@ -5,63 +5,62 @@ use Rattle.bloblines.proofs.blob_lines.Statement.{statement}
 use Rattle.bloblines.proofs.blob_lines.Tie as tie
 
 -- ---- the places that both ends share
-start_of : tie.After-read-blob → tie.Start
+start_of : tie.After-read_blob-a → tie.Start
 start_of c = search
 
-read_of : tie.After-struct-known → tie.After-read-blob
+read_of : tie.After-struct_known-1 → tie.After-read_blob-a
 read_of c = search
 
-controls-of : tie.After-struct-known → tie.After-slice-known4
+controls-of : tie.After-struct_known-1 → tie.After-slice_known-4-1
 controls-of c = search
 
-properties-of : tie.After-struct-known → tie.After-slice-known5
+properties-of : tie.After-struct_known-1 → tie.After-slice_known-5-1
 properties-of c = search
 
-answered-of : tie.After-struct-known → tie.After-answer-line
+answered-of : tie.After-struct_known-1 → tie.After-answer_line-p
 answered-of c = search
 
-known_of : tie.After-lines → tie.After-struct-known
+known_of : tie.After-lines-p → tie.After-struct_known-1
 known_of c = search
 
-returns : tie.Need-returns
+returns : tie.Need-returns-then-a-ne0
 unfolding start_of read_of controls-of properties-of answered-of
 returns c =
     let known = c.before in
     let r = read_of known in
     let a = (start_of r).args in
-    blob-refused a.table.now a.stream.now a.controls.now a.properties.now _ _ _ r.read-blob.ensures
+    blob-refused a.table.now a.stream.now a.controls-1.now a.properties-1.now _ _ _ r.read_blob-a.ensures
     record {
-      number = omega (arith, known.struct_known.given);
-      first = omega (arith, known.struct_known.given);
-      second = omega (arith, known.struct_known.given);
-      third = omega (arith, known.struct_known.given);
-      controls = λ i. omega (arith, (controls-of known).slice-known4.given i);
-      properties = λ i. omega (arith, (properties-of known).slice-known5.given i);
+      number = omega (arith, known.struct_known-1.given);
+      first = omega (arith, known.struct_known-1.given);
+      second = omega (arith, known.struct_known-1.given);
+      third = omega (arith, known.struct_known-1.given);
+      controls = λ i. omega (arith, (controls-of known).slice_known-4-1.given i);
+      properties = λ i. omega (arith, (properties-of known).slice_known-5-1.given i);
     }
-    (answered-of known).answer-line.ensures (λ e. omega arith)
+    (answered-of known).answer_line-p.ensures (λ e. omega arith)
 
-returns-2 : tie.Need-returns-2
+returns-2 : tie.Need-returns
 unfolding start_of read_of controls-of properties-of answered-of known_of
 returns-2 c =
-    let shown : tie.After-lines = search in
+    let shown : tie.After-lines-p = search in
     let known = known_of shown in
-    let taken : tie.Else1 = search in
     let r = read_of known in
     let a = (start_of r).args in
-    blob-read a.table.now a.stream.now a.controls.now a.properties.now _ _ _ r.read-blob.ensures
+    blob-read a.table.now a.stream.now a.controls-1.now a.properties-1.now _ _ _ r.read_blob-a.ensures
     record {
-      number = omega (arith, known.struct_known.given);
-      first = omega (arith, known.struct_known.given);
-      second = omega (arith, known.struct_known.given);
-      third = omega (arith, known.struct_known.given);
-      controls = λ i. omega (arith, (controls-of known).slice-known4.given i);
-      properties = λ i. omega (arith, (properties-of known).slice-known5.given i);
+      number = omega (arith, known.struct_known-1.given);
+      first = omega (arith, known.struct_known-1.given);
+      second = omega (arith, known.struct_known-1.given);
+      third = omega (arith, known.struct_known-1.given);
+      controls = λ i. omega (arith, (controls-of known).slice_known-4-1.given i);
+      properties = λ i. omega (arith, (properties-of known).slice_known-5-1.given i);
     }
-    (answered-of known).answer-line.ensures (omega (arith, taken.if1.left))
-    shown.lines.ensures c.before.before.lines2.ensures
+    (answered-of known).answer_line-p.ensures (omega (arith, c.if-a-ne0.false))
+    shown.lines-p.ensures c.lines.ensures
 
-pub blob-lines-spec : {M : Type 1} → statement M
-blob-lines-spec =
+pub blob_lines_spec : {M : Type 1} → statement M
+blob_lines_spec =
     tie.close
     (tie.spec
     (λ c κs. search rules) (λ c κs. search rules) (λ c. search rules) (λ c. search rules) (λ c. search rules)

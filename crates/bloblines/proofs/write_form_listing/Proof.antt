@@ -5,30 +5,22 @@ use Rattle.bloblines.proofs.Whole.{more-written, long-written, listed-written}
 use Rattle.bloblines.proofs.write_form_listing.Statement.{statement}
 use Rattle.bloblines.proofs.write_form_listing.Tie as tie
 
-returns : tie.Need-returns
+returns : tie.Need-returns-then-more
 returns c =
-    let start : tie.Start = search in
-    let more : tie.Then1 = search in
-    more-written start.args.input.now start.args.more more.if1.taken c.before.before.refusal-line.ensures
+    more-written c.args.input.now c.args.more c.if-more.true c.refusal_line.ensures
 
-returns-2 : tie.Need-returns-2
+returns-2 : tie.Need-returns-then-input-gt-LONGEST_INPUT
 returns-2 c =
-    let start : tie.Start = search in
-    let whole : tie.Else1 = search in
-    let input = start.args.input.now in
-    long-written input start.args.more whole.if1.left (omega arith) c.before.before.refusal-line2.ensures
+    let input = c.args.input.now in
+    long-written input c.args.more c.if-more.false (omega arith) c.refusal_line-then-input-gt-LONGEST_INPUT.ensures
 
-returns-3 : tie.Need-returns-3
+returns-3 : tie.Need-returns
 returns-3 c =
-    let written : tie.After-write-listing = search in
-    let short : tie.Else2 = search in
-    let whole : tie.Else1 = search in
-    let start : tie.Start = search in
-    let input = start.args.input.now in
-    listed-written input start.args.more whole.if1.left (omega (arith, short.if2.left)) _ _ refl refl written.write-listing.ensures
+    let input = c.args.input.now in
+    listed-written input c.args.more c.if-more.false (omega (arith, c.if-input-gt-LONGEST_INPUT.false)) _ _ refl refl c.write_listing.ensures
 
-pub write-form-listing-spec : {M : Type 1} → statement M
-write-form-listing-spec =
+pub write_form_listing_spec : {M : Type 1} → statement M
+write_form_listing_spec =
     tie.close
     (tie.spec
     (λ c κs. search rules) (λ c. search rules)

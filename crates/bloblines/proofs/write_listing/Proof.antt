@@ -6,39 +6,31 @@ use Rattle.bloblines.proofs.InputLaws.{no_length, table-cut, blob-long, blob-wri
 use Rattle.bloblines.proofs.write_listing.Statement.{statement}
 use Rattle.bloblines.proofs.write_listing.Tie as tie
 
-returns : tie.Need-returns
+returns : tie.Need-returns-then-input-lt4
 returns c =
-    let start : tie.Start = search in
-    let a = start.args in
-    no_length a.input.now a.controls.now a.properties.now (omega arith) c.before.before.refusal-line.ensures
+    let a = c.args in
+    no_length a.input.now a.controls.now a.properties.now (omega arith) c.refusal_line.ensures
 
-returns-2 : tie.Need-returns-2
+returns-2 : tie.Need-returns-then-input-size
 returns-2 c =
-    let start : tie.Start = search in
-    let sized : tie.After-u32-at = search in
-    let a = start.args in
-    let z = sized.u32-at.ensures in
-    table-cut a.input.now a.controls.now a.properties.now (omega arith) (omega arith) c.before.before.refusal-line2.ensures
+    let a = c.args in
+    let z = c.u32_at-size.ensures in
+    table-cut a.input.now a.controls.now a.properties.now (omega arith) (omega arith) c.refusal_line-then-input-size.ensures
 
-returns-3 : tie.Need-returns-3
+returns-3 : tie.Need-returns-then-input-start-gt-LONGEST_BLOB
 returns-3 c =
-    let start : tie.Start = search in
-    let sized : tie.After-u32-at = search in
-    let a = start.args in
-    let z = sized.u32-at.ensures in
-    blob-long a.input.now a.controls.now a.properties.now (omega arith) (omega arith) (simp length-drop (omega arith)) c.before.before.refusal-line3.ensures
+    let a = c.args in
+    let z = c.u32_at-size.ensures in
+    blob-long a.input.now a.controls.now a.properties.now (omega arith) (omega arith) (simp length-drop (omega arith)) c.refusal_line-then-input-start-gt-LONGEST_BLOB.ensures
 
-returns-4 : tie.Need-returns-4
+returns-4 : tie.Need-returns
 returns-4 c =
-    let written : tie.After-blob-lines = search in
-    let sized : tie.After-u32-at = search in
-    let start : tie.Start = search in
-    let a = start.args in
-    let z = sized.u32-at.ensures in
-    blob-written a.input.now a.controls.now a.properties.now (omega arith) (omega arith) sized.u32-at.result z (omega arith) refl refl written.blob-lines.ensures
+    let a = c.args in
+    let z = c.u32_at-size.ensures in
+    blob-written a.input.now a.controls.now a.properties.now (omega arith) (omega arith) c.u32_at-size.result z (omega arith) refl refl c.blob_lines.ensures
 
-pub write-listing-spec : {M : Type 1} → statement M
-write-listing-spec =
+pub write_listing_spec : {M : Type 1} → statement M
+write_listing_spec =
     tie.close
     (tie.spec
     (λ c κs. search rules) (λ c. search rules)

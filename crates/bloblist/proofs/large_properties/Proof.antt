@@ -9,5 +9,5 @@ use Rattle.bloblist.proofs.large_properties.Tie as tie
 returns : tie.Need-returns
 returns c = sym (length-replicate {A = ℕ} (property_room * property_width) 0)
 
-pub large-properties-spec : {M : Type 1} → statement M
-large-properties-spec = tie.close (tie.spec returns)
+pub large_properties_spec : {M : Type 1} → statement M
+large_properties_spec = tie.close (tie.spec returns)

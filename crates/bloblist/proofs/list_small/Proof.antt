@@ -7,11 +7,10 @@ use Rattle.bloblist.proofs.list_small.Tie as tie
 
 list-requires : tie.Need-list-requires
 list-requires c κs =
-    let start : tie.Start = search in
-    small_roomy start.pre (simp length-replicate (omega arith)) (simp length-replicate (omega arith)) (omega (arith, c.before.before.before.small-lines.ensures))
+    small_roomy c.requires (simp length-replicate (omega arith)) (simp length-replicate (omega arith)) (omega (arith, c.small_lines-out.ensures))
 
-pub list-small-spec : {M : Type 1} → statement M
-list-small-spec =
+pub list_small_spec : {M : Type 1} → statement M
+list_small_spec =
     tie.close
     (tie.spec
     (λ c κs. search rules) (λ c. search rules) (λ c. search rules) (λ c. search rules)

@@ -7,5 +7,5 @@ use Rattle.bloblist.proofs.small_lines.Tie as tie
 returns : tie.Need-returns
 returns c = sym (length-replicate {A = ℕ} 2053482 0)
 
-pub small-lines-spec : {M : Type 1} → statement M
-small-lines-spec = tie.close (tie.spec returns)
+pub small_lines_spec : {M : Type 1} → statement M
+small_lines_spec = tie.close (tie.spec returns)

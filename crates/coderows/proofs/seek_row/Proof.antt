@@ -15,39 +15,38 @@ record Left (t : List ℕ) (start n wanted at rows : ℕ) : Type 0 where
   at_small : at + 4 * rows < 2 ^ 60
   from_start : start ≤ at
 
-abbrev invariant-loop : tie.invariant-loop
+abbrev invariant-loop : tie.invariant-loop-rows
 invariant-loop table start n wanted at₀ rows₀ at rows = Left table start n wanted at rows
 
-abbrev decreases-loop : tie.decreases-loop
+abbrev decreases-loop : tie.decreases-loop-rows
 decreases-loop table start n wanted at₀ rows₀ at rows = rows
 
 -- the loop's head, from where the last thing is read
-abbrev head : tie.After-read-row invariant-loop decreases-loop → tie.At-loop invariant-loop decreases-loop
+abbrev head : tie.After-read_row-row invariant-loop decreases-loop → tie.At-loop-rows invariant-loop decreases-loop
 head c = c.before.before
 
 -- what a turn has read
-turn : (c : tie.After-read-row invariant-loop decreases-loop)
-    → Turn (tie_at (head c).before.before.args.table.now) id_of 4 (head c).before.before.args.start (head c).before.before.args.n
-    (head c).before.before.args.wanted (head c).loop.at (head c).loop.rows ((head c).loop.rows / 2) ((head c).loop.at + 4 * ((head c).loop.rows / 2)) c.read-row.result.id
-turn c = record { so_far = (head c).loop.invariant.narrowed; fits = omega (arith, c.before.loop-test.true); middle = refl; reads = c.read-row.ensures.id.is }
+turn : (c : tie.After-read_row-row invariant-loop decreases-loop)
+    → Turn (tie_at (head c).args.table.now) id_of 4 (head c).args.start (head c).args.n
+    (head c).args.wanted (head c).loop-rows.at (head c).loop-rows.rows ((head c).loop-rows.rows / 2) ((head c).loop-rows.at + 4 * ((head c).loop-rows.rows / 2)) c.read_row-row.result.id
+turn c = record { so_far = (head c).loop-rows.invariant.narrowed; fits = omega (arith, c.loop-rows-test.true); middle = refl; reads = c.read_row-row.ensures.id.is }
 
-returns : tie.Need-returns invariant-loop decreases-loop
+returns : tie.Need-returns-then-id-wanted invariant-loop decreases-loop
 returns c =
-    let place-start : tie.Start invariant-loop decreases-loop = search in
-    let r = c.before.before.before.read-row.ensures in
-    row_hit place-start.args.table.now (turn c.before.before.before) _ _ c.before.before.if1.true r.target.is r.kind.is
+    let r = c.read_row-row.ensures in
+    row_hit c.args.table.now (turn c.before.before.before) _ _ c.if-id-wanted.true r.target.is r.kind.is
 
-loop-again : tie.Need-loop-preserved invariant-loop decreases-loop
+loop-again : tie.Need-loop-rows-preserved-then-id-wanted-2 invariant-loop decreases-loop
 loop-again c = record { narrowed = go_up (turn c.before.before) (omega arith); at_small = omega arith; from_start = omega arith }
 
-loop-again-2 : tie.Need-loop-preserved-2 invariant-loop decreases-loop
+loop-again-2 : tie.Need-loop-rows-preserved invariant-loop decreases-loop
 loop-again-2 c = record { narrowed = go_down (turn c.before.before) (omega arith); at_small = omega arith; from_start = omega arith }
 
-returns-2 : tie.Need-returns-2 invariant-loop decreases-loop
-returns-2 c = row-none c.before.before.before.args.table.now c.before.loop.invariant.narrowed (omega arith)
+returns-2 : tie.Need-returns invariant-loop decreases-loop
+returns-2 c = row-none c.args.table.now c.loop-rows.invariant.narrowed (omega arith)
 
-pub seek-row-spec : {M : Type 1} → statement M
-seek-row-spec =
+pub seek_row_spec : {M : Type 1} → statement M
+seek_row_spec =
     tie.close
     (tie.spec
     invariant-loop

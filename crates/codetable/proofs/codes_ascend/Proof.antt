@@ -15,36 +15,36 @@ record Left (t : List ℕ) (start n at left least : ℕ) : Type 0 where
   at_small : at + 2 * left < 2 ^ 60
   code-small : least ≤ 65536
 
-abbrev invariant-loop : tie.invariant-loop
+abbrev invariant-loop : tie.invariant-loop-left
 invariant-loop table start n at₀ left₀ least₀ at left least = Left table start n at left least
 
-abbrev decreases-loop : tie.decreases-loop
+abbrev decreases-loop : tie.decreases-loop-left
 decreases-loop table start n at₀ left₀ least₀ at left least = left
 
 -- the code that a turn has read
-read : (c : tie.After-u16-number invariant-loop decreases-loop) →
+read : (c : tie.After-u16_number-code invariant-loop decreases-loop) →
     let place-start : tie.Start invariant-loop decreases-loop = search in
-    CodeRead place-start.args.table.now c.before.before.loop.at c.before.before.loop.left c.u16-number.result
-read c = record { more = omega arith; code_is = c.u16-number.ensures.is }
+    CodeRead place-start.args.table.now c.loop-left.at c.loop-left.left c.u16_number-code.result
+read c = record { more = omega arith; code_is = c.u16_number-code.ensures.is }
 
-loop-holds : tie.Need-loop-init invariant-loop decreases-loop
+loop-holds : tie.Need-loop-left-init invariant-loop decreases-loop
 loop-holds c = record { decide = refl; at_small = omega arith; code-small = omega arith }
 
-returns : tie.Need-returns invariant-loop decreases-loop
+returns : tie.Need-returns-then-code-least invariant-loop decreases-loop
 returns c =
     let l = c.before.before.before in
-    sym (l.loop.invariant.decide ∙ codes_fail (read c.before) l.loop.least (omega arith))
+    sym (l.loop-left.invariant.decide ∙ codes_fail (read c.before) l.loop-left.least (omega arith))
 
-loop-again : tie.Need-loop-preserved invariant-loop decreases-loop
+loop-again : tie.Need-loop-left-preserved invariant-loop decreases-loop
 loop-again c =
     let l = c.before.before.before in
-    record { decide = l.loop.invariant.decide ∙ codes_step (read c.before) l.loop.least (omega arith); at_small = omega arith; code-small = omega arith }
+    record { decide = l.loop-left.invariant.decide ∙ codes_step (read c.before) l.loop-left.least (omega arith); at_small = omega arith; code-small = omega arith }
 
-returns-2 : tie.Need-returns-2 invariant-loop decreases-loop
-returns-2 c = sym (c.before.loop.invariant.decide ∙ codes_done _ _ c.before.loop.left _ (omega arith))
+returns-2 : tie.Need-returns invariant-loop decreases-loop
+returns-2 c = sym (c.loop-left.invariant.decide ∙ codes_done _ _ c.loop-left.left _ (omega arith))
 
-pub codes-ascend-spec : {M : Type 1} → statement M
-codes-ascend-spec =
+pub codes_ascend_spec : {M : Type 1} → statement M
+codes_ascend_spec =
     tie.close
     (tie.spec
     invariant-loop

@@ -14,36 +14,36 @@ record Left (t : List ℕ) (code wanted at codes : ℕ) : Type 0 where
   decide : has code (header t) ≡ has wanted (codes_at t at codes)
   at_small : at + 2 * codes < 2 ^ 32
 
-abbrev invariant-loop : tie.invariant-loop
+abbrev invariant-loop : tie.invariant-loop-codes
 invariant-loop table code wanted at₀ codes₀ at codes = Left table code wanted at codes
 
-abbrev decreases-loop : tie.decreases-loop
+abbrev decreases-loop : tie.decreases-loop-codes
 decreases-loop table code wanted at₀ codes₀ at codes = codes
 
 -- the code that a turn has read
-read : (c : tie.After-u16-number invariant-loop decreases-loop) →
+read : (c : tie.After-u16_number-here invariant-loop decreases-loop) →
     let start : tie.Start invariant-loop decreases-loop = search in
-    CodeRead start.args.table.now c.before.before.loop.at c.before.before.loop.codes c.u16-number.result
-read c = record { more = omega arith; code_is = c.u16-number.ensures.is }
+    CodeRead start.args.table.now c.loop-codes.at c.loop-codes.codes c.u16_number-here.result
+read c = record { more = omega arith; code_is = c.u16_number-here.ensures.is }
 
-loop-holds : tie.Need-loop-init invariant-loop decreases-loop
-loop-holds c = record { decide = rw c.byte-number.ensures.is; at_small = omega arith }
+loop-holds : tie.Need-loop-codes-init invariant-loop decreases-loop
+loop-holds c = record { decide = rw c.byte_number-codes.ensures.is; at_small = omega arith }
 
-returns : tie.Need-returns invariant-loop decreases-loop
+returns : tie.Need-returns-then-here-wanted invariant-loop decreases-loop
 returns c =
     let l = c.before.before.before in
-    sym (l.loop.invariant.decide ∙ has_here (read c.before) _ c.if1.true)
+    sym (l.loop-codes.invariant.decide ∙ has_here (read c.before) _ c.if-here-wanted.true)
 
-loop-again : tie.Need-loop-preserved invariant-loop decreases-loop
+loop-again : tie.Need-loop-codes-preserved invariant-loop decreases-loop
 loop-again c =
     let l = c.before.before.before in
-    record { decide = l.loop.invariant.decide ∙ has-later (read c.before) _ c.if1.false; at_small = omega arith }
+    record { decide = l.loop-codes.invariant.decide ∙ has-later (read c.before) _ c.if-here-wanted.false; at_small = omega arith }
 
-returns-2 : tie.Need-returns-2 invariant-loop decreases-loop
-returns-2 c = sym (c.before.loop.invariant.decide ∙ has_done _ _ c.before.loop.codes _ (omega arith))
+returns-2 : tie.Need-returns invariant-loop decreases-loop
+returns-2 c = sym (c.loop-codes.invariant.decide ∙ has_done _ _ c.loop-codes.codes _ (omega arith))
 
-pub is-header-spec : {M : Type 1} → statement M
-is-header-spec =
+pub is_header_spec : {M : Type 1} → statement M
+is_header_spec =
     tie.close
     (tie.spec
     invariant-loop

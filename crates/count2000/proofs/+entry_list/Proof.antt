@@ -53,122 +53,122 @@ list-calls t = (entry-below t, entry.Post)
 abbrev entry-calls : ℕ → entry-lts.Claims
 entry-calls t = (u16-if-inside-reads.Asked, u16-if-inside-reads.Learnt, run-at-reads.Asked, run-at-reads.Learnt, head-reads.Asked, head-reads.Learnt, is-section-reads.Asked, is-section-reads.Learnt, list-below t, list.Post)
 
-abbrev list-Inv-loop : list-lts.invariant-loop
+abbrev list-Inv-loop : list-lts.invariant-loop-k
 list-Inv-loop s at n left p₀ k₀ all₀ theirs₀ p k all theirs = Listing s left n at all theirs k p
 
-abbrev list-μ-loop : list-lts.decreases-loop
+abbrev list-μ-loop : list-lts.decreases-loop-k
 list-μ-loop s at n left p₀ k₀ all₀ theirs₀ p k all theirs = k
 
-list-loop-holds : (t : ℕ) → list-lts.Need-loop-init (list-calls t) (list_at t) list.Post list-Inv-loop list-μ-loop
+list-loop-holds : (t : ℕ) → list-lts.Need-loop-k-init (list-calls t) (list_at t) list.Post list-Inv-loop list-μ-loop
 unfolding entries_at
 list-loop-holds t c = record { few = omega arith; counts = counting-start }
 
-list-returns : (t : ℕ) → list-lts.Need-returns (list-calls t) (list_at t) list.Post list-Inv-loop list-μ-loop
+list-returns : (t : ℕ) → list-lts.Need-returns-then-left-eq0 (list-calls t) (list_at t) list.Post list-Inv-loop list-μ-loop
 unfolding entries_at
-list-returns t c = record { is = counting_deep c.before.before.loop.invariant.counts c.if1.true c.before.loop-test.true }
+list-returns t c = record { is = counting_deep c.loop-k.invariant.counts c.if-left-eq0.true c.loop-k-test.true }
 
 list-entry-requires : (t : ℕ) → list-lts.Need-entry-requires (list-calls t) (list_at t) list.Post list-Inv-loop list-μ-loop
-list-entry-requires t c κs = omega (arith, c.before.before.loop.invariant.few)
+list-entry-requires t c κs = omega (arith, c.loop-k.invariant.few)
 
-list-returns-2 : (t : ℕ) → list-lts.Need-returns-2 (list-calls t) (list_at t) list.Post list-Inv-loop list-μ-loop
+list-returns-2 : (t : ℕ) → list-lts.Need-returns-in-Bad (list-calls t) (list_at t) list.Post list-Inv-loop list-μ-loop
 unfolding entries_at
 list-returns-2 t c =
-    let in-loop : list-lts.In-loop (list-calls t) (list_at t) list.Post list-Inv-loop list-μ-loop = search in
-    let at-loop : list-lts.At-loop (list-calls t) (list_at t) list.Post list-Inv-loop list-μ-loop = search in
-    record { is = counting_bad at-loop.loop.inv.counts c.before.before.before.if1.false in-loop.loop-test.taken _ (whole_is c.before.before.entry.ensures) (ap whole c.enum_told.given.1) }
+    let in-loop : list-lts.In-loop-k (list-calls t) (list_at t) list.Post list-Inv-loop list-μ-loop = search in
+    let at-loop : list-lts.At-loop-k (list-calls t) (list_at t) list.Post list-Inv-loop list-μ-loop = search in
+    record { is = counting_bad at-loop.loop-k.invariant.counts c.if-left-eq0.false in-loop.loop-k-test.true _ (whole_is c.entry.ensures) (ap whole c.in-Bad.is) }
 
-list-add-all : (t : ℕ) → list-lts.Need-overflow-add-all (list-calls t) (list_at t) list.Post list-Inv-loop list-μ-loop
-list-add-all t c = omega (arith, entry-room c.before.before.before.entry.ensures c.before.controls.given.1)
+list-add-all : (t : ℕ) → list-lts.Need-overflow_add-all (list-calls t) (list_at t) list.Post list-Inv-loop list-μ-loop
+list-add-all t c = omega (arith, entry-room c.entry.ensures c.in-Of.is)
 
-list-add-theirs : (t : ℕ) → list-lts.Need-overflow-add-theirs (list-calls t) (list_at t) list.Post list-Inv-loop list-μ-loop
-list-add-theirs t c = omega (arith, entry-room c.before.before.before.entry.ensures c.before.controls.given.1)
+list-add-theirs : (t : ℕ) → list-lts.Need-overflow_add-theirs (list-calls t) (list_at t) list.Post list-Inv-loop list-μ-loop
+list-add-theirs t c = omega (arith, entry-room c.entry.ensures c.in-Of.is)
 
-list-loop-again : (t : ℕ) → list-lts.Need-loop-preserved (list-calls t) (list_at t) list.Post list-Inv-loop list-μ-loop
+list-loop-again : (t : ℕ) → list-lts.Need-loop-k-preserved (list-calls t) (list_at t) list.Post list-Inv-loop list-μ-loop
 unfolding entries_at
 list-loop-again t c =
-    let else1 : list-lts.Else1 (list-calls t) (list_at t) list.Post list-Inv-loop list-μ-loop = search in
-    let in-loop : list-lts.In-loop (list-calls t) (list_at t) list.Post list-Inv-loop list-μ-loop = search in
-    let at-loop : list-lts.At-loop (list-calls t) (list_at t) list.Post list-Inv-loop list-μ-loop = search in
+    let else1 : list-lts.Else-left-eq0 (list-calls t) (list_at t) list.Post list-Inv-loop list-μ-loop = search in
+    let in-loop : list-lts.In-loop-k (list-calls t) (list_at t) list.Post list-Inv-loop list-μ-loop = search in
+    let at-loop : list-lts.At-loop-k (list-calls t) (list_at t) list.Post list-Inv-loop list-μ-loop = search in
     let b3 = c.before.before.before in
-    record { few = omega (arith, at-loop.loop.inv.few, entry-room b3.entry.ensures c.before.controls.given.1); counts = counting_more at-loop.loop.inv.counts else1.if1.left in-loop.loop-test.taken _ (whole_is b3.entry.ensures) _ _ _ (ap whole c.before.controls.given.1) }
+    record { few = omega (arith, at-loop.loop-k.invariant.few, entry-room b3.entry.ensures c.in-Of.is); counts = counting_more at-loop.loop-k.invariant.counts else1.if-left-eq0.false in-loop.loop-k-test.true _ (whole_is b3.entry.ensures) _ _ _ (ap whole c.in-Of.is) }
 
-list-returns-3 : (t : ℕ) → list-lts.Need-returns-3 (list-calls t) (list_at t) list.Post list-Inv-loop list-μ-loop
+list-returns-3 : (t : ℕ) → list-lts.Need-returns (list-calls t) (list_at t) list.Post list-Inv-loop list-μ-loop
 unfolding entries_at
-list-returns-3 t c = record { is = counting-all c.before.loop.invariant.counts c.loop-test.false }
+list-returns-3 t c = record { is = counting-all c.loop-k.invariant.counts c.loop-k-test.false }
 
-entry-returns : (t : ℕ) → entry-lts.Need-returns (entry-calls t) (entry_at t) entry.Post
-entry-returns t c = record { is = entry-short _ _ _ c.before.before.u16-if-inside.ensures c.enum_told.given.1 }
+entry-returns : (t : ℕ) → entry-lts.Need-returns-in_default (entry-calls t) (entry_at t) entry.Post
+entry-returns t c = record { is = entry-short _ _ _ c.u16_if_inside.ensures c.in_default.is }
 
-entry-add-run-at : (t : ℕ) → entry-lts.Need-overflow-add-run-at (entry-calls t) (entry_at t) entry.Post
-entry-add-run-at t c = omega (arith, inside-room _ _ _ _ c.before.before.before.u16-if-inside.ensures c.before.entry-type.given.1)
+entry-add-run-at : (t : ℕ) → entry-lts.Need-overflow_add-at (entry-calls t) (entry_at t) entry.Post
+entry-add-run-at t c = omega (arith, inside-room _ _ _ _ c.u16_if_inside.ensures c.in-Of.is)
 
-entry-returns-2 : (t : ℕ) → entry-lts.Need-returns-2 (entry-calls t) (entry_at t) entry.Post
+entry-returns-2 : (t : ℕ) → entry-lts.Need-returns-in_default-run_at (entry-calls t) (entry_at t) entry.Post
 entry-returns-2 t c =
-    let after-entry-type : entry-lts.After-entry-type (entry-calls t) (entry_at t) entry.Post = search in
-    let after-u16-if-inside : entry-lts.After-u16-if-inside (entry-calls t) (entry_at t) entry.Post = search in
-    record { is = entry-run_bad _ _ _ after-u16-if-inside.u16-if-inside.ensures after-entry-type.entry-type.given.1 c.before.before.run_at.ensures c.enum-told2.given.1 }
+    let after-entry-type : entry-lts.In-Of (entry-calls t) (entry_at t) entry.Post = search in
+    let after-u16-if-inside : entry-lts.After-u16_if_inside (entry-calls t) (entry_at t) entry.Post = search in
+    record { is = entry-run_bad _ _ _ after-u16-if-inside.u16_if_inside.ensures after-entry-type.in-Of.is c.run_at.ensures c.in_default-run_at.is }
 
 entry-list-requires : (t : ℕ) → entry-lts.Need-list-requires (entry-calls t) (entry_at t) entry.Post
 entry-list-requires t c κs =
-    let after-count : entry-lts.After-count (entry-calls t) (entry_at t) entry.Post = search in
-    let after-run-at : entry-lts.After-run-at (entry-calls t) (entry_at t) entry.Post = search in
-    let after-entry-type : entry-lts.After-entry-type (entry-calls t) (entry_at t) entry.Post = search in
-    let after-u16-if-inside : entry-lts.After-u16-if-inside (entry-calls t) (entry_at t) entry.Post = search in
-    omega (arith, inside-room _ _ _ _ after-u16-if-inside.u16-if-inside.ensures after-entry-type.entry-type.given.1, run_room _ _ _ _ _ after-run-at.run_at.ensures after-count.count.given.1, head-room _ _ _ _ _ c.before.before.before.head.ensures c.before.n.given.1)
+    let after-count : entry-lts.In-Of-run_at (entry-calls t) (entry_at t) entry.Post = search in
+    let after-run-at : entry-lts.After-run_at (entry-calls t) (entry_at t) entry.Post = search in
+    let after-entry-type : entry-lts.In-Of (entry-calls t) (entry_at t) entry.Post = search in
+    let after-u16-if-inside : entry-lts.After-u16_if_inside (entry-calls t) (entry_at t) entry.Post = search in
+    omega (arith, inside-room _ _ _ _ after-u16-if-inside.u16_if_inside.ensures after-entry-type.in-Of.is, run_room _ _ _ _ _ after-run-at.run_at.ensures after-count.in-Of-run_at.is, head-room _ _ _ _ _ c.head.ensures c.in-Listed.is)
 
-entry-add-t21 : (t : ℕ) → entry-lts.Need-overflow-add-t21 (entry-calls t) (entry_at t) entry.Post
+entry-add-t21 : (t : ℕ) → entry-lts.Need-overflow_add-result (entry-calls t) (entry_at t) entry.Post
 entry-add-t21 t c =
-    let after-n : entry-lts.After-n (entry-calls t) (entry_at t) entry.Post = search in
+    let after-n : entry-lts.In-Listed (entry-calls t) (entry_at t) entry.Post = search in
     let after-head : entry-lts.After-head (entry-calls t) (entry_at t) entry.Post = search in
-    omega (arith, list-room c.before.before.before.list.ensures c.before.controls.given.1, head-room _ _ _ _ _ after-head.head.ensures after-n.n.given.1)
+    omega (arith, list-room c.list.ensures c.in-Of-list.is, head-room _ _ _ _ _ after-head.head.ensures after-n.in-Listed.is)
 
-entry-add-t22 : (t : ℕ) → entry-lts.Need-overflow-add-t22 (entry-calls t) (entry_at t) entry.Post
+entry-add-t22 : (t : ℕ) → entry-lts.Need-overflow_add-result-in-Of-list (entry-calls t) (entry_at t) entry.Post
 entry-add-t22 t c =
-    let after-n : entry-lts.After-n (entry-calls t) (entry_at t) entry.Post = search in
+    let after-n : entry-lts.In-Listed (entry-calls t) (entry_at t) entry.Post = search in
     let after-head : entry-lts.After-head (entry-calls t) (entry_at t) entry.Post = search in
-    let after-count : entry-lts.After-count (entry-calls t) (entry_at t) entry.Post = search in
-    let after-run-at : entry-lts.After-run-at (entry-calls t) (entry_at t) entry.Post = search in
-    omega (arith, list-room c.before.before.before.list.ensures c.before.controls.given.1, head-room _ _ _ _ _ after-head.head.ensures after-n.n.given.1, run_room _ _ _ _ _ after-run-at.run_at.ensures after-count.count.given.1)
+    let after-count : entry-lts.In-Of-run_at (entry-calls t) (entry_at t) entry.Post = search in
+    let after-run-at : entry-lts.After-run_at (entry-calls t) (entry_at t) entry.Post = search in
+    omega (arith, list-room c.list.ensures c.in-Of-list.is, head-room _ _ _ _ _ after-head.head.ensures after-n.in-Listed.is, run_room _ _ _ _ _ after-run-at.run_at.ensures after-count.in-Of-run_at.is)
 
-entry-returns-3 : (t : ℕ) → entry-lts.Need-returns-3 (entry-calls t) (entry_at t) entry.Post
+entry-returns-3 : (t : ℕ) → entry-lts.Need-returns-in-Bad (entry-calls t) (entry_at t) entry.Post
 entry-returns-3 t c =
-    let after-count : entry-lts.After-count (entry-calls t) (entry_at t) entry.Post = search in
-    let after-run-at : entry-lts.After-run-at (entry-calls t) (entry_at t) entry.Post = search in
-    let after-entry-type : entry-lts.After-entry-type (entry-calls t) (entry_at t) entry.Post = search in
-    let after-u16-if-inside : entry-lts.After-u16-if-inside (entry-calls t) (entry_at t) entry.Post = search in
-    record { is = entry-head_bad _ _ _ after-u16-if-inside.u16-if-inside.ensures after-entry-type.entry-type.given.1 after-run-at.run_at.ensures after-count.count.given.1 c.before.before.head.ensures c.enum-told3.given.1 }
+    let after-count : entry-lts.In-Of-run_at (entry-calls t) (entry_at t) entry.Post = search in
+    let after-run-at : entry-lts.After-run_at (entry-calls t) (entry_at t) entry.Post = search in
+    let after-entry-type : entry-lts.In-Of (entry-calls t) (entry_at t) entry.Post = search in
+    let after-u16-if-inside : entry-lts.After-u16_if_inside (entry-calls t) (entry_at t) entry.Post = search in
+    record { is = entry-head_bad _ _ _ after-u16-if-inside.u16_if_inside.ensures after-entry-type.in-Of.is after-run-at.run_at.ensures after-count.in-Of-run_at.is c.head.ensures c.in-Bad.is }
 
-entry-returns-4 : (t : ℕ) → entry-lts.Need-returns-4 (entry-calls t) (entry_at t) entry.Post
+entry-returns-4 : (t : ℕ) → entry-lts.Need-returns-in-Plain (entry-calls t) (entry_at t) entry.Post
 entry-returns-4 t c =
     let after-head : entry-lts.After-head (entry-calls t) (entry_at t) entry.Post = search in
-    let after-count : entry-lts.After-count (entry-calls t) (entry_at t) entry.Post = search in
-    let after-run-at : entry-lts.After-run-at (entry-calls t) (entry_at t) entry.Post = search in
-    let after-entry-type : entry-lts.After-entry-type (entry-calls t) (entry_at t) entry.Post = search in
-    let after-u16-if-inside : entry-lts.After-u16-if-inside (entry-calls t) (entry_at t) entry.Post = search in
-    record { is = entry-plain _ _ _ after-u16-if-inside.u16-if-inside.ensures after-entry-type.entry-type.given.1 after-run-at.run_at.ensures after-count.count.given.1 after-head.head.ensures c.is-section.ensures c.before.before.e.given.1 }
+    let after-count : entry-lts.In-Of-run_at (entry-calls t) (entry_at t) entry.Post = search in
+    let after-run-at : entry-lts.After-run_at (entry-calls t) (entry_at t) entry.Post = search in
+    let after-entry-type : entry-lts.In-Of (entry-calls t) (entry_at t) entry.Post = search in
+    let after-u16-if-inside : entry-lts.After-u16_if_inside (entry-calls t) (entry_at t) entry.Post = search in
+    record { is = entry-plain _ _ _ after-u16-if-inside.u16_if_inside.ensures after-entry-type.in-Of.is after-run-at.run_at.ensures after-count.in-Of-run_at.is after-head.head.ensures c.is_section.ensures c.in-Plain.is }
 
-entry-returns-5 : (t : ℕ) → entry-lts.Need-returns-5 (entry-calls t) (entry_at t) entry.Post
+entry-returns-5 : (t : ℕ) → entry-lts.Need-returns-in-Bad-list (entry-calls t) (entry_at t) entry.Post
 entry-returns-5 t c =
-    let after-n : entry-lts.After-n (entry-calls t) (entry_at t) entry.Post = search in
+    let after-n : entry-lts.In-Listed (entry-calls t) (entry_at t) entry.Post = search in
     let after-head : entry-lts.After-head (entry-calls t) (entry_at t) entry.Post = search in
-    let after-count : entry-lts.After-count (entry-calls t) (entry_at t) entry.Post = search in
-    let after-run-at : entry-lts.After-run-at (entry-calls t) (entry_at t) entry.Post = search in
-    let after-entry-type : entry-lts.After-entry-type (entry-calls t) (entry_at t) entry.Post = search in
-    let after-u16-if-inside : entry-lts.After-u16-if-inside (entry-calls t) (entry_at t) entry.Post = search in
-    record { is = entry-list_bad _ _ _ after-u16-if-inside.u16-if-inside.ensures after-entry-type.entry-type.given.1 after-run-at.run_at.ensures after-count.count.given.1 after-head.head.ensures after-n.n.given.1 c.before.before.list.ensures.is c.enum-told4.given.1 }
+    let after-count : entry-lts.In-Of-run_at (entry-calls t) (entry_at t) entry.Post = search in
+    let after-run-at : entry-lts.After-run_at (entry-calls t) (entry_at t) entry.Post = search in
+    let after-entry-type : entry-lts.In-Of (entry-calls t) (entry_at t) entry.Post = search in
+    let after-u16-if-inside : entry-lts.After-u16_if_inside (entry-calls t) (entry_at t) entry.Post = search in
+    record { is = entry-list_bad _ _ _ after-u16-if-inside.u16_if_inside.ensures after-entry-type.in-Of.is after-run-at.run_at.ensures after-count.in-Of-run_at.is after-head.head.ensures after-n.in-Listed.is c.list.ensures.is c.in-Bad-list.is }
 
-entry-returns-6 : (t : ℕ) → entry-lts.Need-returns-6 (entry-calls t) (entry_at t) entry.Post
+entry-returns-6 : (t : ℕ) → entry-lts.Need-returns-in-Of-list (entry-calls t) (entry_at t) entry.Post
 entry-returns-6 t c =
-    let after-n : entry-lts.After-n (entry-calls t) (entry_at t) entry.Post = search in
+    let after-n : entry-lts.In-Listed (entry-calls t) (entry_at t) entry.Post = search in
     let after-head : entry-lts.After-head (entry-calls t) (entry_at t) entry.Post = search in
-    let after-count : entry-lts.After-count (entry-calls t) (entry_at t) entry.Post = search in
-    let after-run-at : entry-lts.After-run-at (entry-calls t) (entry_at t) entry.Post = search in
-    let after-entry-type : entry-lts.After-entry-type (entry-calls t) (entry_at t) entry.Post = search in
-    let after-u16-if-inside : entry-lts.After-u16-if-inside (entry-calls t) (entry_at t) entry.Post = search in
-    record { is = entry-parent _ _ _ after-u16-if-inside.u16-if-inside.ensures after-entry-type.entry-type.given.1 after-run-at.run_at.ensures after-count.count.given.1 after-head.head.ensures after-n.n.given.1 c.before.before.before.list.ensures.is c.before.controls.given.1 }
+    let after-count : entry-lts.In-Of-run_at (entry-calls t) (entry_at t) entry.Post = search in
+    let after-run-at : entry-lts.After-run_at (entry-calls t) (entry_at t) entry.Post = search in
+    let after-entry-type : entry-lts.In-Of (entry-calls t) (entry_at t) entry.Post = search in
+    let after-u16-if-inside : entry-lts.After-u16_if_inside (entry-calls t) (entry_at t) entry.Post = search in
+    record { is = entry-parent _ _ _ after-u16-if-inside.u16_if_inside.ensures after-entry-type.in-Of.is after-run-at.run_at.ensures after-count.in-Of-run_at.is after-head.head.ensures after-n.in-Listed.is c.list.ensures.is c.in-Of-list.is }
 
-pub +entry-list-spec : {M : Type 1} → statement M
-+entry-list-spec =
+pub +entry_list_spec : {M : Type 1} → statement M
++entry_list_spec =
     close μ-entry μ-list
     (λ t. entry-lts.spec (entry-calls t) (entry_at t) entry.Post
     (λ c κs. search rules) (λ c. search rules) (λ c. search rules)

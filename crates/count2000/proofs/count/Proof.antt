@@ -5,55 +5,32 @@ use borrow.Author.Rules.{rules}
 use Rattle.count2000.proofs.count.Statement.{statement}
 use Rattle.count2000.proofs.count.Tie as tie
 
-returns : tie.Need-returns
-returns c = stream-run_bad _ c.before.before.run_at.ensures c.enum_told.given.1
+returns : tie.Need-returns-in_default
+returns c = stream-run_bad _ c.run_at.ensures c.in_default.is
 
-add-t17 : tie.Need-overflow-add-t17
+add-t17 : tie.Need-overflow_add-result
 add-t17 c =
-    let after-top : tie.After-top = search in
-    let after-n : tie.After-n = search in
-    let after-head : tie.After-head = search in
-    let after-own : tie.After-own = search in
-    let after-run-at : tie.After-run-at = search in
-    omega (arith, top-room _ _ _ after-top.top.ensures c.before.before.controls.given.1, head-room _ _ _ _ _ after-head.head.ensures after-n.n.given.1, run_room _ _ _ _ _ after-run-at.run_at.ensures after-own.own.given.1)
+    omega (arith, top-room _ _ _ c.top.ensures c.in-Of-top.is, head-room _ _ _ _ _ c.head.ensures c.in-Listed.is, run_room _ _ _ _ _ c.run_at.ensures c.in-Of.is)
 
-returns-2 : tie.Need-returns-2
+returns-2 : tie.Need-returns-then-next-s
 returns-2 c =
-    let after-top : tie.After-top = search in
-    let after-n : tie.After-n = search in
-    let after-head : tie.After-head = search in
-    let after-own : tie.After-own = search in
-    let after-run-at : tie.After-run-at = search in
-    stream-whole _ after-run-at.run_at.ensures after-own.own.given.1 after-head.head.ensures after-n.n.given.1 after-top.top.ensures c.before.before.controls.given.1 (omega (arith, c.if1.true))
+    stream-whole _ c.run_at.ensures c.in-Of.is c.head.ensures c.in-Listed.is c.top.ensures c.in-Of-top.is (omega (arith, c.if-next-s.true))
 
-returns-3 : tie.Need-returns-3
+returns-3 : tie.Need-returns-else-next-s
 returns-3 c =
-    let after-top : tie.After-top = search in
-    let after-n : tie.After-n = search in
-    let after-head : tie.After-head = search in
-    let after-own : tie.After-own = search in
-    let after-run-at : tie.After-run-at = search in
-    stream-more _ after-run-at.run_at.ensures after-own.own.given.1 after-head.head.ensures after-n.n.given.1 after-top.top.ensures c.before.before.controls.given.1 (λ z. omega (arith, z, c.if1.false))
+    stream-more _ c.run_at.ensures c.in-Of.is c.head.ensures c.in-Listed.is c.top.ensures c.in-Of-top.is (λ z. omega (arith, z, c.if-next-s.false))
 
-returns-4 : tie.Need-returns-4
+returns-4 : tie.Need-returns-in-Bad-top
 returns-4 c =
-    let after-n : tie.After-n = search in
-    let after-head : tie.After-head = search in
-    let after-own : tie.After-own = search in
-    let after-run-at : tie.After-run-at = search in
-    stream-list_bad _ after-run-at.run_at.ensures after-own.own.given.1 after-head.head.ensures after-n.n.given.1 c.before.before.top.ensures c.enum-told2.given.1
+    stream-list_bad _ c.run_at.ensures c.in-Of.is c.head.ensures c.in-Listed.is c.top.ensures c.in-Bad-top.is
 
-returns-5 : tie.Need-returns-5
+returns-5 : tie.Need-returns-in-Plain
 returns-5 c =
-    let after-own : tie.After-own = search in
-    let after-run-at : tie.After-run-at = search in
-    stream-plain _ after-run-at.run_at.ensures after-own.own.given.1 c.before.before.head.ensures c.enum-told3.given.1
+    stream-plain _ c.run_at.ensures c.in-Of.is c.head.ensures c.in-Plain.is
 
-returns-6 : tie.Need-returns-6
+returns-6 : tie.Need-returns-in-Bad
 returns-6 c =
-    let after-own : tie.After-own = search in
-    let after-run-at : tie.After-run-at = search in
-    stream-head_bad _ after-run-at.run_at.ensures after-own.own.given.1 c.before.before.head.ensures c.enum-told4.given.1
+    stream-head_bad _ c.run_at.ensures c.in-Of.is c.head.ensures c.in-Bad.is
 
 pub count_spec : {M : Type 1} → statement M
 count_spec =

@@ -8,53 +8,44 @@ use Rattle.count2000.proofs.Tops.{Topping, top-refused, top_kept, top_left}
 use Rattle.count2000.proofs.top.Statement.{statement}
 use Rattle.count2000.proofs.top.Tie as tie
 
-abbrev invariant-loop : tie.invariant-loop
+abbrev invariant-loop : tie.invariant-loop-k
 invariant-loop s at n p₀ k₀ all₀ theirs₀ p k all theirs = Topping s n at all theirs k p
 
-abbrev decreases-loop : tie.decreases-loop
+abbrev decreases-loop : tie.decreases-loop-k
 decreases-loop s at n p₀ k₀ all₀ theirs₀ p k all theirs = k
 
-loop-holds : tie.Need-loop-init invariant-loop decreases-loop
+loop-holds : tie.Need-loop-k-init invariant-loop decreases-loop
 unfolding entries_at
 loop-holds c = record { few = omega arith; chooses = choosing_start }
 
-returns : tie.Need-returns invariant-loop decreases-loop
+returns : tie.Need-returns-in-Bad invariant-loop decreases-loop
 returns c =
-    let at-loop : tie.At-loop invariant-loop decreases-loop = search in
-    let in-loop : tie.In-loop invariant-loop decreases-loop = search in
-    top-refused at-loop.loop.inv in-loop.loop-test.taken c.before.before.entry.ensures c.enum_told.given.1
+    top-refused c.loop-k.invariant c.loop-k-test.true c.entry.ensures c.in-Bad.is
 
-add-all : tie.Need-overflow-add-all invariant-loop decreases-loop
+add-all : tie.Need-overflow_add-all invariant-loop decreases-loop
 add-all c =
-    let at-loop : tie.At-loop invariant-loop decreases-loop = search in
-    let after-entry : tie.After-entry invariant-loop decreases-loop = search in
-    omega (arith, at-loop.loop.inv.few, entry-room after-entry.entry.ensures c.before.before.kept.given.1)
+    omega (arith, c.loop-k.invariant.few, entry-room c.entry.ensures c.in-Of.is)
 
-add-theirs : tie.Need-overflow-add-theirs invariant-loop decreases-loop
+add-theirs : tie.Need-overflow_add-theirs invariant-loop decreases-loop
 add-theirs c =
-    let at-loop : tie.At-loop invariant-loop decreases-loop = search in
-    let after-entry : tie.After-entry invariant-loop decreases-loop = search in
-    omega (arith, at-loop.loop.inv.few, entry-room after-entry.entry.ensures c.before.before.kept.given.1)
+    omega (arith, c.loop-k.invariant.few, entry-room c.entry.ensures c.in-Of.is)
 
-loop-again : tie.Need-loop-preserved invariant-loop decreases-loop
+loop-again : tie.Need-loop-k-preserved invariant-loop decreases-loop
 loop-again c =
-    let at-loop : tie.At-loop invariant-loop decreases-loop = search in
-    let in-loop : tie.In-loop invariant-loop decreases-loop = search in
-    let after-entry : tie.After-entry invariant-loop decreases-loop = search in
-    let inv = at-loop.loop.inv in
-    let more = in-loop.loop-test.taken in
-    let of = c.before.before.kept.given.1 in
+    let inv = c.loop-k.invariant in
+    let more = c.loop-k-test.true in
+    let of = c.in-Of.is in
     ⊎_elim
-    (λ w. rw (w.1, w.2) (top_kept inv more after-entry.entry.ensures of w.0.taken))
-    (λ w. rw (w.1, w.2) (top_left inv more after-entry.entry.ensures of w.0.left))
-    c.if1.branch
+    (λ w. rw (w.1, w.2) (top_kept inv more c.entry.ensures of w.0.taken))
+    (λ w. rw (w.1, w.2) (top_left inv more c.entry.ensures of w.0.left))
+    c.if-kept.branch
 
-returns-2 : tie.Need-returns-2 invariant-loop decreases-loop
+returns-2 : tie.Need-returns invariant-loop decreases-loop
 unfolding entries_at
-returns-2 c = choosing_all c.before.loop.invariant.chooses c.loop-test.false
+returns-2 c = choosing_all c.loop-k.invariant.chooses c.loop-k-test.false
 
-pub top-spec : {M : Type 1} → statement M
-top-spec =
+pub top_spec : {M : Type 1} → statement M
+top_spec =
     tie.close
     (tie.spec
     invariant-loop

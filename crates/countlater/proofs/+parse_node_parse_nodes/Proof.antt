@@ -44,51 +44,51 @@ parse-nodes-calls t = (parse-node-below t, parse-node.Post)
 
 -- the places that are far from where they are cited: a node's head read, and told; in the loop, at its start, at its test, and where a level is left
 abbrev Head-read : ℕ → Type 0
-Head-read t = parse-node-lts.After-head-at (parse-node-calls t) (parse-node-at t) parse-node.Post
+Head-read t = parse-node-lts.After-head_at (parse-node-calls t) (parse-node-at t) parse-node.Post
 
 abbrev Head-told : ℕ → Type 0
-Head-told t = parse-node-lts.After-count (parse-node-calls t) (parse-node-at t) parse-node.Post
+Head-told t = parse-node-lts.In-Of (parse-node-calls t) (parse-node-at t) parse-node.Post
 
 record Kept (s : List ℕ) (n at left p k all theirs : ℕ) : Type 0 where
   few : at + all + theirs ≤ p
   counts : Counting (node_at s) left n at all theirs k p
 
-abbrev invariant-loop : parse-nodes-lts.invariant-loop
+abbrev invariant-loop : parse-nodes-lts.invariant-loop-k
 invariant-loop s n at left p₀ k₀ all₀ theirs₀ p k all theirs = Kept s n at left p k all theirs
 
-abbrev decreases-loop : parse-nodes-lts.decreases-loop
+abbrev decreases-loop : parse-nodes-lts.decreases-loop-k
 decreases-loop s n at left p₀ k₀ all₀ theirs₀ p k all theirs = k
 
 abbrev At-loop : ℕ → Type 0
-At-loop t = parse-nodes-lts.At-loop (parse-nodes-calls t) (parse-nodes-at t) parse-nodes.Post invariant-loop decreases-loop
+At-loop t = parse-nodes-lts.At-loop-k (parse-nodes-calls t) (parse-nodes-at t) parse-nodes.Post invariant-loop decreases-loop
 
 abbrev In-loop : ℕ → Type 0
-In-loop t = parse-nodes-lts.In-loop (parse-nodes-calls t) (parse-nodes-at t) parse-nodes.Post invariant-loop decreases-loop
+In-loop t = parse-nodes-lts.In-loop-k (parse-nodes-calls t) (parse-nodes-at t) parse-nodes.Post invariant-loop decreases-loop
 
 abbrev Level-left : ℕ → Type 0
-Level-left t = parse-nodes-lts.Else1 (parse-nodes-calls t) (parse-nodes-at t) parse-nodes.Post invariant-loop decreases-loop
+Level-left t = parse-nodes-lts.Else-left-eq0 (parse-nodes-calls t) (parse-nodes-at t) parse-nodes.Post invariant-loop decreases-loop
 
-pub +parse-node-parse-nodes-spec : {M : Type 1} → statement M
+pub +parse_node_parse_nodes_spec : {M : Type 1} → statement M
 unfolding nodes_at
-+parse-node-parse-nodes-spec = close μ-parse-node μ-parse-nodes (λ t. parse-node-lts.spec (parse-node-calls t) (parse-node-at t) parse-node.Post
++parse_node_parse_nodes_spec = close μ-parse-node μ-parse-nodes (λ t. parse-node-lts.spec (parse-node-calls t) (parse-node-at t) parse-node.Post
     (λ c κs. search rules) (λ c. search rules) (λ c. search rules)
-    (λ c. counted_none _ _ _ (unheaded _ _ c.before.before.head_at.ensures c.enum_told.given.1))
+    (λ c. counted_none _ _ _ (unheaded _ _ c.head_at.ensures c.in_default.is))
     (λ c κs. omega arith) (λ c. search rules) (λ c. search rules)
-    (λ c. let told : Head-told t = search in let head : Head-read t = search in let h = headed head.head_at.ensures told.count.given.1 in omega (arith, node-room _ h c.before.before.before.parse-nodes.ensures c.before.controls.given.1))
-    (λ c. let told : Head-told t = search in let head : Head-read t = search in let h = headed head.head_at.ensures told.count.given.1 in omega (arith, node-room _ h c.before.before.before.parse-nodes.ensures c.before.controls.given.1))
-    (λ c. let told : Head-told t = search in let head : Head-read t = search in counted_bad _ (headed head.head_at.ensures told.count.given.1) c.before.before.parse-nodes.ensures c.enum-told2.given.1)
-    (λ c. let told : Head-told t = search in let head : Head-read t = search in counted_of _ (headed head.head_at.ensures told.count.given.1) c.before.before.before.parse-nodes.ensures c.before.controls.given.1))
+    (λ c. let told : Head-told t = search in let head : Head-read t = search in let h = headed head.head_at.ensures told.in-Of.is in omega (arith, node-room _ h c.parse_nodes.ensures c.in-Of-parse_nodes.is))
+    (λ c. let told : Head-told t = search in let head : Head-read t = search in let h = headed head.head_at.ensures told.in-Of.is in omega (arith, node-room _ h c.parse_nodes.ensures c.in-Of-parse_nodes.is))
+    (λ c. let told : Head-told t = search in let head : Head-read t = search in counted_bad _ (headed head.head_at.ensures told.in-Of.is) c.parse_nodes.ensures c.in-Bad.is)
+    (λ c. let told : Head-told t = search in let head : Head-read t = search in counted_of _ (headed head.head_at.ensures told.in-Of.is) c.parse_nodes.ensures c.in-Of-parse_nodes.is))
     λ t. parse-nodes-lts.spec (parse-nodes-calls t) (parse-nodes-at t) parse-nodes.Post invariant-loop decreases-loop
     (λ c. record { few = omega arith; counts = counting-start })
-    (λ c. counting_deep c.before.before.loop.invariant.counts c.if1.true c.before.loop-test.true)
+    (λ c. counting_deep c.loop-k.invariant.counts c.if-left-eq0.true c.loop-k-test.true)
     (λ c. search rules) (λ c κs. omega arith) (λ c. search rules)
-    (λ c. let test : In-loop t = search in let start : At-loop t = search in counting_bad start.loop.inv.counts c.before.before.before.if1.false test.loop-test.taken _ c.before.before.parse-node.ensures c.enum_told.given.1)
+    (λ c. let test : In-loop t = search in let start : At-loop t = search in counting_bad start.loop-k.invariant.counts c.if-left-eq0.false test.loop-k-test.true _ c.parse_node.ensures c.in_default.is)
     (λ c. search rules)
-    (λ c. omega (arith, node-fits _ _ _ c.before.before.before.parse-node.ensures c.before.controls.given.1))
-    (λ c. omega (arith, node-fits _ _ _ c.before.before.before.parse-node.ensures c.before.controls.given.1))
+    (λ c. omega (arith, node-fits _ _ _ c.parse_node.ensures c.in-Of-parse_nodes.is))
+    (λ c. omega (arith, node-fits _ _ _ c.parse_node.ensures c.in-Of-parse_nodes.is))
     (λ c. search rules) (λ c. search rules)
     (λ c. let level : Level-left t = search in let test : In-loop t = search in let start : At-loop t = search in record {
-      few = omega (arith, node-fits _ _ _ c.before.before.before.parse-node.ensures c.before.controls.given.1);
-      counts = counting_more start.loop.inv.counts level.if1.left test.loop-test.taken _ c.before.before.before.parse-node.ensures _ _ _ c.before.controls.given.1;
+      few = omega (arith, node-fits _ _ _ c.parse_node.ensures c.in-Of-parse_nodes.is);
+      counts = counting_more start.loop-k.invariant.counts level.if-left-eq0.false test.loop-k-test.true _ c.parse_node.ensures _ _ _ c.in-Of-parse_nodes.is;
     })
-    (λ c. counting-all c.before.loop.invariant.counts c.loop-test.false)
+    (λ c. counting-all c.loop-k.invariant.counts c.loop-k-test.false)

@@ -3,13 +3,13 @@ use Rattle.countlater.proofs.CountLaws.{tree_bad, tree-none, tree_over, tree-who
 use Rattle.countlater.proofs.controls_of_tree.Statement.{statement}
 use Rattle.countlater.proofs.controls_of_tree.Tie as tie
 
-pub controls-of-tree-spec : {M : Type 1} → statement M
-controls-of-tree-spec =
+pub controls_of_tree_spec : {M : Type 1} → statement M
+controls_of_tree_spec =
     tie.close
     (tie.spec
     (λ c κs. search rules) (λ c. search rules) (λ c. search rules)
-    (λ c. tree_bad _ _ _ c.before.before.children-at.ensures c.enum_told.given.1)
+    (λ c. tree_bad _ _ _ c.children_at.ensures c.in_default.is)
     (λ c κs. search rules) (λ c. search rules) (λ c. search rules)
-    (λ c. let after-n : tie.After-n = search in let after-children-at : tie.After-children-at = search in tree-none _ _ _ after-children-at.children-at.ensures after-n.n.given.1 c.before.before.top-nodes.ensures c.enum-told2.given.1)
-    (λ c. let after-top-nodes : tie.After-top-nodes = search in let after-n : tie.After-n = search in let after-children-at : tie.After-children-at = search in tree-whole _ _ _ after-children-at.children-at.ensures after-n.n.given.1 after-top-nodes.top-nodes.ensures c.before.before.controls.given.1 c.if1.true)
-    (λ c. let after-top-nodes : tie.After-top-nodes = search in let after-n : tie.After-n = search in let after-children-at : tie.After-children-at = search in tree_over _ _ _ after-children-at.children-at.ensures after-n.n.given.1 after-top-nodes.top-nodes.ensures c.before.before.controls.given.1 c.if1.false))
+    (λ c. let after-n : tie.In-Of = search in let after-children-at : tie.After-children_at = search in tree-none _ _ _ after-children-at.children_at.ensures after-n.in-Of.is c.top_nodes.ensures c.in-Bad.is)
+    (λ c. let after-top-nodes : tie.After-top_nodes = search in let after-n : tie.In-Of = search in let after-children-at : tie.After-children_at = search in tree-whole _ _ _ after-children-at.children_at.ensures after-n.in-Of.is after-top-nodes.top_nodes.ensures c.in-Of-top_nodes.is c.if-next-s.true)
+    (λ c. let after-top-nodes : tie.After-top_nodes = search in let after-n : tie.In-Of = search in let after-children-at : tie.After-children_at = search in tree_over _ _ _ after-children-at.children_at.ensures after-n.in-Of.is after-top-nodes.top_nodes.ensures c.in-Of-top_nodes.is c.if-next-s.false))

@@ -6,26 +6,26 @@ use Rattle.countlater.proofs.ScanLaws.{Scanning, scanning_start, group-few, scan
 use Rattle.countlater.proofs.scan_control_sections.Statement.{statement}
 use Rattle.countlater.proofs.scan_control_sections.Tie as tie
 
-abbrev invariant-loop : tie.invariant-loop
+abbrev invariant-loop : tie.invariant-loop-a
 invariant-loop s from a₀ all₀ theirs₀ a all theirs = Scanning s from a all theirs
 
-abbrev decreases-loop : tie.decreases-loop
+abbrev decreases-loop : tie.decreases-loop-a
 decreases-loop s from a₀ all₀ theirs₀ a all theirs = length s - a
 
-pub scan-control-sections-spec : {M : Type 1} → statement M
-scan-control-sections-spec =
+pub scan_control_sections_spec : {M : Type 1} → statement M
+scan_control_sections_spec =
     tie.close
     (tie.spec
     invariant-loop decreases-loop
     (λ c κs. omega arith)
-    (λ c. scanning_start c.find-match.ensures)
-    (λ c. omega (arith, match-room _ _ (c.before.loop.invariant.here c.loop-test.true)))
-    (λ c κs. omega (arith, match-room _ _ (c.before.loop.invariant.here c.loop-test.true)))
-    (λ c κs. omega (arith, c.find-match2.ensures.within))
-    (λ c. let at-loop : tie.At-loop invariant-loop decreases-loop = search in omega (arith, at-loop.loop.inv.few))
-    (λ c. let at-loop : tie.At-loop invariant-loop decreases-loop = search in omega (arith, at-loop.loop.inv.few, group-few at-loop.loop.inv c.before.before.before.loop-test.true c.before.before.find-match2.ensures c.before.group-size.ensures))
-    (λ c. omega (arith, c.before.before.find-match2.ensures.behind))
-    (λ c. let at-loop : tie.At-loop invariant-loop decreases-loop = search in scanning_more at-loop.loop.inv c.before.before.before.loop-test.true c.before.before.find-match2.ensures c.before.group-size.ensures c.if1.true)
-    (λ c. omega (arith, c.before.before.find-match2.ensures.behind))
-    (λ c. let at-loop : tie.At-loop invariant-loop decreases-loop = search in scanning_same at-loop.loop.inv c.before.before.before.loop-test.true c.before.before.find-match2.ensures c.before.group-size.ensures c.if1.false)
-    (λ c. scanning_done c.before.loop.invariant c.loop-test.false))
+    (λ c. scanning_start c.find_match-a.ensures)
+    (λ c. omega (arith, match-room _ _ (c.loop-a.invariant.here c.loop-a-test.true)))
+    (λ c κs. omega (arith, match-room _ _ (c.loop-a.invariant.here c.loop-a-test.true)))
+    (λ c κs. omega (arith, c.find_match-b.ensures.within))
+    (λ c. let at-loop : tie.At-loop-a invariant-loop decreases-loop = search in omega (arith, at-loop.loop-a.invariant.few))
+    (λ c. let at-loop : tie.At-loop-a invariant-loop decreases-loop = search in omega (arith, at-loop.loop-a.invariant.few, group-few at-loop.loop-a.invariant c.loop-a-test.true c.find_match-b.ensures c.group_size-n.ensures))
+    (λ c. omega (arith, c.find_match-b.ensures.behind))
+    (λ c. let at-loop : tie.At-loop-a invariant-loop decreases-loop = search in scanning_more at-loop.loop-a.invariant c.loop-a-test.true c.find_match-b.ensures c.group_size-n.ensures c.if-n-gt0.true)
+    (λ c. omega (arith, c.find_match-b.ensures.behind))
+    (λ c. let at-loop : tie.At-loop-a invariant-loop decreases-loop = search in scanning_same at-loop.loop-a.invariant c.loop-a-test.true c.find_match-b.ensures c.group_size-n.ensures c.if-n-gt0.false)
+    (λ c. scanning_done c.loop-a.invariant c.loop-a-test.false))

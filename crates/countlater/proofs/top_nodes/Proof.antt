@@ -14,34 +14,34 @@ record Kept (s : List ℕ) (n at p k all theirs : ℕ) : Type 0 where
   few : at + all + theirs ≤ p
   chosen : Choosing (node_at s) 256 n at all theirs k p
 
-abbrev invariant-loop : tie.invariant-loop
+abbrev invariant-loop : tie.invariant-loop-k
 invariant-loop s n at p₀ k₀ all₀ theirs₀ p k all theirs = Kept s n at p k all theirs
 
-abbrev decreases-loop : tie.decreases-loop
+abbrev decreases-loop : tie.decreases-loop-k
 decreases-loop s n at p₀ k₀ all₀ theirs₀ p k all theirs = k
 
-pub top-nodes-spec : {M : Type 1} → statement M
+pub top_nodes_spec : {M : Type 1} → statement M
 unfolding nodes_at
-top-nodes-spec =
+top_nodes_spec =
     tie.close
     (tie.spec
     invariant-loop decreases-loop
     (λ c. record { few = omega arith; chosen = choosing_start })
     (λ c κs. search rules) (λ c. search rules) (λ c. search rules) (λ c. search rules)
-    (λ c. let in-loop : tie.In-loop invariant-loop decreases-loop = search in let at-loop : tie.At-loop invariant-loop decreases-loop = search in record {
-      few = omega (arith, left_behind _ _ _ c.before.before.before.top-node-at.ensures c.before.next.given.1);
-      chosen = choosing_left at-loop.loop.inv.chosen (eqb-false 256 0 refl) in-loop.loop-test.taken _ (left-tally _ _ _ c.before.before.before.top-node-at.ensures c.before.next.given.1);
+    (λ c. let in-loop : tie.In-loop-k invariant-loop decreases-loop = search in let at-loop : tie.At-loop-k invariant-loop decreases-loop = search in record {
+      few = omega (arith, left_behind _ _ _ c.top_node_at.ensures c.in-Skipped.is);
+      chosen = choosing_left at-loop.loop-k.invariant.chosen (eqb-false 256 0 refl) in-loop.loop-k-test.true _ (left-tally _ _ _ c.top_node_at.ensures c.in-Skipped.is);
     })
     (λ c. search rules) (λ c κs. search rules) (λ c. search rules)
-    (λ c. let after-top-node-at : tie.After-top-node-at invariant-loop decreases-loop = search in let in-loop : tie.In-loop invariant-loop decreases-loop = search in let at-loop : tie.At-loop invariant-loop decreases-loop = search in choosing_bad at-loop.loop.inv.chosen (eqb-false 256 0 refl) in-loop.loop-test.taken _ (c.before.before.parse-node.ensures ∙ sym (kept-tally _ _ _ after-top-node-at.top-node-at.ensures c.before.before.before.enum_told.given.1)) c.enum-told2.given.1)
+    (λ c. let after-top-node-at : tie.After-top_node_at invariant-loop decreases-loop = search in let in-loop : tie.In-loop-k invariant-loop decreases-loop = search in let at-loop : tie.At-loop-k invariant-loop decreases-loop = search in choosing_bad at-loop.loop-k.invariant.chosen (eqb-false 256 0 refl) in-loop.loop-k-test.true _ (c.parse_node.ensures ∙ sym (kept-tally _ _ _ after-top-node-at.top_node_at.ensures c.in-Reported.is)) c.in-Bad.is)
     (λ c. search rules)
-    (λ c. omega (arith, node-fits _ _ _ c.before.before.before.parse-node.ensures c.before.controls.given.1))
-    (λ c. omega (arith, node-fits _ _ _ c.before.before.before.parse-node.ensures c.before.controls.given.1))
+    (λ c. omega (arith, node-fits _ _ _ c.parse_node.ensures c.in-Of.is))
+    (λ c. omega (arith, node-fits _ _ _ c.parse_node.ensures c.in-Of.is))
     (λ c. search rules) (λ c. search rules)
     (λ c. record {
-      few = omega (arith, node-fits _ _ _ c.before.before.before.parse-node.ensures c.before.controls.given.1);
+      few = omega (arith, node-fits _ _ _ c.parse_node.ensures c.in-Of.is);
       chosen =
           let at-parse-node = c.before.before.before in let at-enum-told = at-parse-node.before in let at-section-at = at-enum-told.before.before in let in_turn = at-section-at.before in let turn = in_turn.before in
-          choosing_more turn.loop.invariant.chosen (eqb-false 256 0 refl) in_turn.loop-test.true _ (at-parse-node.parse-node.ensures ∙ sym (kept-tally _ _ _ at-section-at.top-node-at.ensures at-enum-told.enum_told.given.1)) _ _ _ c.before.controls.given.1;
+          choosing_more turn.loop-k.invariant.chosen (eqb-false 256 0 refl) in_turn.loop-k-test.true _ (at-parse-node.parse_node.ensures ∙ sym (kept-tally _ _ _ at-section-at.top_node_at.ensures at-enum-told.in-Reported.is)) _ _ _ c.in-Of.is;
     })
-    (λ c. choosing_all c.before.loop.invariant.chosen c.loop-test.false))
+    (λ c. choosing_all c.loop-k.invariant.chosen c.loop-k-test.false))

@@ -15,86 +15,62 @@ use Rattle.csv2000.proofs.RunRoom.{Taking, taking_start}
 use Rattle.csv2000.proofs.run_left.Statement.{statement}
 use Rattle.csv2000.proofs.run_left.Tie as tie
 
-abbrev invariant-loop : tie.invariant-loop
+abbrev invariant-loop : tie.invariant-loop-p
 invariant-loop table body s at index letters owner all p₀ left₀ p left = Taking table body s at owner all p left
 
-abbrev decreases-loop : tie.decreases-loop
+abbrev decreases-loop : tie.decreases-loop-p
 decreases-loop table body s at index letters owner all p₀ left₀ p left = length s - p
 
 -- a property starts here, in the stream that is lent at the start
-abbrev start_of : tie.Else1 invariant-loop decreases-loop → tie.Start invariant-loop decreases-loop
+abbrev start_of : tie.Else-id-gt-LAST_ID invariant-loop decreases-loop → tie.Start invariant-loop decreases-loop
 start_of c = search
 
-goes : (c : tie.Else1 invariant-loop decreases-loop) → goes_on_lem (start_of c).args.s.now c.before.before.before.loop.p ≡ true
-goes c = starts _ _ (omega (arith, c.before.before.loop-test.true)) (omega (arith, c.if1.false))
+goes : (c : tie.Else-id-gt-LAST_ID invariant-loop decreases-loop) → goes_on_lem (start_of c).args.s.now c.loop-p.p ≡ true
+goes c = starts _ _ (omega (arith, c.loop-p-test.true)) (omega (arith, c.if-id-gt-LAST_ID.false))
 
-loop-holds : tie.Need-loop-init invariant-loop decreases-loop
+loop-holds : tie.Need-loop-p-init invariant-loop decreases-loop
 loop-holds c =
-    let from_start : tie.Start invariant-loop decreases-loop = search in
-    taking_start from_start.args.owner from_start.pre
+    taking_start c.args.owner c.requires
 
-returns : tie.Need-returns invariant-loop decreases-loop
+returns : tie.Need-returns-then-id-gt-LAST_ID invariant-loop decreases-loop
 returns c =
-    let at-loop : tie.At-loop invariant-loop decreases-loop = search in
-    let test : tie.In-loop invariant-loop decreases-loop = search in
-    let ended : tie.Then1 invariant-loop decreases-loop = search in
-    run-stop at-loop.loop.inv (stops _ _ (omega (arith, test.loop-test.taken)) (omega (arith, ended.if1.taken)))
+    run-stop c.loop-p.invariant (stops _ _ (omega (arith, c.loop-p-test.true)) (omega (arith, c.if-id-gt-LAST_ID.true)))
 
-returns-2 : tie.Need-returns-2 invariant-loop decreases-loop
+returns-2 : tie.Need-returns-in_default invariant-loop decreases-loop
 returns-2 c =
-    let else1 : tie.Else1 invariant-loop decreases-loop = search in
-    let at-loop : tie.At-loop invariant-loop decreases-loop = search in
-    let after-value : tie.After-value invariant-loop decreases-loop = search in
-    let told : tie.After-enum-told invariant-loop decreases-loop = search in
-    absurd (run-broken at-loop.loop.inv (goes else1) after-value.value.ensures told.enum_told.given.1)
+    let else1 : tie.Else-id-gt-LAST_ID invariant-loop decreases-loop = search in
+    absurd (run-broken c.loop-p.invariant (goes else1) c.value.ensures c.in_default.is)
 
-property-requires : tie.Need-property-requires invariant-loop decreases-loop
+property-requires : tie.Need-property-shown-requires invariant-loop decreases-loop
 property-requires c κs =
-    let after-start : tie.After-start invariant-loop decreases-loop = search in
-    let after-value : tie.After-value invariant-loop decreases-loop = search in
-    let from_start : tie.Start invariant-loop decreases-loop = search in
-    let v = after-value.value.ensures in
-    let k = after-start.start.given.1 in
-    record { small = from_start.pre.small; sorted = from_start.pre.sorted; inside = (ends _ _ _ _ _ v k).1; sized = value-sized _ _ _ _ _ v k }
+    let v = c.value.ensures in
+    let k = c.in-At.is in
+    record { small = c.requires.small; sorted = c.requires.sorted; inside = (ends _ _ _ _ _ v k).1; sized = value-sized _ _ _ _ _ v k }
 
-record-left-requires : tie.Need-record-left-requires invariant-loop decreases-loop
+record-left-requires : tie.Need-record_left-left-requires invariant-loop decreases-loop
 record-left-requires c κs =
-    let from_start : tie.Start invariant-loop decreases-loop = search in
-    from_start.pre.lent
+    c.requires.lent
 
-add-p : tie.Need-overflow-add-p invariant-loop decreases-loop
+add-p : tie.Need-overflow_add-p invariant-loop decreases-loop
 add-p c =
-    let after-start : tie.After-start invariant-loop decreases-loop = search in
-    let after-value : tie.After-value invariant-loop decreases-loop = search in
-    let from_start : tie.Start invariant-loop decreases-loop = search in
-    omega (arith, ends _ _ _ _ _ after-value.value.ensures after-start.start.given.1, from_start.pre.small)
+    omega (arith, ends _ _ _ _ _ c.value.ensures c.in-At.is, c.requires.small)
 
-loop-less : tie.Need-loop-smaller invariant-loop decreases-loop
+loop-less : tie.Need-loop-p-smaller invariant-loop decreases-loop
 loop-less c =
-    let after-start : tie.After-start invariant-loop decreases-loop = search in
-    let after-value : tie.After-value invariant-loop decreases-loop = search in
-    omega (arith, ends _ _ _ _ _ after-value.value.ensures after-start.start.given.1)
+    omega (arith, ends _ _ _ _ _ c.value.ensures c.in-At.is)
 
-loop-again : tie.Need-loop-preserved invariant-loop decreases-loop
+loop-again : tie.Need-loop-p-preserved invariant-loop decreases-loop
 loop-again c =
-    let took : tie.After-record-left invariant-loop decreases-loop = search in
-    let after-property : tie.After-property invariant-loop decreases-loop = search in
-    let after-start : tie.After-start invariant-loop decreases-loop = search in
-    let after-value : tie.After-value invariant-loop decreases-loop = search in
-    let else1 : tie.Else1 invariant-loop decreases-loop = search in
-    let at-loop : tie.At-loop invariant-loop decreases-loop = search in
-    let from_start : tie.Start invariant-loop decreases-loop = search in
-    run_on at-loop.loop.inv (goes else1) after-value.value.ensures after-start.start.given.1
-    (took.record-left.ensures ∙ ap (λ q. at-loop.loop.left - (from_start.args.owner + length (tail_text from_start.args.s.now (property_row q)))) after-property.property.ensures)
+    let else1 : tie.Else-id-gt-LAST_ID invariant-loop decreases-loop = search in
+    run_on c.loop-p.invariant (goes else1) c.value.ensures c.in-At.is
+    (c.record_left-left.ensures ∙ ap (λ q. c.loop-p.left - (c.args.owner + length (tail_text c.args.s.now (property_row q)))) c.property-shown.ensures)
 
-returns-3 : tie.Need-returns-3 invariant-loop decreases-loop
+returns-3 : tie.Need-returns invariant-loop decreases-loop
 returns-3 c =
-    let at-loop : tie.At-loop invariant-loop decreases-loop = search in
-    let over : tie.After-loop invariant-loop decreases-loop = search in
-    run-stop at-loop.loop.inv (past_end _ _ (omega (arith, over.loop-test.left)))
+    run-stop c.loop-p.invariant (past_end _ _ (omega (arith, c.loop-p-test.false)))
 
-pub run-left-spec : {M : Type 1} → statement M
-run-left-spec =
+pub run_left_spec : {M : Type 1} → statement M
+run_left_spec =
     tie.close
     (tie.spec
     invariant-loop

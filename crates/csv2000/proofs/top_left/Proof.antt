@@ -10,67 +10,57 @@ use Rattle.csv2000.proofs.RunRoom.{Going, going_start}
 use Rattle.csv2000.proofs.top_left.Statement.{statement}
 use Rattle.csv2000.proofs.top_left.Tie as tie
 
-abbrev invariant-loop : tie.invariant-loop
+abbrev invariant-loop : tie.invariant-loop-c
 invariant-loop table hints₀ scopes s n at index letters all stack₀ c₀ i₀ left₀ hints stack c i left = Going table s n at all stack c i left
 
-abbrev decreases-loop : tie.decreases-loop
+abbrev decreases-loop : tie.decreases-loop-c
 decreases-loop table hints₀ scopes s n at index letters all stack₀ c₀ i₀ left₀ hints stack c i left = how_many (rows.left (step_at s) i stack c)
 
 -- ---- places, each from a later one
-abbrev turn-of : tie.After-node-left invariant-loop decreases-loop → tie.At-loop invariant-loop decreases-loop
+abbrev turn-of : tie.After-node_left-e invariant-loop decreases-loop → tie.At-loop-c invariant-loop decreases-loop
 turn-of c = search
 
-abbrev test_of : tie.After-node-left invariant-loop decreases-loop → tie.Then1 invariant-loop decreases-loop
+abbrev test_of : tie.After-node_left-e invariant-loop decreases-loop → tie.In-loop-c invariant-loop decreases-loop
 test_of c = search
 
-some_left : (c : tie.After-node-left invariant-loop decreases-loop) → 0 < (turn-of c).loop.c.left
-some_left c = omega (arith, (test_of c).if1.true)
+some_left : (c : tie.After-node_left-e invariant-loop decreases-loop) → 0 < (turn-of c).loop-c.c.left
+some_left c = omega (arith, (test_of c).loop-c-test.true)
 
-loop-holds : tie.Need-loop-init invariant-loop decreases-loop
+loop-holds : tie.Need-loop-c-init invariant-loop decreases-loop
 loop-holds c =
-    let from_start : tie.Start invariant-loop decreases-loop = search in
-    let begun : tie.After-top invariant-loop decreases-loop = search in
-    let first : tie.After-reported invariant-loop decreases-loop = search in
-    going_start _ (length-replicate {A = ℕ} 512 0) from_start.pre begun.top.ensures first.reported.ensures
+    going_start _ (length-replicate {A = ℕ} 512 0) c.requires c.top.ensures c.reported-c.ensures
 
-node-left-requires : tie.Need-node-left-requires invariant-loop decreases-loop
+node-left-requires : tie.Need-node_left-e-requires invariant-loop decreases-loop
 node-left-requires c κs =
-    let from_start : tie.Start invariant-loop decreases-loop = search in
-    let turn : tie.At-loop invariant-loop decreases-loop = search in
-    let l : 0 < turn.loop.c.left = omega arith in
-    record { known = from_start.pre.known; inside = (its turn.loop.inv l).inside; there = entry-there turn.loop.inv l; lent = from_start.pre.lent }
+    let l : 0 < c.loop-c.c.left = omega arith in
+    record { known = c.requires.known; inside = (its c.loop-c.invariant l).inside; there = entry-there c.loop-c.invariant l; lent = c.requires.lent }
 
 past-requires : tie.Need-past-requires invariant-loop decreases-loop
 past-requires c κs =
-    let took : tie.After-node-left invariant-loop decreases-loop = search in
-    top_past (turn-of took).loop.inv (some_left took) took.node-left.ensures
+    let took : tie.After-node_left-e invariant-loop decreases-loop = search in
+    top_past (turn-of took).loop-c.invariant (some_left took) took.node_left-e.ensures
 
-add-i : tie.Need-overflow-add-i invariant-loop decreases-loop
+add-i : tie.Need-overflow_add-i invariant-loop decreases-loop
 add-i c =
-    let took : tie.After-node-left invariant-loop decreases-loop = search in
-    top_asks (turn-of took).loop.inv (some_left took) (λ _ h. omega (arith, h))
+    let took : tie.After-node_left-e invariant-loop decreases-loop = search in
+    top_asks (turn-of took).loop-c.invariant (some_left took) (λ _ h. omega (arith, h))
 
-loop-less : tie.Need-loop-smaller invariant-loop decreases-loop
+loop-less : tie.Need-loop-c-smaller invariant-loop decreases-loop
 loop-less c =
-    let took : tie.After-node-left invariant-loop decreases-loop = search in
-    let moved : tie.After-past invariant-loop decreases-loop = search in
-    let next : tie.After-reported2 invariant-loop decreases-loop = search in
-    top_less (turn-of took).loop.inv (some_left took) took.node-left.ensures _ moved.past.ensures next.reported2.ensures
+    let took : tie.After-node_left-e invariant-loop decreases-loop = search in
+    top_less (turn-of took).loop-c.invariant (some_left took) took.node_left-e.ensures _ c.past.ensures c.reported-c-in-loop-c.ensures
 
-loop-again : tie.Need-loop-preserved invariant-loop decreases-loop
+loop-again : tie.Need-loop-c-preserved invariant-loop decreases-loop
 loop-again c =
-    let took : tie.After-node-left invariant-loop decreases-loop = search in
-    let moved : tie.After-past invariant-loop decreases-loop = search in
-    let next : tie.After-reported2 invariant-loop decreases-loop = search in
-    top-next (turn-of took).loop.inv (some_left took) took.node-left.ensures _ moved.past.ensures next.reported2.ensures
+    let took : tie.After-node_left-e invariant-loop decreases-loop = search in
+    top-next (turn-of took).loop-c.invariant (some_left took) took.node_left-e.ensures _ c.past.ensures c.reported-c-in-loop-c.ensures
 
 returns : tie.Need-returns invariant-loop decreases-loop
 returns c =
-    let turn : tie.At-loop invariant-loop decreases-loop = search in
-    record { next = _; is = top-stop turn.loop.inv (omega arith) }
+    record { next = _; is = top-stop c.loop-c.invariant (omega arith) }
 
-pub top-left-spec : {M : Type 1} → statement M
-top-left-spec =
+pub top_left_spec : {M : Type 1} → statement M
+top_left_spec =
     tie.close
     (tie.spec
     invariant-loop

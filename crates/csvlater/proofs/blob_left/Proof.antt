@@ -4,47 +4,28 @@ use Rattle.csvlater.proofs.Whole.{blob-tree-ready, blob-tree-done, blob-scan-rea
 use Rattle.csvlater.proofs.blob_left.Statement.{statement}
 use Rattle.csvlater.proofs.blob_left.Tie as tie
 
-group-left-requires : tie.Need-group-left-requires
+group-left-requires : tie.Need-group_left-g-requires
 group-left-requires c κs =
-    let start : tie.Start = search in
-    record { inside = omega arith; small = start.pre.small; lent = start.pre.lent }
+    record { inside = omega arith; small = c.requires.small; lent = c.requires.lent }
 
-tree-left-requires : tie.Need-tree-left-requires
+tree-left-requires : tie.Need-tree_left-requires
 tree-left-requires c κs =
-    let start : tie.Start = search in
-    let sized : tie.After-owner-size = search in
-    let group : tie.After-group-left = search in
-    let tree : tie.Then1 = search in
-    blob-tree-ready start.pre sized.owner-size.ensures group.group-left.ensures tree.if1.taken
+    blob-tree-ready c.requires c.owner_size-owner.ensures c.group_left-g.ensures c.if-tree.true
 
-scanned-left-requires : tie.Need-scanned-left-requires
+scanned-left-requires : tie.Need-scanned_left-requires
 scanned-left-requires c κs =
-    let start : tie.Start = search in
-    let sized : tie.After-owner-size = search in
-    let group : tie.After-group-left = search in
-    let scan : tie.Else1 = search in
-    blob-scan-ready start.pre sized.owner-size.ensures group.group-left.ensures scan.if1.left
+    blob-scan-ready c.requires c.owner_size-owner.ensures c.group_left-g.ensures c.if-tree.false
 
-returns : tie.Need-returns
+returns : tie.Need-returns-then-tree
 returns c =
-    let start : tie.Start = search in
-    let sized : tie.After-owner-size = search in
-    let group : tie.After-group-left = search in
-    let tree : tie.Then1 = search in
-    let took : tie.After-tree-left = search in
-    blob-tree-done start.pre sized.owner-size.ensures group.group-left.ensures tree.if1.taken took.tree-left.ensures
+    blob-tree-done c.requires c.owner_size-owner.ensures c.group_left-g.ensures c.if-tree.true c.tree_left.ensures
 
-returns-2 : tie.Need-returns-2
+returns-2 : tie.Need-returns
 returns-2 c =
-    let start : tie.Start = search in
-    let sized : tie.After-owner-size = search in
-    let group : tie.After-group-left = search in
-    let scan : tie.Else1 = search in
-    let took : tie.After-scanned-left = search in
-    blob-scan-done start.pre sized.owner-size.ensures group.group-left.ensures scan.if1.left took.scanned-left.ensures
+    blob-scan-done c.requires c.owner_size-owner.ensures c.group_left-g.ensures c.if-tree.false c.scanned_left.ensures
 
-pub blob-left-spec : {M : Type 1} → statement M
-blob-left-spec =
+pub blob_left_spec : {M : Type 1} → statement M
+blob_left_spec =
     tie.close
     (tie.spec
     (λ c κs. search rules)

@@ -11,92 +11,82 @@ use Rattle.csvlater.proofs.GroupRoom.{Scanning, scanned-taken}
 use Rattle.csvlater.proofs.scanned_left.Statement.{statement}
 use Rattle.csvlater.proofs.scanned_left.Tie as tie
 
-abbrev invariant-loop : tie.invariant-loop
+abbrev invariant-loop : tie.invariant-loop-a
 invariant-loop s from index letters all a₀ i₀ left₀ a i left = Scanning s from all a i left
 
-abbrev decreases-loop : tie.decreases-loop
+abbrev decreases-loop : tie.decreases-loop-a
 decreases-loop s from index letters all a₀ i₀ left₀ a i left = length s - a
 
 -- ---- places, each from a later one
-abbrev next_of : tie.After-group-left invariant-loop decreases-loop → tie.After-find-match2 invariant-loop decreases-loop
+abbrev next_of : tie.After-group_left-g invariant-loop decreases-loop → tie.After-find_match-limit invariant-loop decreases-loop
 next_of c = search
 
-abbrev sized_of : tie.After-group-left invariant-loop decreases-loop → tie.After-owner-size invariant-loop decreases-loop
+abbrev sized_of : tie.After-group_left-g invariant-loop decreases-loop → tie.After-owner_size-owner invariant-loop decreases-loop
 sized_of c = search
 
-abbrev test_of : tie.After-find-match2 invariant-loop decreases-loop → tie.In-loop invariant-loop decreases-loop
+abbrev test_of : tie.After-find_match-limit invariant-loop decreases-loop → tie.In-loop-a invariant-loop decreases-loop
 test_of c = search
 
-abbrev turn-of : tie.After-find-match2 invariant-loop decreases-loop → tie.At-loop invariant-loop decreases-loop
+abbrev turn-of : tie.After-find_match-limit invariant-loop decreases-loop → tie.At-loop-a invariant-loop decreases-loop
 turn-of c = search
 
-abbrev start_of : tie.After-find-match2 invariant-loop decreases-loop → tie.Start invariant-loop decreases-loop
+abbrev start_of : tie.After-find_match-limit invariant-loop decreases-loop → tie.Start invariant-loop decreases-loop
 start_of c = search
 
-find-match-requires : tie.Need-find-match-requires invariant-loop decreases-loop
+find-match-requires : tie.Need-find_match-a-requires invariant-loop decreases-loop
 find-match-requires c κs =
-    let start : tie.Start invariant-loop decreases-loop = search in
-    start.pre.within
+    c.requires.within
 
-loop-holds : tie.Need-loop-init invariant-loop decreases-loop
+loop-holds : tie.Need-loop-a-init invariant-loop decreases-loop
 loop-holds c =
-    let start : tie.Start invariant-loop decreases-loop = search in
-    let found : tie.After-find-match invariant-loop decreases-loop = search in
-    sweep_start (omega (arith, start.pre.few)) found.find-match.ensures
+    sweep_start (omega (arith, c.requires.few)) c.find_match-a.ensures
 
-add-find-match : tie.Need-overflow-add-find-match invariant-loop decreases-loop
-add-find-match c = omega (arith, match-room _ _ (c.before.loop.invariant.here c.loop-test.true))
+add-find-match : tie.Need-overflow_add-a invariant-loop decreases-loop
+add-find-match c = omega (arith, match-room _ _ (c.loop-a.invariant.here c.loop-a-test.true))
 
-find-match-requires-2 : tie.Need-find-match-requires-2 invariant-loop decreases-loop
-find-match-requires-2 c κs = omega (arith, match-room _ _ (c.before.loop.invariant.here c.loop-test.true))
+find-match-requires-2 : tie.Need-find_match-limit-requires invariant-loop decreases-loop
+find-match-requires-2 c κs = omega (arith, match-room _ _ (c.loop-a.invariant.here c.loop-a-test.true))
 
-group-left-requires : tie.Need-group-left-requires invariant-loop decreases-loop
+group-left-requires : tie.Need-group_left-g-requires invariant-loop decreases-loop
 group-left-requires c κs =
-    let start : tie.Start invariant-loop decreases-loop = search in
-    let next : tie.After-find-match2 invariant-loop decreases-loop = search in
-    record { inside = next.find-match2.ensures.within; small = start.pre.small; lent = start.pre.lent }
+    record { inside = c.find_match-limit.ensures.within; small = c.requires.small; lent = c.requires.lent }
 
-add-i : tie.Need-overflow-add-i invariant-loop decreases-loop
+add-i : tie.Need-overflow_add-i invariant-loop decreases-loop
 add-i c =
-    let any : tie.Then1 invariant-loop decreases-loop = search in
-    let group : tie.After-group-left invariant-loop decreases-loop = search in
+    let group : tie.After-group_left-g invariant-loop decreases-loop = search in
     let next = next_of group in
-    sweep_asks (turn-of next).loop.inv (test_of next).loop-test.taken next.find-match2.ensures (sym group.group-left.ensures.any-is ∙ any.if1.taken) (λ _ h. omega (arith, h))
+    sweep_asks (turn-of next).loop-a.invariant (test_of next).loop-a-test.true next.find_match-limit.ensures (sym group.group_left-g.ensures.any-is ∙ c.if-g.true) (λ _ h. omega (arith, h))
 
-loop-less : tie.Need-loop-smaller invariant-loop decreases-loop
+loop-less : tie.Need-loop-a-smaller-then-g invariant-loop decreases-loop
 loop-less c =
-    let next : tie.After-find-match2 invariant-loop decreases-loop = search in
-    omega (arith, next.find-match2.ensures.behind, (test_of next).loop-test.taken)
+    let next : tie.After-find_match-limit invariant-loop decreases-loop = search in
+    omega (arith, next.find_match-limit.ensures.behind, (test_of next).loop-a-test.true)
 
-loop-again : tie.Need-loop-preserved invariant-loop decreases-loop
+loop-again : tie.Need-loop-a-preserved-then-g invariant-loop decreases-loop
 loop-again c =
-    let any : tie.Then1 invariant-loop decreases-loop = search in
-    let group : tie.After-group-left invariant-loop decreases-loop = search in
+    let group : tie.After-group_left-g invariant-loop decreases-loop = search in
     let next = next_of group in
     let start = start_of next in
-    sweep_on (turn-of next).loop.inv (test_of next).loop-test.taken next.find-match2.ensures (sym group.group-left.ensures.any-is ∙ any.if1.taken)
-    (controls_work start.args.s.now (scanned_control start.args.s.now) (turn-of next).loop.i) (scanned-taken group.group-left.ensures _ (sized_of group).owner-size.ensures)
+    sweep_on (turn-of next).loop-a.invariant (test_of next).loop-a-test.true next.find_match-limit.ensures (sym group.group_left-g.ensures.any-is ∙ c.if-g.true)
+    (controls_work start.args.s.now (scanned_control start.args.s.now) (turn-of next).loop-a.i) (scanned-taken group.group_left-g.ensures _ (sized_of group).owner_size-owner.ensures)
 
-loop-less-2 : tie.Need-loop-smaller-2 invariant-loop decreases-loop
+loop-less-2 : tie.Need-loop-a-smaller invariant-loop decreases-loop
 loop-less-2 c =
-    let next : tie.After-find-match2 invariant-loop decreases-loop = search in
-    omega (arith, next.find-match2.ensures.behind, (test_of next).loop-test.taken)
+    let next : tie.After-find_match-limit invariant-loop decreases-loop = search in
+    omega (arith, next.find_match-limit.ensures.behind, (test_of next).loop-a-test.true)
 
-loop-again-2 : tie.Need-loop-preserved-2 invariant-loop decreases-loop
+loop-again-2 : tie.Need-loop-a-preserved invariant-loop decreases-loop
 loop-again-2 c =
-    let none : tie.Else1 invariant-loop decreases-loop = search in
-    let group : tie.After-group-left invariant-loop decreases-loop = search in
+    let group : tie.After-group_left-g invariant-loop decreases-loop = search in
     let next = next_of group in
-    sweep_over (turn-of next).loop.inv (test_of next).loop-test.taken next.find-match2.ensures (sym group.group-left.ensures.any-is ∙ none.if1.left) refl
+    sweep_over (turn-of next).loop-a.invariant (test_of next).loop-a-test.true next.find_match-limit.ensures (sym group.group_left-g.ensures.any-is ∙ c.if-g.false) refl
 
 returns : tie.Need-returns invariant-loop decreases-loop
 returns c =
-    let start : tie.Start invariant-loop decreases-loop = search in
-    let turn : tie.At-loop invariant-loop decreases-loop = search in
-    (sweep_stop turn.loop.inv ((controls_work start.args.s.now (scanned_control start.args.s.now) turn.loop.i).none_left turn.loop.left) c.loop-test.false).held.is
+    (sweep_stop c.loop-a.invariant ((controls_work c.args.s.now (scanned_control c.args.s.now) c.loop-a.i).none_left c.loop-a.left) c.loop-a-test.false).held.is
 
-pub scanned-left-spec : {M : Type 1} → statement M
-scanned-left-spec =
+pub scanned_left_spec : {M : Type 1} → statement M
+scanned_left_spec =
     tie.close
     (tie.spec
     invariant-loop

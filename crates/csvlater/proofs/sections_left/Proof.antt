@@ -10,80 +10,68 @@ use Rattle.csvlater.proofs.GroupRoom.{Going, going_start, node-taken}
 use Rattle.csvlater.proofs.sections_left.Statement.{statement}
 use Rattle.csvlater.proofs.sections_left.Tie as tie
 
-abbrev invariant-loop : tie.invariant-loop
+abbrev invariant-loop : tie.invariant-loop-c
 invariant-loop s n at index letters all stack₀ c₀ i₀ left₀ stack c i left = Going s n at all stack c i left
 
-abbrev decreases-loop : tie.decreases-loop
+abbrev decreases-loop : tie.decreases-loop-c
 decreases-loop s n at index letters all stack₀ c₀ i₀ left₀ stack c i left = how_many (rows.left (step_at s) i stack c)
 
 -- ---- places, each from a later one
-abbrev turn-of : tie.After-group-left invariant-loop decreases-loop → tie.At-loop invariant-loop decreases-loop
+abbrev turn-of : tie.After-group_left-g invariant-loop decreases-loop → tie.At-loop-c invariant-loop decreases-loop
 turn-of c = search
 
-abbrev test_of : tie.After-group-left invariant-loop decreases-loop → tie.Then1 invariant-loop decreases-loop
+abbrev test_of : tie.After-group_left-g invariant-loop decreases-loop → tie.In-loop-c invariant-loop decreases-loop
 test_of c = search
 
-abbrev typed-of : tie.After-group-left invariant-loop decreases-loop → tie.After-u16-at invariant-loop decreases-loop
+abbrev typed-of : tie.After-group_left-g invariant-loop decreases-loop → tie.After-u16_at invariant-loop decreases-loop
 typed-of c = search
 
-abbrev sized_of : tie.After-group-left invariant-loop decreases-loop → tie.After-owner-size invariant-loop decreases-loop
+abbrev sized_of : tie.After-group_left-g invariant-loop decreases-loop → tie.After-owner_size-owner invariant-loop decreases-loop
 sized_of c = search
 
-some_left : (c : tie.After-group-left invariant-loop decreases-loop) → 0 < (turn-of c).loop.c.left
-some_left c = omega (arith, (test_of c).if1.true)
+some_left : (c : tie.After-group_left-g invariant-loop decreases-loop) → 0 < (turn-of c).loop-c.c.left
+some_left c = omega (arith, (test_of c).loop-c-test.true)
 
-loop-holds : tie.Need-loop-init invariant-loop decreases-loop
+loop-holds : tie.Need-loop-c-init invariant-loop decreases-loop
 loop-holds c =
-    let start : tie.Start invariant-loop decreases-loop = search in
-    let begun : tie.After-top invariant-loop decreases-loop = search in
-    let first : tie.After-reported invariant-loop decreases-loop = search in
-    going_start _ (length-replicate {A = ℕ} 512 0) start.pre begun.top.ensures first.reported.ensures
+    going_start _ (length-replicate {A = ℕ} 512 0) c.requires c.top.ensures c.reported-c.ensures
 
-add-group-left : tie.Need-overflow-add-group-left invariant-loop decreases-loop
+add-group-left : tie.Need-overflow_add-c invariant-loop decreases-loop
 add-group-left c =
-    let start : tie.Start invariant-loop decreases-loop = search in
-    let turn : tie.At-loop invariant-loop decreases-loop = search in
-    let test : tie.Then1 invariant-loop decreases-loop = search in
-    omega (arith, node-inside turn.loop.inv (omega (arith, test.if1.taken)), start.pre.small)
+    omega (arith, node-inside c.loop-c.invariant (omega (arith, c.loop-c-test.true)), c.requires.small)
 
-group-left-requires : tie.Need-group-left-requires invariant-loop decreases-loop
+group-left-requires : tie.Need-group_left-g-requires invariant-loop decreases-loop
 group-left-requires c κs =
-    let start : tie.Start invariant-loop decreases-loop = search in
-    record { inside = omega arith; small = start.pre.small; lent = start.pre.lent }
+    record { inside = omega arith; small = c.requires.small; lent = c.requires.lent }
 
 past-requires : tie.Need-past-requires invariant-loop decreases-loop
 past-requires c κs =
-    let group : tie.After-group-left invariant-loop decreases-loop = search in
-    top_past (turn-of group).loop.inv (some_left group) group.group-left.ensures.stop_is group.group-left.ensures.trailer-is
+    let group : tie.After-group_left-g invariant-loop decreases-loop = search in
+    top_past (turn-of group).loop-c.invariant (some_left group) group.group_left-g.ensures.stop_is group.group_left-g.ensures.trailer-is
 
-add-i : tie.Need-overflow-add-i invariant-loop decreases-loop
+add-i : tie.Need-overflow_add-i invariant-loop decreases-loop
 add-i c =
-    let group : tie.After-group-left invariant-loop decreases-loop = search in
-    top_asks (turn-of group).loop.inv (some_left group) (λ _ h. omega (arith, h))
+    let group : tie.After-group_left-g invariant-loop decreases-loop = search in
+    top_asks (turn-of group).loop-c.invariant (some_left group) (λ _ h. omega (arith, h))
 
-loop-less : tie.Need-loop-smaller invariant-loop decreases-loop
+loop-less : tie.Need-loop-c-smaller invariant-loop decreases-loop
 loop-less c =
-    let group : tie.After-group-left invariant-loop decreases-loop = search in
-    let moved : tie.After-past invariant-loop decreases-loop = search in
-    let next : tie.After-reported2 invariant-loop decreases-loop = search in
-    top_less (turn-of group).loop.inv (some_left group) group.group-left.ensures.stop_is group.group-left.ensures.trailer-is
-    (node-taken group.group-left.ensures _ (typed-of group).u16-at.ensures (sized_of group).owner-size.ensures) _ moved.past.ensures next.reported2.ensures
+    let group : tie.After-group_left-g invariant-loop decreases-loop = search in
+    top_less (turn-of group).loop-c.invariant (some_left group) group.group_left-g.ensures.stop_is group.group_left-g.ensures.trailer-is
+    (node-taken group.group_left-g.ensures _ (typed-of group).u16_at.ensures (sized_of group).owner_size-owner.ensures) _ c.past.ensures c.reported-c-in-loop-c.ensures
 
-loop-again : tie.Need-loop-preserved invariant-loop decreases-loop
+loop-again : tie.Need-loop-c-preserved invariant-loop decreases-loop
 loop-again c =
-    let group : tie.After-group-left invariant-loop decreases-loop = search in
-    let moved : tie.After-past invariant-loop decreases-loop = search in
-    let next : tie.After-reported2 invariant-loop decreases-loop = search in
-    top-next (turn-of group).loop.inv (some_left group) group.group-left.ensures.stop_is group.group-left.ensures.trailer-is
-    (node-taken group.group-left.ensures _ (typed-of group).u16-at.ensures (sized_of group).owner-size.ensures) _ moved.past.ensures next.reported2.ensures
+    let group : tie.After-group_left-g invariant-loop decreases-loop = search in
+    top-next (turn-of group).loop-c.invariant (some_left group) group.group_left-g.ensures.stop_is group.group_left-g.ensures.trailer-is
+    (node-taken group.group_left-g.ensures _ (typed-of group).u16_at.ensures (sized_of group).owner_size-owner.ensures) _ c.past.ensures c.reported-c-in-loop-c.ensures
 
 returns : tie.Need-returns invariant-loop decreases-loop
 returns c =
-    let turn : tie.At-loop invariant-loop decreases-loop = search in
-    record { next = _; is = top-stop turn.loop.inv (omega arith) }
+    record { next = _; is = top-stop c.loop-c.invariant (omega arith) }
 
-pub sections-left-spec : {M : Type 1} → statement M
-sections-left-spec =
+pub sections_left_spec : {M : Type 1} → statement M
+sections_left_spec =
     tie.close
     (tie.spec
     invariant-loop

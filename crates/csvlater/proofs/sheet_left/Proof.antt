@@ -4,22 +4,19 @@ use Rattle.csvlater.proofs.Whole.{short-done, blob-ready}
 use Rattle.csvlater.proofs.sheet_left.Statement.{statement}
 use Rattle.csvlater.proofs.sheet_left.Tie as tie
 
-returns : tie.Need-returns
+returns : tie.Need-returns-then-s-lt-OBJECT_AT
 returns c = short-done _ _ (omega arith)
 
-blob-left-requires : tie.Need-blob-left-requires
+blob-left-requires : tie.Need-blob_left-requires
 blob-left-requires c κs =
-    let start : tie.Start = search in
-    let said : tie.After-count = search in
-    blob-ready (omega arith) start.pre said.count.ensures
+    blob-ready (omega arith) c.requires c.count-n.ensures
 
-returns-2 : tie.Need-returns-2
+returns-2 : tie.Need-returns
 returns-2 c =
-    let took : tie.After-blob-left = search in
-    took.blob-left.ensures
+    c.blob_left.ensures
 
-pub sheet-left-spec : {M : Type 1} → statement M
-sheet-left-spec =
+pub sheet_left_spec : {M : Type 1} → statement M
+sheet_left_spec =
     tie.close
     (tie.spec
     returns

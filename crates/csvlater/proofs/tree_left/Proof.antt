@@ -7,37 +7,27 @@ use Rattle.csvlater.proofs.tree_left.Statement.{statement}
 use Rattle.csvlater.proofs.tree_left.Tie as tie
 
 -- a count of two bytes fits
-cast-sections-left : tie.Need-overflow-cast-sections-left
+cast-sections-left : tie.Need-overflow_cast-count
 cast-sections-left c =
-    let known : tie.After-shared-slice-known = search in
-    let kids : tie.After-children-at = search in
-    let count : tie.After-count = search in
-    omega (arith, count_small _ _ _ kids.children-at.ensures (λ i. (known.shared-slice-known.given i).fits) count.count.given.1)
+    let known : tie.After-shared_slice_known-1 = search in
+    let kids : tie.After-children_at = search in
+    let count : tie.In-Of = search in
+    omega (arith, count_small _ _ _ kids.children_at.ensures (λ i. (known.shared_slice_known-1.given i).fits) count.in-Of.is)
 
-sections-left-requires : tie.Need-sections-left-requires
+sections-left-requires : tie.Need-sections_left-requires
 sections-left-requires c κs =
-    let start : tie.Start = search in
-    let kids : tie.After-children-at = search in
-    let count : tie.After-count = search in
-    tree-ready start.pre kids.children-at.ensures count.count.given.1
+    tree-ready c.requires c.children_at.ensures c.in-Of.is
 
-returns : tie.Need-returns
+returns : tie.Need-returns-in-Bad
 returns c =
-    let start : tie.Start = search in
-    let kids : tie.After-children-at = search in
-    let told : tie.After-enum-told = search in
-    absurd (tree-never _ _ _ _ start.pre.few kids.children-at.ensures told.enum_told.given.1)
+    absurd (tree-never _ _ _ _ c.requires.few c.children_at.ensures c.in-Bad.is)
 
-returns-2 : tie.Need-returns-2
+returns-2 : tie.Need-returns-in-Of
 returns-2 c =
-    let start : tie.Start = search in
-    let kids : tie.After-children-at = search in
-    let count : tie.After-count = search in
-    let took : tie.After-sections-left = search in
-    tree-done start.pre kids.children-at.ensures count.count.given.1 took.sections-left.ensures
+    tree-done c.requires c.children_at.ensures c.in-Of.is c.sections_left.ensures
 
-pub tree-left-spec : {M : Type 1} → statement M
-tree-left-spec =
+pub tree_left_spec : {M : Type 1} → statement M
+tree_left_spec =
     tie.close
     (tie.spec
     (λ c κs. search rules)

@@ -47,38 +47,38 @@ put-large-calls t = (
 
 module _ (t : ℕ) where
   refuse-requires : put-large-lts.Need-refuse-requires (put-large-calls t) (put-large-at t) put-large.Post
-  refuse-requires c κs = more-refused (c.before.before.requires.1 c.if1.true)
+  refuse-requires c κs = more-refused (c.before.before.requires.1 c.if-more.true)
 
-  slice-aggregate-again : put-large-lts.Need-slice-aggregate-put-large (put-large-calls t) (put-large-at t) put-large.Post
+  slice-aggregate-again : put-large-lts.Need-slice_bounds-put_large-end (put-large-calls t) (put-large-at t) put-large.Post
   slice-aggregate-again c =
-      let filled : put-large-lts.After-fill (put-large-calls t) (put-large-at t) put-large.Post = search in
-      let space : put-large-lts.After-large-input (put-large-calls t) (put-large-at t) put-large.Post = search in
-      space.large-input.ensures ∙ sym filled.fill.kept.0
+      let filled : put-large-lts.After-fill-size (put-large-calls t) (put-large-at t) put-large.Post = search in
+      let space : put-large-lts.After-large_input-space (put-large-calls t) (put-large-at t) put-large.Post = search in
+      space.large_input-space.ensures ∙ sym filled.fill-size.auto.0
 
-  again-requires : put-large-lts.Need-put-large-requires (put-large-calls t) (put-large-at t) put-large.Post
+  again-requires : put-large-lts.Need-put_large-requires (put-large-calls t) (put-large-at t) put-large.Post
   again-requires c κs =
-      let filled : put-large-lts.After-fill (put-large-calls t) (put-large-at t) put-large.Post = search in
-      let space : put-large-lts.After-large-input (put-large-calls t) (put-large-at t) put-large.Post = search in
-      let first : put-large-lts.Else1 (put-large-calls t) (put-large-at t) put-large.Post = search in
+      let filled : put-large-lts.After-fill-size (put-large-calls t) (put-large-at t) put-large.Post = search in
+      let space : put-large-lts.After-large_input-space (put-large-calls t) (put-large-at t) put-large.Post = search in
+      let first : put-large-lts.Else-more (put-large-calls t) (put-large-at t) put-large.Post = search in
       let start : put-large-lts.Start (put-large-calls t) (put-large-at t) put-large.Post = search in
-      (once start.args.more start.pre.0 first.if1.left, λ _. omega (arith, space.large-input.ensures, filled.fill.kept.0))
+      (once start.args.more start.requires.0 first.if-more.false, λ _. omega (arith, space.large_input-space.ensures, filled.fill-size.auto.0))
 
-  array-share-prefix-space : put-large-lts.Need-array-share-prefix-space (put-large-calls t) (put-large-at t) put-large.Post
-  array-share-prefix-space c = let f = c.before.before.before.fill in inside f.ensures f.auto.0
+  array-share-prefix-space : put-large-lts.Need-slice_bounds-space-end (put-large-calls t) (put-large-at t) put-large.Post
+  array-share-prefix-space c = let f = c.fill-size in inside f.ensures f.auto.0
 
-  slice-aggregate-put : put-large-lts.Need-slice-aggregate-put (put-large-calls t) (put-large-at t) put-large.Post
+  slice-aggregate-put : put-large-lts.Need-slice_bounds-put-end (put-large-calls t) (put-large-at t) put-large.Post
   slice-aggregate-put c =
-      let filled : put-large-lts.After-fill (put-large-calls t) (put-large-at t) put-large.Post = search in
-      part-size filled.fill.ensures filled.fill.kept.0
+      let filled : put-large-lts.After-fill-size (put-large-calls t) (put-large-at t) put-large.Post = search in
+      part-size filled.fill-size.ensures filled.fill-size.auto.0
 
   put-requires : put-large-lts.Need-put-requires (put-large-calls t) (put-large-at t) put-large.Post
   put-requires c κs =
-      let filled : put-large-lts.After-fill (put-large-calls t) (put-large-at t) put-large.Post = search in
-      let space : put-large-lts.After-large-input (put-large-calls t) (put-large-at t) put-large.Post = search in
-      part-short filled.fill.ensures filled.fill.kept.0 space.large-input.ensures
+      let filled : put-large-lts.After-fill-size (put-large-calls t) (put-large-at t) put-large.Post = search in
+      let space : put-large-lts.After-large_input-space (put-large-calls t) (put-large-at t) put-large.Post = search in
+      part-short filled.fill-size.ensures filled.fill-size.auto.0 space.large_input-space.ensures
 
-pub +put-large-spec : {M : Type 1} → statement M
-+put-large-spec = close μ-put-large λ t. put-large-lts.spec (put-large-calls t)
+pub +put_large_spec : {M : Type 1} → statement M
++put_large_spec = close μ-put-large λ t. put-large-lts.spec (put-large-calls t)
     (put-large-at t)
     put-large.Post
     (refuse-requires t)

@@ -7,5 +7,5 @@ use Rattle.csvout.proofs.large_text.Tie as tie
 returns : tie.Need-returns
 returns c = sym (length-replicate {A = ℕ} 33554432 0)
 
-pub large-text-spec : {M : Type 1} → statement M
-large-text-spec = tie.close (tie.spec returns)
+pub large_text_spec : {M : Type 1} → statement M
+large_text_spec = tie.close (tie.spec returns)

@@ -8,24 +8,18 @@ use Rattle.csvout.proofs.put.Tie as tie
 
 refuse-requires : tie.Need-refuse-requires
 refuse-requires c κs =
-    let start : tie.Start = search in
-    let sized : tie.After-u32-at = search in
-    let z = sized.u32-at.ensures in
-    table-cut start.args.input.now start.pre (omega arith) (omega arith)
+    let z = c.u32_at-size.ensures in
+    table-cut c.args.input.now c.requires (omega arith) (omega arith)
 
-refuse-requires-2 : tie.Need-refuse-requires-2
+refuse-requires-2 : tie.Need-refuse-requires-then-input-start-gt-LONGEST_BLOB
 refuse-requires-2 c κs =
-    let start : tie.Start = search in
-    let sized : tie.After-u32-at = search in
-    let z = sized.u32-at.ensures in
-    blob-long start.args.input.now start.pre (omega arith) (omega arith) (simp length-drop (omega arith))
+    let z = c.u32_at-size.ensures in
+    blob-long c.args.input.now c.requires (omega arith) (omega arith) (simp length-drop (omega arith))
 
-put-sheet-requires : tie.Need-put-sheet-requires
+put-sheet-requires : tie.Need-put_sheet-requires
 put-sheet-requires c κs =
-    let start : tie.Start = search in
-    let sized : tie.After-u32-at = search in
-    let z = sized.u32-at.ensures in
-    slices_parted start.args.input.now start.pre (omega arith) (omega arith) sized.u32-at.result z (omega arith) refl refl
+    let z = c.u32_at-size.ensures in
+    slices_parted c.args.input.now c.requires (omega arith) (omega arith) c.u32_at-size.result z (omega arith) refl refl
 
 pub put_spec : {M : Type 1} → statement M
 put_spec =

@@ -10,47 +10,32 @@ use Rattle.csvout.proofs.Printing.{size_fits, all-printed}
 use Rattle.csvout.proofs.put_sheet.Statement.{statement}
 use Rattle.csvout.proofs.put_sheet.Tie as tie
 
-array-share-prefix-line : tie.Need-array-share-prefix-line
+array-share-prefix-line : tie.Need-slice_bounds-line-end
 array-share-prefix-line c =
-    let said : tie.After-answer-line = search in
-    let w = said.answer-line in
+    let w = c.answer_line-end in
     omega (arith, within w.ensures, w.kept.0, length-replicate {A = ℕ} 64 0)
 
-slice-aggregate-print : tie.Need-slice-aggregate-print
+slice-aggregate-print : tie.Need-slice_bounds-print-end
 slice-aggregate-print c =
-    let said : tie.After-answer-line = search in
-    sym (length-take-le _ _ (within said.answer-line.ensures))
+    sym (length-take-le _ _ (within c.answer_line-end.ensures))
 
-array-share-prefix-out : tie.Need-array-share-prefix-out
+array-share-prefix-out : tie.Need-slice_bounds-out-end
 array-share-prefix-out c =
-    let written : tie.After-write-csv = search in
-    let sized : tie.After-text-size = search in
-    let controls : tie.After-large-controls = search in
-    let properties : tie.After-large-properties = search in
-    let text : tie.After-large-text = search in
-    omega (arith, sized.text-size.ensures, size_fits _ _ _ _ _ controls.large-controls.ensures properties.large-properties.ensures text.large-text.ensures written.write_csv_lem.ensures)
+    omega (arith, c.text_size-size.ensures, size_fits _ _ _ _ _ c.large_controls-controls.ensures c.large_properties-properties.ensures c.large_text-out.ensures c.write_csv-a.ensures)
 
-slice-aggregate-print-2 : tie.Need-slice-aggregate-print-2
+slice-aggregate-print-2 : tie.Need-slice_bounds-print-end-2
 slice-aggregate-print-2 c = sym (length-take-le _ _ (array-share-prefix-out c.before))
 
 print-requires : tie.Need-print-requires
 print-requires c κs =
-    let written : tie.After-write-csv = search in
-    let said : tie.After-answer-line = search in
-    let sized : tie.After-text-size = search in
-    let controls : tie.After-large-controls = search in
-    let properties : tie.After-large-properties = search in
-    let text : tie.After-large-text = search in
-    let start : tie.Start = search in
-    let words : tie.After-struct-known = search in
-    let fit = words.struct_known.given in
-    let short = answer-short written.write_csv_lem.result (omega (arith, fit)) (omega (arith, fit)) (omega (arith, fit)) (omega (arith, fit)) in
-    rw sized.text-size.ensures
-    (all-printed _ _ _ _ _ controls.large-controls.ensures properties.large-properties.ensures text.large-text.ensures written.write_csv_lem.ensures
-    said.answer-line.ensures (omega (arith, short)) start.pre)
+    let fit = c.struct_known-1.given in
+    let short = answer-short c.write_csv-a.result (omega (arith, fit)) (omega (arith, fit)) (omega (arith, fit)) (omega (arith, fit)) in
+    rw c.text_size-size.ensures
+    (all-printed _ _ _ _ _ c.large_controls-controls.ensures c.large_properties-properties.ensures c.large_text-out.ensures c.write_csv-a.ensures
+    c.answer_line-end.ensures (omega (arith, short)) c.requires)
 
-pub put-sheet-spec : {M : Type 1} → statement M
-put-sheet-spec =
+pub put_sheet_spec : {M : Type 1} → statement M
+put_sheet_spec =
     tie.close
     (tie.spec
     (λ c κs. search rules) (λ c κs. search rules) (λ c κs. search rules) (λ c. search rules) (λ c. search rules) (λ c. search rules)

@@ -5,8 +5,7 @@ use Rattle.csvout.proofs.refuse_few.Tie as tie
 
 refuse-requires : tie.Need-refuse-requires
 refuse-requires c κs =
-    let start : tie.Start = search in
-    no_length start.args.input.now start.pre
+    no_length c.args.input.now c.requires
 
-pub refuse-few-spec : {M : Type 1} → statement M
-refuse-few-spec = tie.close (tie.spec refuse-requires (λ c. search rules))
+pub refuse_few_spec : {M : Type 1} → statement M
+refuse_few_spec = tie.close (tie.spec refuse-requires (λ c. search rules))

@@ -4,11 +4,11 @@ use Rattle.csvread.proofs.ByteLaws.{closing_quote, closing_ends}
 use Rattle.csvread.proofs.closing_step.Statement.{statement}
 use Rattle.csvread.proofs.closing_step.Tie as tie
 
-returns : tie.Need-returns
-returns c = sym (closing_quote _ _ c.if1.true)
+returns : tie.Need-returns-then-b-eq-QUOTE
+returns c = sym (closing_quote _ _ c.if-b-eq-QUOTE.true)
 
-returns-2 : tie.Need-returns-2
-returns-2 c = c.field-end.ensures ∙ sym (closing_ends _ _ c.before.if1.false)
+returns-2 : tie.Need-returns
+returns-2 c = c.field_end.ensures ∙ sym (closing_ends _ _ c.if-b-eq-QUOTE.false)
 
-pub closing-step-spec : {M : Type 1} → statement M
-closing-step-spec = tie.close (tie.spec returns (λ c κs. search rules) returns-2)
+pub closing_step_spec : {M : Type 1} → statement M
+closing_step_spec = tie.close (tie.spec returns (λ c κs. search rules) returns-2)

@@ -8,50 +8,38 @@ use Rattle.csvread.proofs.CountLaws.{Counting, count-begin, count-on, count-refu
 use Rattle.csvread.proofs.count.Statement.{statement}
 use Rattle.csvread.proofs.count.Tie as tie
 
-abbrev invariant-loop : tie.invariant-loop
+abbrev invariant-loop : tie.invariant-loop-i
 invariant-loop text p₀ i₀ p i = Counting text i p
 
-abbrev decreases-loop : tie.decreases-loop
+abbrev decreases-loop : tie.decreases-loop-i
 decreases-loop text p₀ i₀ p i = length text - i
 
-loop-holds : tie.Need-loop-init invariant-loop decreases-loop
-loop-holds c = rw c.begin.ensures (count-begin _)
+loop-holds : tie.Need-loop-i-init invariant-loop decreases-loop
+loop-holds c = rw c.begin-p.ensures (count-begin _)
 
-place-after-requires : tie.Need-place-after-requires invariant-loop decreases-loop
+place-after-requires : tie.Need-place_after-requires invariant-loop decreases-loop
 place-after-requires c κs =
-    let start : tie.Start invariant-loop decreases-loop = search in
-    let in-loop : tie.In-loop invariant-loop decreases-loop = search in
-    let at-loop : tie.At-loop invariant-loop decreases-loop = search in
-    let w = at-loop.loop.inv in
-    let l = in-loop.loop-test.taken in
-    (omega (arith, w.few_bytes, l, start.good), omega (arith, w.few-fields, l, start.good))
+    let w = c.loop-i.invariant in
+    let l = c.loop-i-test.true in
+    (omega (arith, w.few_bytes, l, c.well_formed), omega (arith, w.few-fields, l, c.well_formed))
 
-returns : tie.Need-returns invariant-loop decreases-loop
+returns : tie.Need-returns-in_default invariant-loop decreases-loop
 returns c =
-    let after-place-after : tie.After-place-after invariant-loop decreases-loop = search in
-    let after-step : tie.After-step invariant-loop decreases-loop = search in
-    let in-loop : tie.In-loop invariant-loop decreases-loop = search in
-    let at-loop : tie.At-loop invariant-loop decreases-loop = search in
-    let e = sym (ap (place_after _) after-step.step.ensures) ∙ sym after-place-after.place_after.ensures ∙ c.enum_told.given.1 in
-    ap counted_as (sym (count-refused at-loop.loop.inv in-loop.loop-test.taken e))
+    let e = sym (ap (place_after _) c.step-s.ensures) ∙ sym c.place_after.ensures ∙ c.in_default.is in
+    ap counted_as (sym (count-refused c.loop-i.invariant c.loop-i-test.true e))
 
-loop-again : tie.Need-loop-preserved invariant-loop decreases-loop
+loop-again : tie.Need-loop-i-preserved invariant-loop decreases-loop
 loop-again c =
-    let after-place-after : tie.After-place-after invariant-loop decreases-loop = search in
-    let after-step : tie.After-step invariant-loop decreases-loop = search in
-    let in-loop : tie.In-loop invariant-loop decreases-loop = search in
-    let at-loop : tie.At-loop invariant-loop decreases-loop = search in
-    let e = sym (ap (place_after _) after-step.step.ensures) ∙ sym after-place-after.place_after.ensures ∙ c.before.place.given.1 in
-    count-on at-loop.loop.inv _ in-loop.loop-test.taken e
+    let e = sym (ap (place_after _) c.step-s.ensures) ∙ sym c.place_after.ensures ∙ c.in-At.is in
+    count-on c.loop-i.invariant _ c.loop-i-test.true e
 
 end-requires : tie.Need-end-requires invariant-loop decreases-loop
 end-requires c κs =
-    let start : tie.Start invariant-loop decreases-loop = search in
-    let w = c.before.loop.invariant in
-    omega (arith, w.few-fields, w.inside, start.good)
+    let w = c.loop-i.invariant in
+    omega (arith, w.few-fields, w.inside, c.well_formed)
 
-returns-2 : tie.Need-returns-2 invariant-loop decreases-loop
-returns-2 c = c.end.ensures ∙ ap counted_as (sym (count-end c.before.before.loop.invariant c.before.loop-test.false))
+returns-2 : tie.Need-returns invariant-loop decreases-loop
+returns-2 c = c.end.ensures ∙ ap counted_as (sym (count-end c.loop-i.invariant c.loop-i-test.false))
 
 pub count_spec : {M : Type 1} → statement M
 count_spec =

@@ -4,20 +4,20 @@ use Rattle.csvread.proofs.field_end.Statement.{statement}
 use Rattle.csvread.proofs.field_end.Tie as tie
 use mathlib.Core.Path.{sym}
 
-returns : tie.Need-returns
-returns c = sym (comma-next _ _ c.before.if1.true c.if2.true)
+returns : tie.Need-returns-then-field-lt-LAST_FIELD
+returns c = sym (comma-next _ _ c.if-b-eq-COMMA.true c.if-field-lt-LAST_FIELD.true)
 
-returns-2 : tie.Need-returns-2
-returns-2 c = sym (comma-last _ _ c.before.if1.true c.if2.false)
+returns-2 : tie.Need-returns-then-b-eq-COMMA
+returns-2 c = sym (comma-last _ _ c.if-b-eq-COMMA.true c.if-field-lt-LAST_FIELD.false)
 
-returns-3 : tie.Need-returns-3
-returns-3 c = sym (return_last _ _ c.before.if3.true c.if4.true)
+returns-3 : tie.Need-returns-then-field-eq-LAST_FIELD
+returns-3 c = sym (return_last _ _ c.if-b-eq-CR.true c.if-field-eq-LAST_FIELD.true)
 
-returns-4 : tie.Need-returns-4
-returns-4 c = sym (return_early _ _ c.before.if3.true c.if4.false)
+returns-4 : tie.Need-returns-then-b-eq-CR
+returns-4 c = sym (return_early _ _ c.if-b-eq-CR.true c.if-field-eq-LAST_FIELD.false)
 
-returns-5 : tie.Need-returns-5
-returns-5 c = sym (no_end _ _ c.before.if1.false c.if3.false)
+returns-5 : tie.Need-returns
+returns-5 c = sym (no_end _ _ c.if-b-eq-COMMA.false c.if-b-eq-CR.false)
 
-pub field-end-spec : {M : Type 1} → statement M
-field-end-spec = tie.close (tie.spec (λ c. search rules) returns returns-2 returns-3 returns-4 returns-5)
+pub field_end_spec : {M : Type 1} → statement M
+field_end_spec = tie.close (tie.spec (λ c. search rules) returns returns-2 returns-3 returns-4 returns-5)

@@ -6,13 +6,13 @@ use Rattle.csvread.specs.Places.{last_of}
 use Rattle.csvread.proofs.last.Statement.{statement}
 use Rattle.csvread.proofs.last.Tie as tie
 
-returns : tie.Need-returns
+returns : tie.Need-returns-then-p-eq-LAST_FIELD
 unfolding last_of concat
-returns c = let e = c.before.if1.true in rw (e, add-zero)
+returns c = let e = c.if-p-eq-LAST_FIELD.true in rw (e, add-zero)
 
-returns-2 : tie.Need-returns-2
+returns-2 : tie.Need-returns
 unfolding last_of
-returns-2 c = rw (ne_eqb _ 4 c.if1.false)
+returns-2 c = rw (ne_eqb _ 4 c.if-p-eq-LAST_FIELD.false)
 
-pub last-spec : {M : Type 1} → statement M
-last-spec = tie.close (tie.spec (λ c. search rules) returns returns-2)
+pub last_spec : {M : Type 1} → statement M
+last_spec = tie.close (tie.spec (λ c. search rules) returns returns-2)

@@ -2,17 +2,17 @@ use borrow.Author.Rules.{rules}
 use Rattle.csvread.proofs.place_after.Statement.{statement}
 use Rattle.csvread.proofs.place_after.Tie as tie
 
-returns : tie.Need-returns
-returns c = rw c.before.s.given.1
+returns : tie.Need-returns-in-Pass
+returns c = rw c.in-Pass.is
 
-returns-2 : tie.Need-returns-2
-returns-2 c = rw c.before.s2.given.1
+returns-2 : tie.Need-returns-in-Put
+returns-2 c = rw c.in-Put.is
 
-returns-3 : tie.Need-returns-3
-returns-3 c = rw c.before.s3.given.1
+returns-3 : tie.Need-returns-in-Close
+returns-3 c = rw c.in-Close.is
 
-pub place-after-spec : {M : Type 1} → statement M
-place-after-spec =
+pub place_after_spec : {M : Type 1} → statement M
+place_after_spec =
     tie.close
     (tie.spec
     (λ c. search rules) (λ c. search rules) (λ c. search rules) (λ c. search rules) (λ c. search rules) (λ c. search rules)

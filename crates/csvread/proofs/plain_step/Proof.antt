@@ -4,11 +4,11 @@ use Rattle.csvread.proofs.ByteLaws.{plain_data, plain-ends}
 use Rattle.csvread.proofs.plain_step.Statement.{statement}
 use Rattle.csvread.proofs.plain_step.Tie as tie
 
-returns : tie.Need-returns
-returns c = sym (plain_data _ _ (sym c.before.is_data_lem.ensures ∙ c.if1.true))
+returns : tie.Need-returns-then-is_data
+returns c = sym (plain_data _ _ (sym c.is_data.ensures ∙ c.if-is_data.true))
 
-returns-2 : tie.Need-returns-2
-returns-2 c = c.field-end.ensures ∙ sym (plain-ends _ _ (sym c.before.before.is_data_lem.ensures ∙ c.before.if1.false))
+returns-2 : tie.Need-returns
+returns-2 c = c.field_end.ensures ∙ sym (plain-ends _ _ (sym c.is_data.ensures ∙ c.if-is_data.false))
 
-pub plain-step-spec : {M : Type 1} → statement M
-plain-step-spec = tie.close (tie.spec (λ c κs. search rules) returns (λ c κs. search rules) returns-2)
+pub plain_step_spec : {M : Type 1} → statement M
+plain_step_spec = tie.close (tie.spec (λ c κs. search rules) returns (λ c κs. search rules) returns-2)

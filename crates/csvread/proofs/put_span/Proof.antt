@@ -5,8 +5,8 @@ use Rattle.rows.proofs.PutLaws.{put_stores}
 use Rattle.csvread.proofs.put_span.Statement.{statement}
 use Rattle.csvread.proofs.put_span.Tie as tie
 
-pub put-span-spec : {M : Type 1} → statement M
-put-span-spec =
+pub put_span_spec : {M : Type 1} → statement M
+put_span_spec =
     tie.close
     (tie.spec
     (λ c. search rules)

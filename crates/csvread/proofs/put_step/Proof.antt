@@ -3,28 +3,23 @@ use borrow.Author.Rules.{rules}
 use Rattle.csvread.proofs.put_step.Statement.{statement}
 use Rattle.csvread.proofs.put_step.Tie as tie
 
-slice-write-out : tie.Need-slice-write-out
+slice-write-out : tie.Need-bounds-out-at
 slice-write-out c =
-    let start : tie.Start = search in
-    rw c.enum-told2.given.1 at start.pre
+    rw c.in-Put.is at c.requires
 
-put-span-requires : tie.Need-put-span-requires
+put-span-requires : tie.Need-put_span-requires
 put-span-requires c κs =
-    let start : tie.Start = search in
-    let told : tie.After-enum-told3 = search in
-    rw told.enum-told3.given.1 at start.pre
+    rw c.in-Close.is at c.requires
 
-returns-2 : tie.Need-returns-2
-returns-2 c = rw c.enum-told2.given.1 (record { in_rows = refl; in_out = refl; start_is = refl })
+returns-2 : tie.Need-returns-in-Put
+returns-2 c = rw c.in-Put.is (record { in_rows = refl; in_out = refl; start_is = refl })
 
-returns-3 : tie.Need-returns-3
+returns-3 : tie.Need-returns-in-Close
 returns-3 c =
-    let told : tie.After-enum-told3 = search in
-    let after-put-span : tie.After-put-span = search in
-    rw told.enum-told3.given.1 (record { in_rows = after-put-span.put-span.ensures; in_out = refl; start_is = refl })
+    rw c.in-Close.is (record { in_rows = c.put_span.ensures; in_out = refl; start_is = refl })
 
-pub put-step-spec : {M : Type 1} → statement M
-put-step-spec =
+pub put_step_spec : {M : Type 1} → statement M
+put_step_spec =
     tie.close
     (tie.spec
     (λ c. search rules) (λ c. search rules)

@@ -3,11 +3,11 @@ use Rattle.csvread.proofs.ByteLaws.{line-ends, no-line-end}
 use Rattle.csvread.proofs.returned_step.Statement.{statement}
 use Rattle.csvread.proofs.returned_step.Tie as tie
 
-returns : tie.Need-returns
-returns c = sym (line-ends _ _ c.if1.true)
+returns : tie.Need-returns-then-b-eq-LF
+returns c = sym (line-ends _ _ c.if-b-eq-LF.true)
 
-returns-2 : tie.Need-returns-2
-returns-2 c = sym (no-line-end _ _ c.if1.false)
+returns-2 : tie.Need-returns
+returns-2 c = sym (no-line-end _ _ c.if-b-eq-LF.false)
 
-pub returned-step-spec : {M : Type 1} → statement M
-returned-step-spec = tie.close (tie.spec returns returns-2)
+pub returned_step_spec : {M : Type 1} → statement M
+returned_step_spec = tie.close (tie.spec returns returns-2)

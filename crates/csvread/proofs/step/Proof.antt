@@ -2,20 +2,20 @@ use borrow.Author.Rules.{rules}
 use Rattle.csvread.proofs.step.Statement.{statement}
 use Rattle.csvread.proofs.step.Tie as tie
 
-returns : tie.Need-returns
-returns c = rw c.before.enum_told.given.1 c.start-step.ensures
+returns : tie.Need-returns-in-Start
+returns c = rw c.in-Start.is c.start_step.ensures
 
-returns-2 : tie.Need-returns-2
-returns-2 c = rw c.before.enum-told2.given.1 c.plain_step.ensures
+returns-2 : tie.Need-returns-in-Plain
+returns-2 c = rw c.in-Plain.is c.plain_step.ensures
 
-returns-3 : tie.Need-returns-3
-returns-3 c = rw c.before.enum-told3.given.1 c.quoted-step.ensures
+returns-3 : tie.Need-returns-in-Quoted
+returns-3 c = rw c.in-Quoted.is c.quoted_step.ensures
 
-returns-4 : tie.Need-returns-4
-returns-4 c = rw c.before.enum-told4.given.1 c.closing-step.ensures
+returns-4 : tie.Need-returns-in-Closing
+returns-4 c = rw c.in-Closing.is c.closing_step.ensures
 
-returns-5 : tie.Need-returns-5
-returns-5 c = rw c.before.enum-told5.given.1 c.returned-step.ensures
+returns-5 : tie.Need-returns-in-Returned
+returns-5 c = rw c.in-Returned.is c.returned_step.ensures
 
 pub step_spec : {M : Type 1} → statement M
 step_spec =

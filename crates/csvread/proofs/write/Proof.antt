@@ -8,90 +8,67 @@ use Rattle.csvread.proofs.WriteLaws.{Writing, write-begin, step_fits, write-on, 
 use Rattle.csvread.proofs.write.Statement.{statement}
 use Rattle.csvread.proofs.write.Tie as tie
 
-abbrev invariant-loop : tie.invariant-loop
+abbrev invariant-loop : tie.invariant-loop-i
 invariant-loop text rows₀ out₀ fields p₀ start₀ i₀ rows out p start i = Writing text rows₀ out₀ fields i p start rows out
 
-abbrev decreases-loop : tie.decreases-loop
+abbrev decreases-loop : tie.decreases-loop-i
 decreases-loop text rows₀ out₀ fields p₀ start₀ i₀ rows out p start i = length text - i
 
-loop-holds : tie.Need-loop-init invariant-loop decreases-loop
+loop-holds : tie.Need-loop-i-init invariant-loop decreases-loop
 loop-holds c =
-    let start : tie.Start invariant-loop decreases-loop = search in
-    rw c.begin.ensures (write-begin _ _ _ _ start.pre)
+    rw c.begin-p.ensures (write-begin _ _ _ _ c.requires)
 
-put-step-requires : tie.Need-put-step-requires invariant-loop decreases-loop
+put-step-requires : tie.Need-put_step-start-requires invariant-loop decreases-loop
 put-step-requires c κs =
-    let after-step : tie.After-step invariant-loop decreases-loop = search in
-    let in-loop : tie.In-loop invariant-loop decreases-loop = search in
-    let at-loop : tie.At-loop invariant-loop decreases-loop = search in
-    rw after-step.step.ensures (step_fits at-loop.loop.inv in-loop.loop-test.taken)
+    rw c.step-s.ensures (step_fits c.loop-i.invariant c.loop-i-test.true)
 
-place-after-requires : tie.Need-place-after-requires invariant-loop decreases-loop
+place-after-requires : tie.Need-place_after-requires invariant-loop decreases-loop
 place-after-requires c κs =
-    let start : tie.Start invariant-loop decreases-loop = search in
-    let in-loop : tie.In-loop invariant-loop decreases-loop = search in
-    let at-loop : tie.At-loop invariant-loop decreases-loop = search in
-    let w = at-loop.loop.inv.counting in
-    let l = in-loop.loop-test.taken in
-    (omega (arith, w.few_bytes, l, start.good), omega (arith, w.few-fields, l, start.good))
+    let w = c.loop-i.invariant.counting in
+    let l = c.loop-i-test.true in
+    (omega (arith, w.few_bytes, l, c.well_formed), omega (arith, w.few-fields, l, c.well_formed))
 
 -- no byte is refused
-never : tie.After-enum-told invariant-loop decreases-loop → ⊥
+never : tie.In_default invariant-loop decreases-loop → ⊥
 never c =
-    let after-place-after : tie.After-place-after invariant-loop decreases-loop = search in
-    let after-step : tie.After-step invariant-loop decreases-loop = search in
-    let in-loop : tie.In-loop invariant-loop decreases-loop = search in
-    let at-loop : tie.At-loop invariant-loop decreases-loop = search in
-    let e = sym (ap (place_after _) after-step.step.ensures) ∙ sym after-place-after.place_after.ensures ∙ c.enum_told.given.1 in
-    none-refused at-loop.loop.inv in-loop.loop-test.taken e
+    let after-place-after : tie.After-place_after invariant-loop decreases-loop = search in
+    let after-step : tie.After-step-s invariant-loop decreases-loop = search in
+    let in-loop : tie.In-loop-i invariant-loop decreases-loop = search in
+    let at-loop : tie.At-loop-i invariant-loop decreases-loop = search in
+    let e = sym (ap (place_after _) after-step.step-s.ensures) ∙ sym after-place-after.place_after.ensures ∙ c.in_default.is in
+    none-refused at-loop.loop-i.invariant in-loop.loop-i-test.true e
 
-loop-again : tie.Need-loop-preserved invariant-loop decreases-loop
+loop-again : tie.Need-loop-i-preserved invariant-loop decreases-loop
 loop-again c =
-    let after-place-after : tie.After-place-after invariant-loop decreases-loop = search in
-    let after-put-step : tie.After-put-step invariant-loop decreases-loop = search in
-    let after-step : tie.After-step invariant-loop decreases-loop = search in
-    let in-loop : tie.In-loop invariant-loop decreases-loop = search in
-    let at-loop : tie.At-loop invariant-loop decreases-loop = search in
-    let e = sym (ap (place_after _) after-step.step.ensures) ∙ sym after-place-after.place_after.ensures ∙ c.before.place.given.1 in
-    write-on at-loop.loop.inv _ in-loop.loop-test.taken (rw after-step.step.ensures at after-put-step.put_step.ensures) e
+    let e = sym (ap (place_after _) c.step-s.ensures) ∙ sym c.place_after.ensures ∙ c.in-At.is in
+    write-on c.loop-i.invariant _ c.loop-i-test.true (rw c.step-s.ensures at c.put_step-start.ensures) e
 
-put-span-requires : tie.Need-put-span-requires invariant-loop decreases-loop
+put-span-requires : tie.Need-put_span-requires invariant-loop decreases-loop
 put-span-requires c κs =
-    let then1 : tie.Then1 invariant-loop decreases-loop = search in
-    let after-loop : tie.After-loop invariant-loop decreases-loop = search in
-    let at-loop : tie.At-loop invariant-loop decreases-loop = search in
-    end_fits at-loop.loop.inv after-loop.loop-test.left then1.if1.taken
+    end_fits c.loop-i.invariant c.loop-i-test.false c.if-p-fields.true
 
-same-length-3 : tie.Need-same-length-3 invariant-loop decreases-loop
+same-length-3 : tie.Need-shape_of-rows-then-p-fields invariant-loop decreases-loop
 same-length-3 c =
-    let at-loop : tie.At-loop invariant-loop decreases-loop = search in
-    let after-put-span : tie.After-put-span invariant-loop decreases-loop = search in
-    after-put-span.put-span.kept.0 ∙ at-loop.loop.inv.same_rows
+    c.put_span.auto.rows ∙ c.loop-i.invariant.same_rows
 
-returns-2 : tie.Need-returns-2 invariant-loop decreases-loop
+returns-2 : tie.Need-returns-then-p-fields invariant-loop decreases-loop
 returns-2 c =
-    let after-put-span : tie.After-put-span invariant-loop decreases-loop = search in
-    let then1 : tie.Then1 invariant-loop decreases-loop = search in
-    let after-loop : tie.After-loop invariant-loop decreases-loop = search in
-    let at-loop : tie.At-loop invariant-loop decreases-loop = search in
-    let l = after-loop.loop-test.left in
-    (after-put-span.put-span.ensures ∙ end_open at-loop.loop.inv l then1.if1.taken, end-out at-loop.loop.inv l)
+    let l = c.loop-i-test.false in
+    (c.put_span.ensures ∙ end_open c.loop-i.invariant l c.if-p-fields.true, end-out c.loop-i.invariant l)
 
-returns-3 : tie.Need-returns-3 invariant-loop decreases-loop
+returns-3 : tie.Need-returns-else-p-fields invariant-loop decreases-loop
 returns-3 c =
-    let after-loop : tie.After-loop invariant-loop decreases-loop = search in
-    let at-loop : tie.At-loop invariant-loop decreases-loop = search in
-    let l = after-loop.loop-test.left in
-    (end_closed at-loop.loop.inv l c.if1.false, end-out at-loop.loop.inv l)
+    let l = c.loop-i-test.false in
+    (end_closed c.loop-i.invariant l c.if-p-fields.false, end-out c.loop-i.invariant l)
 
-same-length-4 : tie.Need-same-length-4 invariant-loop decreases-loop
-same-length-4 c = let at-loop : tie.At-loop invariant-loop decreases-loop = search in at-loop.loop.inv.same_out
+same-length-4 : tie.Need-shape_of-out-then-p-fields invariant-loop decreases-loop
+same-length-4 c = c.loop-i.invariant.same_out
 
-same-length-5 : tie.Need-same-length-5 invariant-loop decreases-loop
-same-length-5 c = let at-loop : tie.At-loop invariant-loop decreases-loop = search in at-loop.loop.inv.same_rows
+same-length-5 : tie.Need-shape_of-rows-else-p-fields invariant-loop decreases-loop
+same-length-5 c = c.loop-i.invariant.same_rows
 
-same-length-6 : tie.Need-same-length-6 invariant-loop decreases-loop
-same-length-6 c = let at-loop : tie.At-loop invariant-loop decreases-loop = search in at-loop.loop.inv.same_out
+same-length-6 : tie.Need-shape_of-out-else-p-fields invariant-loop decreases-loop
+same-length-6 c = c.loop-i.invariant.same_out
 
 pub write_spec : {M : Type 1} → statement M
 write_spec =

@@ -8,17 +8,16 @@ use Rattle.csvrecord.proofs.RecordLaws.{owner-is}
 use Rattle.csvrecord.proofs.owner_size.Statement.{statement}
 use Rattle.csvrecord.proofs.owner_size.Tie as tie
 
-returns : tie.Need-returns
+returns : tie.Need-returns-in-Object
 unfolding owner_text
-returns c = sym (ap (λ (o : Owner). length (owner_text o)) c.enum_told.given.1)
+returns c = sym (ap (λ (o : Owner). length (owner_text o)) c.in-Object.is)
 
-returns-2 : tie.Need-returns-2
+returns-2 : tie.Need-returns-in-Control
 returns-2 c =
-    let is : tie.After-owner = search in
-    omega (arith, owner-is is.owner.given.1, c.decimal-size.ensures)
+    omega (arith, owner-is c.in-Control.is, c.decimal_size.ensures)
 
-pub owner-size-spec : {M : Type 1} → statement M
-owner-size-spec =
+pub owner_size_spec : {M : Type 1} → statement M
+owner_size_spec =
     tie.close
     (tie.spec
     (λ c. search rules)

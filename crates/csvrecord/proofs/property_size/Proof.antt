@@ -7,29 +7,24 @@ use Rattle.csvrecord.proofs.RecordLaws.{id-alone, no_name, a_name, four_digits_l
 use Rattle.csvrecord.proofs.property_size.Statement.{statement}
 use Rattle.csvrecord.proofs.property_size.Tie as tie
 
-returns : tie.Need-returns
+returns : tie.Need-returns-then-id-gt-LAST_NAMED
 returns c =
-    let start : tie.Start = search in
-    let a = start.args in
+    let a = c.args in
     sym (ap length (id-alone a.mark a.id (omega arith)) ∙ four_digits_lem a.id)
 
-returns-2 : tie.Need-returns-2
+returns-2 : tie.Need-returns-then-size-eq0
 returns-2 c =
-    let start : tie.Start = search in
-    let a = start.args in
-    let named : tie.After-value-name-in = search in
-    sym (ap length (no_name (name_in_lem (names_for a.mark) a.id) a.id (sym (ap length named.value-name-in.ensures) ∙ omega arith)) ∙ four_digits_lem a.id)
+    let a = c.args in
+    sym (ap length (no_name (name_in_lem (names_for a.mark) a.id) a.id (sym (ap length c.value_name_in-size.ensures) ∙ omega arith)) ∙ four_digits_lem a.id)
 
-returns-3 : tie.Need-returns-3
+returns-3 : tie.Need-returns-else-size-eq0
 returns-3 c =
-    let start : tie.Start = search in
-    let a = start.args in
-    let named : tie.After-value-name-in = search in
-    let e = ap length named.value-name-in.ensures in
+    let a = c.args in
+    let e = ap length c.value_name_in-size.ensures in
     e ∙ sym (ap length (a_name (name_in_lem (names_for a.mark) a.id) a.id (λ z. omega (arith, e))))
 
-pub property-size-spec : {M : Type 1} → statement M
-property-size-spec =
+pub property_size_spec : {M : Type 1} → statement M
+property_size_spec =
     tie.close
     (tie.spec
     returns

@@ -7,14 +7,12 @@ use Rattle.csvrecord.proofs.put_header.Tie as tie
 
 returns : tie.Need-returns
 returns c =
-    let put : tie.After-put-text = search in
-    wrote_as put.put-text.ensures (sym header-text)
+    wrote_as c.put_text.ensures (sym header-text)
 
-pub put-header-spec : {M : Type 1} → statement M
-put-header-spec =
+pub put_header_spec : {M : Type 1} → statement M
+put_header_spec =
     tie.close
     (tie.spec
-    (λ c. search rules)
     (λ c κs. search rules)
     (λ c. search rules)
     returns)

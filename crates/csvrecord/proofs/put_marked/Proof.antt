@@ -5,19 +5,16 @@ use Rattle.csvrecord.proofs.RecordLaws.{marked, marked-last, four-two, four-four
 use Rattle.csvrecord.proofs.put_marked.Statement.{statement}
 use Rattle.csvrecord.proofs.put_marked.Tie as tie
 
-returns-2 : tie.Need-returns-2
+returns-2 : tie.Need-returns-in-1
 returns-2 c =
-    let first : tie.After-put-six = search in
-    let second : tie.After-put-six2 = search in
-    marked 1 (search) (first.put_six.ensures ⨟ second.put-six2.ensures)
+    marked 1 (search) (c.put_six-p.ensures ⨟ c.put_six.ensures)
 
-returns-9 : tie.Need-returns-9
+returns-9 : tie.Need-returns-in_default
 returns-9 c =
-    let others : tie.At-match-rest = search in
-    marked-last (past 8 _ others.match.rest) (search four-two-one)
+    marked-last (past 8 _ c.in_default.in_default-own.rest) (search four-two-one)
 
-pub put-marked-spec : {M : Type 1} → statement M
-put-marked-spec =
+pub put_marked_spec : {M : Type 1} → statement M
+put_marked_spec =
     tie.close
     (tie.spec
     (λ c κs. search rules) (λ c κs. search rules) (λ c κs. search rules) (λ c κs. search rules) (λ c κs. search rules)

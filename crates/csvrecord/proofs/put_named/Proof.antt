@@ -7,12 +7,10 @@ use Rattle.csvrecord.proofs.put_named.Tie as tie
 returns : tie.Need-returns
 unfolding named_text
 returns c =
-    let told : tie.After-put-marked = search in
-    let named : tie.After-put-property = search in
-    named.put-property.ensures ⨟ told.put-marked.ensures
+    c.put_property-q.ensures ⨟ c.put_marked.ensures
 
-pub put-named-spec : {M : Type 1} → statement M
-put-named-spec =
+pub put_named_spec : {M : Type 1} → statement M
+put_named_spec =
     tie.close
     (tie.spec
     (λ c κs. search rules)

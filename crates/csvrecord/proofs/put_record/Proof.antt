@@ -5,12 +5,10 @@ use Rattle.csvrecord.proofs.put_record.Tie as tie
 
 returns : tie.Need-returns
 returns c =
-    let told : tie.After-put-text = search in
-    let put : tie.After-put-tail = search in
-    told.put-text.ensures ⨟ put.put-tail.ensures
+    c.put_text-q.ensures ⨟ c.put_tail.ensures
 
-pub put-record-spec : {M : Type 1} → statement M
-put-record-spec =
+pub put_record_spec : {M : Type 1} → statement M
+put_record_spec =
     tie.close
     (tie.spec
     (λ c κs. search rules)

@@ -7,13 +7,10 @@ use Rattle.csvrecord.proofs.put_tail.Tie as tie
 returns : tie.Need-returns
 unfolding tail_text
 returns c =
-    let ended : tie.After-put-two = search in
-    let shown : tie.After-put-value-field = search in
-    let named : tie.After-put-named = search in
-    named.put-named.ensures ⨟ shown.put-value-field.ensures ⨟ ended.put_two.ensures
+    c.put_named-q.ensures ⨟ c.put_value_field-q.ensures ⨟ c.put_two.ensures
 
-pub put-tail-spec : {M : Type 1} → statement M
-put-tail-spec =
+pub put_tail_spec : {M : Type 1} → statement M
+put_tail_spec =
     tie.close
     (tie.spec
     (λ c κs. search rules)

@@ -7,18 +7,11 @@ use Rattle.csvrecord.proofs.record_left.Tie as tie
 
 returns : tie.Need-returns
 returns c =
-    let start : tie.Start = search in
-    let owner : tie.After-less = search in
-    let named : tie.After-property-size = search in
-    let off : tie.After-less2 = search in
-    let worded : tie.After-word-size = search in
-    let on : tie.After-less3 = search in
-    let ends : tie.After-less4 = search in
-    let a = start.args in
-    omega (arith, c.value-left.ensures, ends.less4.ensures, on.less3.ensures, worded.word_size.ensures, off.less2.ensures, named.property-size.ensures, owner.less.ensures, tail_size a.stream.now (property_row a.p))
+    let a = c.args in
+    omega (arith, c.value_left.ensures, c.less-left-4.ensures, c.less-left-3.ensures, c.word_size.ensures, c.less-left-2.ensures, c.property_size.ensures, c.less-left.ensures, tail_size a.stream.now (property_row a.p))
 
-pub record-left-spec : {M : Type 1} → statement M
-record-left-spec =
+pub record_left_spec : {M : Type 1} → statement M
+record_left_spec =
     tie.close
     (tie.spec
     (λ c κs. search rules)

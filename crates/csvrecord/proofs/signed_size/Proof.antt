@@ -6,20 +6,16 @@ use Rattle.values.proofs.Marks.{low_half, high_half}
 use Rattle.csvrecord.proofs.signed_size.Statement.{statement}
 use Rattle.csvrecord.proofs.signed_size.Tie as tie
 
-returns : tie.Need-returns
+returns : tie.Need-returns-then-low-lt2147483648
 returns c =
-    let start : tie.Start = search in
-    let said : tie.After-decimal-size = search in
-    omega (arith, ap length (low_half start.args.low (omega arith)), said.decimal-size.ensures)
+    omega (arith, ap length (low_half c.args.low (omega arith)), c.decimal_size.ensures)
 
-returns-2 : tie.Need-returns-2
+returns-2 : tie.Need-returns-else-low-lt2147483648
 returns-2 c =
-    let start : tie.Start = search in
-    let said : tie.After-decimal-size2 = search in
-    omega (arith, ap length (high_half start.args.low (omega arith)), said.decimal-size2.ensures)
+    omega (arith, ap length (high_half c.args.low (omega arith)), c.decimal_size-else-low-lt2147483648.ensures)
 
-pub signed-size-spec : {M : Type 1} → statement M
-signed-size-spec =
+pub signed_size_spec : {M : Type 1} → statement M
+signed_size_spec =
     tie.close
     (tie.spec
     (λ c κs. search rules)

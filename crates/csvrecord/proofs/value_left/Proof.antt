@@ -11,29 +11,23 @@ use Rattle.csvrecord.proofs.RecordLaws.{field-text, field_column, field-hexes}
 use Rattle.csvrecord.proofs.value_left.Statement.{statement}
 use Rattle.csvrecord.proofs.value_left.Tie as tie
 
-returns : tie.Need-returns
+returns : tie.Need-returns-then-v-eq-MARK_TEXT
 returns c =
-    let start : tie.Start = search in
-    let read : tie.After-value-bytes = search in
-    let a = start.args in
-    omega (arith, c.field-left.ensures, ap (λ (l : List ℕ). length (field_text (utf8 l))) read.value-bytes.ensures, ap length (field-text a.stream.now a.p (omega arith)))
+    let a = c.args in
+    omega (arith, c.field_left.ensures, ap (λ (l : List ℕ). length (field_text (utf8 l))) c.value_bytes.ensures, ap length (field-text a.stream.now a.p (omega arith)))
 
-returns-2 : tie.Need-returns-2
+returns-2 : tie.Need-returns-then-v-lt-MARK_TEXT
 returns-2 c =
-    let start : tie.Start = search in
-    let sized : tie.After-column-size = search in
-    let a = start.args in
-    omega (arith, c.less.ensures, sized.column_size.ensures a.p.value.high a.p.size (part a.stream.now a.p.start a.p.size), ap length (field_column a.stream.now a.p (omega arith)))
+    let a = c.args in
+    omega (arith, c.less.ensures, c.column_size.ensures a.p.value.high a.p.size (part a.stream.now a.p.start a.p.size), ap length (field_column a.stream.now a.p (omega arith)))
 
-returns-3 : tie.Need-returns-3
+returns-3 : tie.Need-returns
 returns-3 c =
-    let start : tie.Start = search in
-    let read : tie.After-value-bytes2 = search in
-    let a = start.args in
-    omega (arith, c.hexes-left.ensures, ap (λ (l : List ℕ). length (hex_text l)) read.value-bytes2.ensures, ap length (field-hexes a.stream.now a.p (omega arith)))
+    let a = c.args in
+    omega (arith, c.hexes_left.ensures, ap (λ (l : List ℕ). length (hex_text l)) c.value_bytes-2.ensures, ap length (field-hexes a.stream.now a.p (omega arith)))
 
-pub value-left-spec : {M : Type 1} → statement M
-value-left-spec =
+pub value_left_spec : {M : Type 1} → statement M
+value_left_spec =
     tie.close
     (tie.spec
     (λ c κs. search rules)

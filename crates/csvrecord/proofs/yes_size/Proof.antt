@@ -5,18 +5,16 @@ use Rattle.values.proofs.Marks.{is-no, is-yes}
 use Rattle.csvrecord.proofs.yes_size.Statement.{statement}
 use Rattle.csvrecord.proofs.yes_size.Tie as tie
 
-returns : tie.Need-returns
+returns : tie.Need-returns-then-low-eq0
 returns c =
-    let start : tie.Start = search in
-    sym (ap length (is-no start.args.low (omega arith)))
+    sym (ap length (is-no c.args.low (omega arith)))
 
-returns-2 : tie.Need-returns-2
+returns-2 : tie.Need-returns-else-low-eq0
 returns-2 c =
-    let start : tie.Start = search in
-    sym (ap length (is-yes start.args.low (λ e. omega arith)))
+    sym (ap length (is-yes c.args.low (λ e. omega arith)))
 
-pub yes-size-spec : {M : Type 1} → statement M
-yes-size-spec =
+pub yes_size_spec : {M : Type 1} → statement M
+yes_size_spec =
     tie.close
     (tie.spec
     returns

@@ -7,51 +7,37 @@ use Rattle.csvrows.proofs.Steps.{control-short, part_as}
 use Rattle.csvrows.proofs.put_controls.Statement.{statement}
 use Rattle.csvrows.proofs.put_controls.Tie as tie
 
-abbrev invariant-loop : tie.invariant-loop
+abbrev invariant-loop : tie.invariant-loop-left
 invariant-loop out₀ at index letters stream controls count rows first p₀ n₀ left₀ next₀ hints₀ out p n left next hints = ControlsLeft (control_text stream rows) controls count first out₀ at out p n left next
 
-abbrev decreases-loop : tie.decreases-loop
+abbrev decreases-loop : tie.decreases-loop-left
 decreases-loop out₀ at index letters stream controls count rows first p₀ n₀ left₀ next₀ hints₀ out p n left next hints = left
 
-loop-holds : tie.Need-loop-init invariant-loop decreases-loop
+loop-holds : tie.Need-loop-left-init invariant-loop decreases-loop
 loop-holds c =
-    let start : tie.Start invariant-loop decreases-loop = search in
-    controls-start start.pre.some_left start.pre.few
+    controls-start c.requires.some_left c.requires.few
 
-put-owned-requires : tie.Need-put-owned-requires invariant-loop decreases-loop
+put-owned-requires : tie.Need-put_owned-p-requires invariant-loop decreases-loop
 put-owned-requires c κs =
-    let start : tie.Start invariant-loop decreases-loop = search in
-    let turn : tie.At-loop invariant-loop decreases-loop = search in
-    let test : tie.In-loop invariant-loop decreases-loop = search in
-    let read : tie.After-get-control invariant-loop decreases-loop = search in
     record {
-      ready = record { lent = start.pre.lent; few = controls-few turn.loop.inv test.loop-test.taken read.get-control.ensures };
-      short = control-short _ _ (omega (arith, turn.loop.inv.some_left));
+      ready = record { lent = c.requires.lent; few = controls-few c.loop-left.invariant c.loop-left-test.true c.get_control-control.ensures };
+      short = control-short _ _ (omega (arith, c.loop-left.invariant.some_left));
     }
 
-add-next : tie.Need-overflow-add-next invariant-loop decreases-loop
+add-next : tie.Need-overflow_add-next invariant-loop decreases-loop
 add-next c =
-    let turn : tie.At-loop invariant-loop decreases-loop = search in
-    let test : tie.In-loop invariant-loop decreases-loop = search in
-    let read : tie.After-get-control invariant-loop decreases-loop = search in
-    omega (arith, controls-few turn.loop.inv test.loop-test.taken read.get-control.ensures)
+    omega (arith, controls-few c.loop-left.invariant c.loop-left-test.true c.get_control-control.ensures)
 
-loop-again : tie.Need-loop-preserved invariant-loop decreases-loop
+loop-again : tie.Need-loop-left-preserved invariant-loop decreases-loop
 loop-again c =
-    let start : tie.Start invariant-loop decreases-loop = search in
-    let turn : tie.At-loop invariant-loop decreases-loop = search in
-    let test : tie.In-loop invariant-loop decreases-loop = search in
-    let read : tie.After-get-control invariant-loop decreases-loop = search in
-    let put : tie.After-put-owned invariant-loop decreases-loop = search in
-    controls-more turn.loop.inv test.loop-test.taken read.get-control.ensures put.put-owned.ensures (part_as read.get-control.ensures start.args.stream.now start.args.rows.now _ _)
+    controls-more c.loop-left.invariant c.loop-left-test.true c.get_control-control.ensures c.put_owned-p.ensures (part_as c.get_control-control.ensures c.args.stream.now c.args.rows.now _ _)
 
 returns : tie.Need-returns invariant-loop decreases-loop
 returns c =
-    let turn : tie.At-loop invariant-loop decreases-loop = search in
-    controls-done turn.loop.inv (omega arith)
+    controls-done c.loop-left.invariant (omega arith)
 
-pub put-controls-spec : {M : Type 1} → statement M
-put-controls-spec =
+pub put_controls_spec : {M : Type 1} → statement M
+put_controls_spec =
     tie.close
     (tie.spec
     invariant-loop

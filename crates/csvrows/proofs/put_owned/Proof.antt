@@ -11,30 +11,23 @@ use Rattle.csvrows.proofs.Steps.{fields-inside, fields-are, tails_are}
 use Rattle.csvrows.proofs.put_owned.Statement.{statement}
 use Rattle.csvrows.proofs.put_owned.Tie as tie
 
-array-share-prefix-fields : tie.Need-array-share-prefix-fields
+array-share-prefix-fields : tie.Need-slice_bounds-fields-end
 array-share-prefix-fields c =
-    let start : tie.Start = search in
-    let told : tie.After-put-owner = search in
-    omega (arith, fields-inside (length-replicate {A = ℕ} 16 0) start.pre.short told.put-owner.ensures)
+    omega (arith, fields-inside (length-replicate {A = ℕ} 16 0) c.requires.short c.put_owner-size.ensures)
 
-slice-aggregate-put-rows : tie.Need-slice-aggregate-put-rows
+slice-aggregate-put-rows : tie.Need-slice_bounds-put_rows-end
 slice-aggregate-put-rows c =
-    let start : tie.Start = search in
-    let told : tie.After-put-owner = search in
-    sym (length-take-le _ _ (omega (arith, fields-inside (length-replicate {A = ℕ} 16 0) start.pre.short told.put-owner.ensures, told.put-owner.kept.0, length-replicate {A = ℕ} 16 0)))
+    sym (length-take-le _ _ (omega (arith, fields-inside (length-replicate {A = ℕ} 16 0) c.requires.short c.put_owner-size.ensures, c.put_owner-size.auto.0, length-replicate {A = ℕ} 16 0)))
 
 returns : tie.Need-returns
 returns c =
-    let start : tie.Start = search in
-    let told : tie.After-put-owner = search in
-    let put : tie.After-put-rows = search in
-    let a = start.args in
-    wrote_as put.put-rows.ensures
-    (ap (λ (l : List ℕ). tails_text a.stream.now l a.rows.now a.run.first a.run.count) (fields-are (length-replicate {A = ℕ} 16 0) start.pre.short told.put-owner.ensures)
+    let a = c.args in
+    wrote_as c.put_rows.ensures
+    (ap (λ (l : List ℕ). tails_text a.stream.now l a.rows.now a.run.first a.run.count) (fields-are (length-replicate {A = ℕ} 16 0) c.requires.short c.put_owner-size.ensures)
     ∙ tails_are a.stream.now a.owner a.rows.now a.run.count a.run.first)
 
-pub put-owned-spec : {M : Type 1} → statement M
-put-owned-spec =
+pub put_owned_spec : {M : Type 1} → statement M
+put_owned_spec =
     tie.close
     (tie.spec
     (λ c. search rules)

@@ -8,33 +8,26 @@ use Rattle.csvrows.proofs.Steps.{tail_by-words}
 use Rattle.csvrows.proofs.put_rows.Statement.{statement}
 use Rattle.csvrows.proofs.put_rows.Tie as tie
 
-abbrev invariant-loop : tie.invariant-loop
+abbrev invariant-loop : tie.invariant-loop-left
 invariant-loop out₀ at index letters hints₀ stream owner rows p₀ i₀ left₀ out hints p i left = RowsLeft (λ row. owner ++ tail_text stream row) rows i₀ left₀ out₀ at out p i left
 
-abbrev decreases-loop : tie.decreases-loop
+abbrev decreases-loop : tie.decreases-loop-left
 decreases-loop out₀ at index letters hints₀ stream owner rows p₀ i₀ left₀ out hints p i left = left
 
-loop-holds : tie.Need-loop-init invariant-loop decreases-loop
+loop-holds : tie.Need-loop-left-init invariant-loop decreases-loop
 loop-holds c =
-    let start : tie.Start invariant-loop decreases-loop = search in
-    rows_start start.pre.few
+    rows_start c.requires.few
 
-loop-again : tie.Need-loop-preserved invariant-loop decreases-loop
+loop-again : tie.Need-loop-left-preserved invariant-loop decreases-loop
 loop-again c =
-    let start : tie.Start invariant-loop decreases-loop = search in
-    let turn : tie.At-loop invariant-loop decreases-loop = search in
-    let test : tie.In-loop invariant-loop decreases-loop = search in
-    let read : tie.After-row-of invariant-loop decreases-loop = search in
-    let put : tie.After-put-record invariant-loop decreases-loop = search in
-    rows_more turn.loop.inv (tail_by-words start.args.stream.now start.args.owner.now) test.loop-test.taken read.row_of.ensures put.put_record.ensures
+    rows_more c.loop-left.invariant (tail_by-words c.args.stream.now c.args.owner.now) c.loop-left-test.true c.row_of-shown.ensures c.put_record-p.ensures
 
 returns : tie.Need-returns invariant-loop decreases-loop
 returns c =
-    let turn : tie.At-loop invariant-loop decreases-loop = search in
-    rows-done turn.loop.inv (omega arith)
+    rows-done c.loop-left.invariant (omega arith)
 
-pub put-rows-spec : {M : Type 1} → statement M
-put-rows-spec =
+pub put_rows_spec : {M : Type 1} → statement M
+put_rows_spec =
     tie.close
     (tie.spec
     invariant-loop

@@ -4,13 +4,12 @@ use Rattle.csvrows.proofs.Steps.{row-there}
 use Rattle.csvrows.proofs.row_of.Statement.{statement}
 use Rattle.csvrows.proofs.row_of.Tie as tie
 
-returns : tie.Need-returns
+returns : tie.Need-returns-then-at-rows
 returns c =
-    let start : tie.Start = search in
-    row-there start.args.rows.now start.args.i _ refl refl refl refl refl refl refl
+    row-there c.args.rows.now c.args.i _ refl refl refl refl refl refl refl
 
-pub row-of-spec : {M : Type 1} → statement M
-row-of-spec =
+pub row_of_spec : {M : Type 1} → statement M
+row_of_spec =
     tie.close
     (tie.spec
     (λ c. search rules)

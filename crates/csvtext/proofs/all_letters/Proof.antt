@@ -15,74 +15,59 @@ record Left (bytes : List ℕ) (i : ℕ) : Type 0 where
   inside : i ≤ length bytes
   rest : Plainly bytes i → Plainly bytes 0
 
-abbrev invariant-loop : tie.invariant-loop
+abbrev invariant-loop : tie.invariant-loop-i
 invariant-loop bytes i₀ i = Left bytes i
 
-abbrev decreases-loop : tie.decreases-loop
+abbrev decreases-loop : tie.decreases-loop-i
 decreases-loop bytes i₀ i = length bytes - i
 
-past-letters-requires : tie.Need-past-letters-requires invariant-loop decreases-loop
+past-letters-requires : tie.Need-past_letters-i-requires invariant-loop decreases-loop
 past-letters-requires c κs = omega arith
 
-loop-holds : tie.Need-loop-init invariant-loop decreases-loop
+loop-holds : tie.Need-loop-i-init invariant-loop decreases-loop
 loop-holds c =
-    let start : tie.Start invariant-loop decreases-loop = search in
-    let first : tie.After-past-letters invariant-loop decreases-loop = search in
-    let p = first.past-letters.ensures in
-    record { inside = p.inside; rest = past_plainly start.args.bytes.now p }
+    let p = c.past_letters-i.ensures in
+    record { inside = p.inside; rest = past_plainly c.args.bytes.now p }
 
-sub-loop : tie.Need-overflow-sub-loop invariant-loop decreases-loop
+sub-loop : tie.Need-overflow_sub-bytes invariant-loop decreases-loop
 sub-loop c =
-    let turn : tie.At-loop invariant-loop decreases-loop = search in
-    omega (arith, turn.loop.inv.inside)
+    omega (arith, c.loop-i.invariant.inside)
 
-u16-inside-requires : tie.Need-u16-inside-requires invariant-loop decreases-loop
+u16-inside-requires : tie.Need-u16_inside-requires invariant-loop decreases-loop
 u16-inside-requires c κs =
-    let turn : tie.At-loop invariant-loop decreases-loop = search in
-    omega (arith, turn.loop.inv.inside)
+    omega (arith, c.loop-i.invariant.inside)
 
-returns : tie.Need-returns invariant-loop decreases-loop
+returns : tie.Need-returns-then-u16_inside-ne-SPACE invariant-loop decreases-loop
 returns c = λ e. absurd (let z : ◌≡◌ {A = ℕ} 0 1 = cc in omega arith)
 
-add-past-letters : tie.Need-overflow-add-past-letters invariant-loop decreases-loop
+add-past-letters : tie.Need-overflow_add-i invariant-loop decreases-loop
 add-past-letters c =
-    let turn : tie.At-loop invariant-loop decreases-loop = search in
-    omega (arith, turn.loop.inv.inside)
+    omega (arith, c.loop-i.invariant.inside)
 
-past-letters-requires-2 : tie.Need-past-letters-requires-2 invariant-loop decreases-loop
+past-letters-requires-2 : tie.Need-past_letters-i-requires-in-loop-i invariant-loop decreases-loop
 past-letters-requires-2 c κs =
-    let turn : tie.At-loop invariant-loop decreases-loop = search in
-    omega (arith, turn.loop.inv.inside)
+    omega (arith, c.loop-i.invariant.inside)
 
-loop-less : tie.Need-loop-smaller invariant-loop decreases-loop
+loop-less : tie.Need-loop-i-smaller invariant-loop decreases-loop
 loop-less c =
-    let turn : tie.At-loop invariant-loop decreases-loop = search in
-    let next : tie.After-past-letters2 invariant-loop decreases-loop = search in
-    let p = next.past-letters2.ensures in
-    omega (arith, turn.loop.inv.inside, p.there, p.inside)
+    let p = c.past_letters-i-in-loop-i.ensures in
+    omega (arith, c.loop-i.invariant.inside, p.there, p.inside)
 
-loop-again : tie.Need-loop-preserved invariant-loop decreases-loop
+loop-again : tie.Need-loop-i-preserved invariant-loop decreases-loop
 loop-again c =
-    let turn : tie.At-loop invariant-loop decreases-loop = search in
-    let start : tie.Start invariant-loop decreases-loop = search in
-    let unit : tie.After-u16-inside invariant-loop decreases-loop = search in
-    let told : tie.Else1 invariant-loop decreases-loop = search in
-    let next : tie.After-past-letters2 invariant-loop decreases-loop = search in
-    let p = next.past-letters2.ensures in
-    let b = start.args.bytes.now in
-    let l = turn.loop in
-    let e : u16 b l.i ≡ 0x20 = omega (arith, unit.u16-inside.ensures, told.if1.left) in
-    record { inside = p.inside; rest = λ k. l.inv.rest (plainly_space b l.i (omega (arith, l.inv.inside)) e (past_plainly b p k)) }
+    let p = c.past_letters-i-in-loop-i.ensures in
+    let b = c.args.bytes.now in
+    let l = c.loop-i in
+    let e : u16 b l.i ≡ 0x20 = omega (arith, c.u16_inside.ensures, c.if-u16_inside-ne-SPACE.false) in
+    record { inside = p.inside; rest = λ k. l.invariant.rest (plainly_space b l.i (omega (arith, l.invariant.inside)) e (past_plainly b p k)) }
 
-returns-2 : tie.Need-returns-2 invariant-loop decreases-loop
+returns-2 : tie.Need-returns invariant-loop decreases-loop
 returns-2 c =
-    let turn : tie.At-loop invariant-loop decreases-loop = search in
-    let start : tie.Start invariant-loop decreases-loop = search in
-    let b = start.args.bytes.now in
-    λ _. plainly_all b (turn.loop.inv.rest (plainly_end b turn.loop.i (omega arith)))
+    let b = c.args.bytes.now in
+    λ _. plainly_all b (c.loop-i.invariant.rest (plainly_end b c.loop-i.i (omega arith)))
 
-pub all-letters-spec : {M : Type 1} → statement M
-all-letters-spec =
+pub all_letters_spec : {M : Type 1} → statement M
+all_letters_spec =
     tie.close
     (tie.spec
     invariant-loop

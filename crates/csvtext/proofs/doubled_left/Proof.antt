@@ -16,39 +16,33 @@ record Left (room : ℕ) (bytes : List ℕ) (left i high : ℕ) : Type 0 where
   inside : i ≤ length bytes
   rest : left - length (text_from high (drop i bytes)) ≡ room - length (text_from 0 bytes)
 
-abbrev invariant-loop : tie.invariant-loop
+abbrev invariant-loop : tie.invariant-loop-i
 invariant-loop room bytes left₀ i₀ high₀ left i high = Left room bytes left i high
 
-abbrev decreases-loop : tie.decreases-loop
+abbrev decreases-loop : tie.decreases-loop-i
 decreases-loop room bytes left₀ i₀ high₀ left i high = length bytes - i
 
-loop-holds : tie.Need-loop-init invariant-loop decreases-loop
+loop-holds : tie.Need-loop-i-init invariant-loop decreases-loop
 loop-holds c = record { inside = omega arith; rest = refl }
 
-loop-again : tie.Need-loop-preserved invariant-loop decreases-loop
+loop-again : tie.Need-loop-i-preserved invariant-loop decreases-loop
 loop-again c =
-    let at-loop : tie.At-loop invariant-loop decreases-loop = search in
-    let start : tie.Start invariant-loop decreases-loop = search in
-    let unit : tie.After-u16-at invariant-loop decreases-loop = search in
-    let sized : tie.After-unit-size invariant-loop decreases-loop = search in
-    let took : tie.After-less invariant-loop decreases-loop = search in
-    let b = start.args.bytes.now in
-    let l = at-loop.loop in
-    let u = unit.u16-at.ensures in
-    let size = sized.unit_size.ensures ∙ ap (λ (n : ℕ). length (unit_text l.high n)) u in
+    let b = c.args.bytes.now in
+    let l = c.loop-i in
+    let u = c.u16_at-u.ensures in
+    let size = c.unit_size.ensures ∙ ap (λ (n : ℕ). length (unit_text l.high n)) u in
     let whole = ap length (spelled_step doubled_of b l.i l.high (omega arith)) ∙ length-append (unit_text l.high (u16 b l.i)) (text_from (waiting (u16 b l.i)) (drop (l.i + 2) b)) in
-    let next = ap (λ (n : ℕ). length (text_from n (drop (l.i + 2) b))) (c.waiting.ensures ∙ ap waiting u) in
-    record { inside = omega arith; rest = omega (arith, l.inv.rest, took.less.ensures, size, whole, next) }
+    let next = ap (λ (n : ℕ). length (text_from n (drop (l.i + 2) b))) (c.waiting-high.ensures ∙ ap waiting u) in
+    record { inside = omega arith; rest = omega (arith, l.invariant.rest, c.less-left.ensures, size, whole, next) }
 
 returns : tie.Need-returns invariant-loop decreases-loop
 returns c =
-    let start : tie.Start invariant-loop decreases-loop = search in
-    let l = c.before.loop in
-    let b = start.args.bytes.now in
+    let l = c.loop-i in
+    let b = c.args.bytes.now in
     omega (arith, l.invariant.rest, ap length (spelled-end doubled_of b l.i l.high (omega arith)), ap length (text-all b))
 
-pub doubled-left-spec : {M : Type 1} → statement M
-doubled-left-spec =
+pub doubled_left_spec : {M : Type 1} → statement M
+doubled_left_spec =
     tie.close
     (tie.spec
     invariant-loop

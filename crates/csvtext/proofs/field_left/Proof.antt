@@ -9,25 +9,18 @@ use Rattle.csvtext.proofs.UnitLaws.{field_plain, field-quoted}
 use Rattle.csvtext.proofs.field_left.Statement.{statement}
 use Rattle.csvtext.proofs.field_left.Tie as tie
 
-returns : tie.Need-returns
+returns : tie.Need-returns-then-is_plain
 returns c =
-    let start : tie.Start = search in
-    let asked : tie.After-is-plain = search in
-    let f = utf8 start.args.bytes.now in
-    let told : tie.Then1 = search in
-    omega (arith, c.doubled-left.ensures, ap length (field_plain f (sym asked.is_plain.ensures ∙ told.if1.taken)))
+    let f = utf8 c.args.bytes.now in
+    omega (arith, c.doubled_left.ensures, ap length (field_plain f (sym c.is_plain.ensures ∙ c.if-is_plain.true)))
 
-returns-2 : tie.Need-returns-2
+returns-2 : tie.Need-returns
 returns-2 c =
-    let start : tie.Start = search in
-    let asked : tie.After-is-plain = search in
-    let took : tie.After-less = search in
-    let told : tie.Else1 = search in
-    let f = utf8 start.args.bytes.now in
-    omega (arith, c.doubled-left2.ensures, took.less.ensures, ap length (field-quoted f (sym asked.is_plain.ensures ∙ told.if1.left)), length-append (doubled f) (quote ∷ []))
+    let f = utf8 c.args.bytes.now in
+    omega (arith, c.doubled_left-2.ensures, c.less.ensures, ap length (field-quoted f (sym c.is_plain.ensures ∙ c.if-is_plain.false)), length-append (doubled f) (quote ∷ []))
 
-pub field-left-spec : {M : Type 1} → statement M
-field-left-spec =
+pub field_left_spec : {M : Type 1} → statement M
+field_left_spec =
     tie.close
     (tie.spec
     (λ c κs. search rules)

@@ -6,11 +6,10 @@ use Rattle.csvtext.proofs.hexes_left.Tie as tie
 
 returns : tie.Need-returns
 returns c =
-    let start : tie.Start = search in
-    omega (arith, length-hexes start.args.bytes.now, c.less2.ensures, c.before.less.ensures)
+    omega (arith, length-hexes c.args.bytes.now, c.less-2.ensures, c.less.ensures)
 
-pub hexes-left-spec : {M : Type 1} → statement M
-hexes-left-spec =
+pub hexes_left_spec : {M : Type 1} → statement M
+hexes_left_spec =
     tie.close
     (tie.spec
     (λ c κs. search rules)

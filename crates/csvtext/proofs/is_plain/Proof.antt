@@ -16,13 +16,13 @@ record Left (bytes : List ℕ) (i high : ℕ) : Type 0 where
   inside : i ≤ length bytes
   rest : data_from 0 (drop 0 bytes) ≡ data_from high (drop i bytes)
 
-abbrev invariant-loop : tie.invariant-loop
+abbrev invariant-loop : tie.invariant-loop-i
 invariant-loop bytes i₀ high₀ i high = Left bytes i high
 
-abbrev decreases-loop : tie.decreases-loop
+abbrev decreases-loop : tie.decreases-loop-i
 decreases-loop bytes i₀ high₀ i high = length bytes - i
 
-loop-holds : tie.Need-loop-init invariant-loop decreases-loop
+loop-holds : tie.Need-loop-i-init invariant-loop decreases-loop
 loop-holds c = record { inside = omega arith; rest = refl }
 
 no : (t : Bool) → not t ≡ true → t ≡ false
@@ -33,43 +33,33 @@ yes : (t : Bool) → not t ≡ false → t ≡ true
 yes true e = refl
 yes false e = sym e
 
-returns : tie.Need-returns invariant-loop decreases-loop
+returns : tie.Need-returns-then-not-unit_is_data invariant-loop decreases-loop
 returns c =
-    let at-loop : tie.At-loop invariant-loop decreases-loop = search in
-    let start : tie.Start invariant-loop decreases-loop = search in
-    let unit : tie.After-u16-at invariant-loop decreases-loop = search in
-    let told : tie.After-unit-is-data invariant-loop decreases-loop = search in
-    let b = start.args.bytes.now in
-    let l = at-loop.loop in
-    let e : unit_data l.high (u16 b l.i) ≡ false = sym (told.unit-is-data.ensures ∙ ap (unit_data l.high) unit.u16-at.ensures) ∙ no _ c.if1.true in
-    sym (sym (data_all b) ∙ l.inv.rest ∙ data_step b l.i l.high (omega arith) ∙ ap (λ (t : Bool). t && data_from (waiting (u16 b l.i)) (drop (l.i + 2) b)) e)
+    let b = c.args.bytes.now in
+    let l = c.loop-i in
+    let e : unit_data l.high (u16 b l.i) ≡ false = sym (c.unit_is_data.ensures ∙ ap (unit_data l.high) c.u16_at-u.ensures) ∙ no _ c.if-not-unit_is_data.true-raw in
+    sym (sym (data_all b) ∙ l.invariant.rest ∙ data_step b l.i l.high (omega arith) ∙ ap (λ (t : Bool). t && data_from (waiting (u16 b l.i)) (drop (l.i + 2) b)) e)
 
-loop-again : tie.Need-loop-preserved invariant-loop decreases-loop
+loop-again : tie.Need-loop-i-preserved invariant-loop decreases-loop
 loop-again c =
-    let at-loop : tie.At-loop invariant-loop decreases-loop = search in
-    let start : tie.Start invariant-loop decreases-loop = search in
-    let unit : tie.After-u16-at invariant-loop decreases-loop = search in
-    let told : tie.After-unit-is-data invariant-loop decreases-loop = search in
-    let other : tie.Else1 invariant-loop decreases-loop = search in
-    let b = start.args.bytes.now in
-    let l = at-loop.loop in
-    let u = unit.u16-at.ensures in
-    let e : unit_data l.high (u16 b l.i) ≡ true = sym (told.unit-is-data.ensures ∙ ap (unit_data l.high) u) ∙ yes _ other.if1.left in
+    let b = c.args.bytes.now in
+    let l = c.loop-i in
+    let u = c.u16_at-u.ensures in
+    let e : unit_data l.high (u16 b l.i) ≡ true = sym (c.unit_is_data.ensures ∙ ap (unit_data l.high) u) ∙ yes _ c.if-not-unit_is_data.false-raw in
     record {
       inside = omega arith;
-      rest = l.inv.rest ∙ data_step b l.i l.high (omega arith) ∙ ap (λ (t : Bool). t && data_from (waiting (u16 b l.i)) (drop (l.i + 2) b)) e
-          ∙ sym (ap (λ (n : ℕ). data_from n (drop (l.i + 2) b)) (c.waiting.ensures ∙ ap waiting u));
+      rest = l.invariant.rest ∙ data_step b l.i l.high (omega arith) ∙ ap (λ (t : Bool). t && data_from (waiting (u16 b l.i)) (drop (l.i + 2) b)) e
+          ∙ sym (ap (λ (n : ℕ). data_from n (drop (l.i + 2) b)) (c.waiting-high.ensures ∙ ap waiting u));
     }
 
-returns-2 : tie.Need-returns-2 invariant-loop decreases-loop
+returns-2 : tie.Need-returns invariant-loop decreases-loop
 returns-2 c =
-    let start : tie.Start invariant-loop decreases-loop = search in
-    let l = c.before.loop in
-    let b = start.args.bytes.now in
+    let l = c.loop-i in
+    let b = c.args.bytes.now in
     sym (sym (data_all b) ∙ l.invariant.rest ∙ data_end b l.i l.high (omega arith))
 
-pub is-plain-spec : {M : Type 1} → statement M
-is-plain-spec =
+pub is_plain_spec : {M : Type 1} → statement M
+is_plain_spec =
     tie.close
     (tie.spec
     invariant-loop

@@ -6,32 +6,23 @@ use Rattle.text.proofs.Chain.{◌⨟◌, wrote_as}
 use Rattle.csvtext.proofs.put_character.Statement.{statement}
 use Rattle.csvtext.proofs.put_character.Tie as tie
 
-returns : tie.Need-returns
-returns c = wrote_as c.before.before.put_byte.ensures (sym (one_byte _ (omega arith)))
+returns : tie.Need-returns-then-c-lt128
+returns c = wrote_as c.put_byte.ensures (sym (one_byte _ (omega arith)))
 
-returns-2 : tie.Need-returns-2
+returns-2 : tie.Need-returns-then-c-lt2048
 returns-2 c =
-    let first : tie.After-put-byte2 = search in
-    let second : tie.After-put-byte3 = search in
-    wrote_as (first.put-byte2.ensures ⨟ second.put-byte3.ensures) (sym (two_bytes _ (omega arith) (omega arith)))
+    wrote_as (c.put_byte-p.ensures ⨟ c.put_byte-then-c-lt2048.ensures) (sym (two_bytes _ (omega arith) (omega arith)))
 
-returns-3 : tie.Need-returns-3
+returns-3 : tie.Need-returns-then-c-lt65536
 returns-3 c =
-    let first : tie.After-put-byte4 = search in
-    let second : tie.After-put-byte5 = search in
-    let third : tie.After-put-byte6 = search in
-    wrote_as (first.put-byte4.ensures ⨟ second.put-byte5.ensures ⨟ third.put-byte6.ensures) (sym (three-bytes _ (omega arith) (omega arith)))
+    wrote_as (c.put_byte-p-then-c-lt65536.ensures ⨟ c.put_byte-p-then-c-lt65536-2.ensures ⨟ c.put_byte-then-c-lt65536.ensures) (sym (three-bytes _ (omega arith) (omega arith)))
 
-returns-4 : tie.Need-returns-4
+returns-4 : tie.Need-returns
 returns-4 c =
-    let first : tie.After-put-byte7 = search in
-    let second : tie.After-put-byte8 = search in
-    let third : tie.After-put-byte9 = search in
-    let fourth : tie.After-put-byte10 = search in
-    wrote_as (first.put-byte7.ensures ⨟ second.put-byte8.ensures ⨟ third.put-byte9.ensures ⨟ fourth.put-byte10.ensures) (sym (four_bytes _ (omega arith)))
+    wrote_as (c.put_byte-p-2.ensures ⨟ c.put_byte-p-3.ensures ⨟ c.put_byte-p-4.ensures ⨟ c.put_byte-2.ensures) (sym (four_bytes _ (omega arith)))
 
-pub put-character-spec : {M : Type 1} → statement M
-put-character-spec =
+pub put_character_spec : {M : Type 1} → statement M
+put_character_spec =
     tie.close
     (tie.spec
     (λ c. search rules) (λ c κs. search rules) (λ c. search rules) returns

@@ -6,34 +6,21 @@ use Rattle.csvtext.proofs.UnitLaws.{field_plain, field-quoted}
 use Rattle.csvtext.proofs.put_field.Statement.{statement}
 use Rattle.csvtext.proofs.put_field.Tie as tie
 
-returns : tie.Need-returns
+returns : tie.Need-returns-then-all_letters
 returns c =
-    let asked : tie.After-all-letters = search in
-    let told : tie.Then1 = search in
-    let put : tie.After-put-lows = search in
-    wrote_as put.put-lows.ensures (sym (asked.all-letters.ensures told.if1.taken))
+    wrote_as c.put_lows.ensures (sym (c.all_letters.ensures c.if-all_letters.true))
 
-returns-2 : tie.Need-returns-2
+returns-2 : tie.Need-returns-then-is_plain
 returns-2 c =
-    let start : tie.Start = search in
-    let asked : tie.After-is-plain = search in
-    let told : tie.Then2 = search in
-    let put : tie.After-put-doubled = search in
-    wrote_as put.put-doubled.ensures (sym (field_plain (utf8 start.args.bytes.now) (sym asked.is_plain.ensures ∙ told.if2.taken)))
+    wrote_as c.put_doubled.ensures (sym (field_plain (utf8 c.args.bytes.now) (sym c.is_plain.ensures ∙ c.if-is_plain.true)))
 
-returns-3 : tie.Need-returns-3
+returns-3 : tie.Need-returns
 returns-3 c =
-    let start : tie.Start = search in
-    let asked : tie.After-is-plain = search in
-    let told : tie.Else2 = search in
-    let begun : tie.After-put-byte = search in
-    let put : tie.After-put-doubled2 = search in
-    let shut : tie.After-put-byte2 = search in
-    wrote_as (begun.put_byte.ensures ⨟ put.put-doubled2.ensures ⨟ shut.put-byte2.ensures)
-    (sym (field-quoted (utf8 start.args.bytes.now) (sym asked.is_plain.ensures ∙ told.if2.left)))
+    wrote_as (c.put_byte-p.ensures ⨟ c.put_doubled-p.ensures ⨟ c.put_byte.ensures)
+    (sym (field-quoted (utf8 c.args.bytes.now) (sym c.is_plain.ensures ∙ c.if-is_plain.false)))
 
-pub put-field-spec : {M : Type 1} → statement M
-put-field-spec =
+pub put_field_spec : {M : Type 1} → statement M
+put_field_spec =
     tie.close
     (tie.spec
     (λ c κs. search rules)

@@ -12,38 +12,34 @@ use Rattle.csvtext.proofs.UnitLaws.{hexes-end, hexes-step}
 use Rattle.csvtext.proofs.put_hexes.Statement.{statement}
 use Rattle.csvtext.proofs.put_hexes.Tie as tie
 
-abbrev invariant-loop : tie.invariant-loop
+abbrev invariant-loop : tie.invariant-loop-i
 invariant-loop out₀ at bytes p₀ i₀ out p i = Remains out₀ at (hex_text bytes) out p (hex_text (drop i bytes))
 
-abbrev decreases-loop : tie.decreases-loop
+abbrev decreases-loop : tie.decreases-loop-i
 decreases-loop out₀ at bytes p₀ i₀ out p i = length bytes - i
 
-loop-holds : tie.Need-loop-init invariant-loop decreases-loop
+loop-holds : tie.Need-loop-i-init invariant-loop decreases-loop
 loop-holds c = all_remains
 
-loop-less : tie.Need-loop-smaller invariant-loop decreases-loop
+loop-less : tie.Need-loop-i-smaller invariant-loop decreases-loop
 loop-less c = omega arith
 
-loop-again : tie.Need-loop-preserved invariant-loop decreases-loop
+loop-again : tie.Need-loop-i-preserved invariant-loop decreases-loop
 loop-again c =
-    let at-loop : tie.At-loop invariant-loop decreases-loop = search in
-    let start : tie.Start invariant-loop decreases-loop = search in
-    let put : tie.After-put-hex-byte invariant-loop decreases-loop = search in
-    let b = start.args.bytes.now in
-    let i = at-loop.loop.i in
-    on at-loop.loop.inv (hexes-step b i (omega arith)) put.put-hex-byte.ensures
+    let b = c.args.bytes.now in
+    let i = c.loop-i.i in
+    on c.loop-i.invariant (hexes-step b i (omega arith)) c.put_hex_byte-p.ensures
 
 returns : tie.Need-returns invariant-loop decreases-loop
 returns c =
-    let start : tie.Start invariant-loop decreases-loop = search in
-    let l = c.before.loop in
-    done l.invariant (ap hex_text (drop_of_length-le start.args.bytes.now c.loop-test.false) ∙ hexes-end)
+    let l = c.loop-i in
+    done l.invariant (ap hex_text (drop_of_length-le c.args.bytes.now c.loop-i-test.false) ∙ hexes-end)
 
-same_length : tie.Need-same-length invariant-loop decreases-loop
+same_length : tie.Need-shape_of-out invariant-loop decreases-loop
 same_length c = same (returns c)
 
-pub put-hexes-spec : {M : Type 1} → statement M
-put-hexes-spec =
+pub put_hexes_spec : {M : Type 1} → statement M
+put_hexes_spec =
     tie.close
     (tie.spec
     invariant-loop

@@ -7,26 +7,22 @@ use Rattle.csvtext.proofs.LetterLaws.{LowsLeft, lows-start, four-more}
 use Rattle.csvtext.proofs.put_lows.Statement.{statement}
 use Rattle.csvtext.proofs.put_lows.Tie as tie
 
-abbrev invariant-loop : tie.invariant-loop
+abbrev invariant-loop : tie.invariant-loop-i
 invariant-loop out₀ at bytes p₀ i₀ out p i = LowsLeft bytes 0 out₀ at out p i
 
-abbrev decreases-loop : tie.decreases-loop
+abbrev decreases-loop : tie.decreases-loop-i
 decreases-loop out₀ at bytes p₀ i₀ out p i = length bytes - i
 
-loop-again : tie.Need-loop-preserved invariant-loop decreases-loop
+loop-again : tie.Need-loop-i-preserved invariant-loop decreases-loop
 loop-again c =
-    let turn : tie.At-loop invariant-loop decreases-loop = search in
-    let put : tie.After-put-four invariant-loop decreases-loop = search in
-    four-more turn.loop.inv (omega (arith, turn.loop.inv.inside)) put.put_four.ensures
+    four-more c.loop-i.invariant (omega (arith, c.loop-i.invariant.inside)) c.put_four-p.ensures
 
 returns : tie.Need-returns invariant-loop decreases-loop
 returns c =
-    let turn : tie.At-loop invariant-loop decreases-loop = search in
-    let rest : tie.After-put-lows-from invariant-loop decreases-loop = search in
-    turn.loop.inv.rest.so _ _ rest.put-lows-from.ensures
+    c.loop-i.invariant.rest.so _ _ c.put_lows_from.ensures
 
-pub put-lows-spec : {M : Type 1} → statement M
-put-lows-spec =
+pub put_lows_spec : {M : Type 1} → statement M
+put_lows_spec =
     tie.close
     (tie.spec
     invariant-loop

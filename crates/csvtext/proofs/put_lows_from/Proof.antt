@@ -8,30 +8,26 @@ use Rattle.csvtext.proofs.LetterLaws.{LowsLeft, lows-start, one_more, lows-end}
 use Rattle.csvtext.proofs.put_lows_from.Statement.{statement}
 use Rattle.csvtext.proofs.put_lows_from.Tie as tie
 
-abbrev invariant-loop : tie.invariant-loop
+abbrev invariant-loop : tie.invariant-loop-i
 invariant-loop out₀ at bytes from p₀ i₀ out p i = LowsLeft bytes from out₀ at out p i
 
-abbrev decreases-loop : tie.decreases-loop
+abbrev decreases-loop : tie.decreases-loop-i
 decreases-loop out₀ at bytes from p₀ i₀ out p i = length bytes - i
 
-loop-holds : tie.Need-loop-init invariant-loop decreases-loop
+loop-holds : tie.Need-loop-i-init invariant-loop decreases-loop
 loop-holds c =
-    let start : tie.Start invariant-loop decreases-loop = search in
-    lows-start start.pre
+    lows-start c.requires
 
-loop-again : tie.Need-loop-preserved invariant-loop decreases-loop
+loop-again : tie.Need-loop-i-preserved invariant-loop decreases-loop
 loop-again c =
-    let turn : tie.At-loop invariant-loop decreases-loop = search in
-    let put : tie.After-put-byte invariant-loop decreases-loop = search in
-    one_more turn.loop.inv (omega (arith, turn.loop.inv.inside)) put.put_byte.ensures
+    one_more c.loop-i.invariant (omega (arith, c.loop-i.invariant.inside)) c.put_byte-p.ensures
 
 returns : tie.Need-returns invariant-loop decreases-loop
 returns c =
-    let turn : tie.At-loop invariant-loop decreases-loop = search in
-    done turn.loop.inv.rest (lows-end _ turn.loop.i (omega arith))
+    done c.loop-i.invariant.rest (lows-end _ c.loop-i.i (omega arith))
 
-pub put-lows-from-spec : {M : Type 1} → statement M
-put-lows-from-spec =
+pub put_lows_from_spec : {M : Type 1} → statement M
+put_lows_from_spec =
     tie.close
     (tie.spec
     invariant-loop

@@ -9,44 +9,27 @@ use Rattle.csvtext.proofs.UnitLaws.{ends-quote, ends-other, scalar-small}
 use Rattle.csvtext.proofs.put_unit.Statement.{statement}
 use Rattle.csvtext.proofs.put_unit.Tie as tie
 
-returns : tie.Need-returns
+returns : tie.Need-returns-then-is_high
 returns c =
-    let start : tie.Start = search in
-    let asked : tie.After-is-high = search in
-    wrote_as nothing (sym (first-half doubled_of start.args.high start.args.u (sym asked.is-high.ensures ∙ c.if1.true)))
+    wrote_as nothing (sym (first-half doubled_of c.args.high c.args.u (sym c.is_high.ensures ∙ c.if-is_high.true)))
 
-returns-2 : tie.Need-returns-2
+returns-2 : tie.Need-returns-then-c-eq-QUOTE_SIGN
 returns-2 c =
-    let start : tie.Start = search in
-    let asked : tie.After-is-high = search in
-    let other : tie.Else1 = search in
-    let got : tie.After-scalar = search in
-    let is : tie.Then2 = search in
-    let first : tie.After-put-byte = search in
-    let second : tie.After-put-byte2 = search in
-    wrote_as (first.put_byte.ensures ⨟ second.put-byte2.ensures)
-    (sym (ends-quote start.args.high start.args.u (sym asked.is-high.ensures ∙ other.if1.left) (omega (arith, got.scalar.ensures, is.if2.taken))))
+    wrote_as (c.put_byte-p.ensures ⨟ c.put_byte.ensures)
+    (sym (ends-quote c.args.high c.args.u (sym c.is_high.ensures ∙ c.if-is_high.false) (omega (arith, c.scalar-c.ensures, c.if-c-eq-QUOTE_SIGN.true))))
 
-put-character-requires : tie.Need-put-character-requires
+put-character-requires : tie.Need-put_character-requires
 put-character-requires c κs =
-    let start : tie.Start = search in
-    let got : tie.After-scalar = search in
-    omega (arith, got.scalar.ensures, scalar-small start.args.high start.args.u start.pre (omega (arith, start.good)))
+    omega (arith, c.scalar-c.ensures, scalar-small c.args.high c.args.u c.requires (omega (arith, c.well_formed)))
 
-returns-3 : tie.Need-returns-3
+returns-3 : tie.Need-returns
 returns-3 c =
-    let start : tie.Start = search in
-    let asked : tie.After-is-high = search in
-    let other : tie.Else1 = search in
-    let got : tie.After-scalar = search in
-    let isnt : tie.Else2 = search in
-    let put : tie.After-put-character = search in
-    wrote_as put.put-character.ensures
-    (ap utf8_of got.scalar.ensures
-    ∙ sym (ends-other start.args.high start.args.u (sym asked.is-high.ensures ∙ other.if1.left) (λ e. omega (arith, got.scalar.ensures, isnt.if2.left))))
+    wrote_as c.put_character.ensures
+    (ap utf8_of c.scalar-c.ensures
+    ∙ sym (ends-other c.args.high c.args.u (sym c.is_high.ensures ∙ c.if-is_high.false) (λ e. omega (arith, c.scalar-c.ensures, c.if-c-eq-QUOTE_SIGN.false))))
 
-pub put-unit-spec : {M : Type 1} → statement M
-put-unit-spec =
+pub put_unit_spec : {M : Type 1} → statement M
+put_unit_spec =
     tie.close
     (tie.spec
     (λ c κs. search rules)

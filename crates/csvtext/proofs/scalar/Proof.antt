@@ -5,18 +5,16 @@ use Rattle.csvtext.proofs.UnitLaws.{scalar-alone, scalar-pair}
 use Rattle.csvtext.proofs.scalar.Statement.{statement}
 use Rattle.csvtext.proofs.scalar.Tie as tie
 
-returns : tie.Need-returns
+returns : tie.Need-returns-then-high-eq0
 returns c =
-    let start : tie.Start = search in
-    sym (scalar-alone start.args.high start.args.u (omega arith))
+    sym (scalar-alone c.args.high c.args.u (omega arith))
 
-returns-2 : tie.Need-returns-2
+returns-2 : tie.Need-returns
 returns-2 c =
-    let start : tie.Start = search in
-    omega (arith, scalar-pair start.args.high start.args.u (λ e. omega arith))
+    omega (arith, scalar-pair c.args.high c.args.u (λ e. omega arith))
 
-pub scalar-spec : {M : Type 1} → statement M
-scalar-spec =
+pub scalar_spec : {M : Type 1} → statement M
+scalar_spec =
     tie.close
     (tie.spec
     returns

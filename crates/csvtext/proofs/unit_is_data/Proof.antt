@@ -7,21 +7,16 @@ use Rattle.csvtext.proofs.UnitLaws.{first-half_data, ends_data}
 use Rattle.csvtext.proofs.unit_is_data.Statement.{statement}
 use Rattle.csvtext.proofs.unit_is_data.Tie as tie
 
-returns : tie.Need-returns
+returns : tie.Need-returns-then-is_high
 returns c =
-    let start : tie.Start = search in
-    let asked : tie.After-is-high = search in
-    sym (first-half_data start.args.high start.args.u (sym asked.is-high.ensures ∙ c.if1.true))
+    sym (first-half_data c.args.high c.args.u (sym c.is_high.ensures ∙ c.if-is_high.true))
 
-returns-2 : tie.Need-returns-2
+returns-2 : tie.Need-returns
 returns-2 c =
-    let start : tie.Start = search in
-    let asked : tie.After-is-high = search in
-    let other : tie.Else1 = search in
-    c.is_data_lem.ensures ∙ ap is_data c.before.scalar.ensures ∙ sym (ends_data start.args.high start.args.u (sym asked.is-high.ensures ∙ other.if1.left))
+    c.is_data.ensures ∙ ap is_data c.scalar.ensures ∙ sym (ends_data c.args.high c.args.u (sym c.is_high.ensures ∙ c.if-is_high.false))
 
-pub unit-is-data-spec : {M : Type 1} → statement M
-unit-is-data-spec =
+pub unit_is_data_spec : {M : Type 1} → statement M
+unit_is_data_spec =
     tie.close
     (tie.spec
     (λ c κs. search rules)

@@ -9,31 +9,21 @@ use Rattle.csvtext.proofs.UnitLaws.{ends-quote, ends-other}
 use Rattle.csvtext.proofs.unit_size.Statement.{statement}
 use Rattle.csvtext.proofs.unit_size.Tie as tie
 
-returns : tie.Need-returns
+returns : tie.Need-returns-then-is_high
 returns c =
-    let start : tie.Start = search in
-    let asked : tie.After-is-high = search in
-    sym (ap length (first-half doubled_of start.args.high start.args.u (sym asked.is-high.ensures ∙ c.if1.true)))
+    sym (ap length (first-half doubled_of c.args.high c.args.u (sym c.is_high.ensures ∙ c.if-is_high.true)))
 
-returns-2 : tie.Need-returns-2
+returns-2 : tie.Need-returns-then-c-eq-QUOTE_SIGN
 returns-2 c =
-    let start : tie.Start = search in
-    let asked : tie.After-is-high = search in
-    let other : tie.Else1 = search in
-    let got : tie.After-scalar = search in
-    sym (ap length (ends-quote start.args.high start.args.u (sym asked.is-high.ensures ∙ other.if1.left) (omega (arith, got.scalar.ensures))))
+    sym (ap length (ends-quote c.args.high c.args.u (sym c.is_high.ensures ∙ c.if-is_high.false) (omega (arith, c.scalar-c.ensures))))
 
-returns-3 : tie.Need-returns-3
+returns-3 : tie.Need-returns
 returns-3 c =
-    let start : tie.Start = search in
-    let asked : tie.After-is-high = search in
-    let other : tie.Else1 = search in
-    let got : tie.After-scalar = search in
-    c.character-size.ensures ∙ ap (λ n. length (utf8_of n)) got.scalar.ensures
-    ∙ sym (ap length (ends-other start.args.high start.args.u (sym asked.is-high.ensures ∙ other.if1.left) (λ e. omega (arith, got.scalar.ensures))))
+    c.character_size.ensures ∙ ap (λ n. length (utf8_of n)) c.scalar-c.ensures
+    ∙ sym (ap length (ends-other c.args.high c.args.u (sym c.is_high.ensures ∙ c.if-is_high.false) (λ e. omega (arith, c.scalar-c.ensures))))
 
-pub unit-size-spec : {M : Type 1} → statement M
-unit-size-spec =
+pub unit_size_spec : {M : Type 1} → statement M
+unit_size_spec =
     tie.close
     (tie.spec
     (λ c κs. search rules)

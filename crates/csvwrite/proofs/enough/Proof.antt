@@ -14,26 +14,20 @@ yes : (t : Bool) → not t ≡ false → t ≡ true
 yes true e = refl
 yes false e = sym e
 
-returns : tie.Need-returns
+returns : tie.Need-returns-then-not-is_read
 returns c =
-    let asked : tie.After-is-read = search in
-    let told : tie.Then1 = search in
-    not_read _ _ _ (sym asked.is_read.ensures ∙ no _ told.if1.taken)
+    not_read _ _ _ (sym c.is_read.ensures ∙ no _ c.if-not-is_read.true-raw)
 
-returns-2 : tie.Need-returns-2
+returns-2 : tie.Need-returns-then-control_words-needed
 returns-2 c =
-    let start : tie.Start = search in
-    few-controls start.args.needed _ _ (omega arith)
+    few-controls c.args.needed _ _ (omega arith)
 
-returns-3 : tie.Need-returns-3
+returns-3 : tie.Need-returns
 returns-3 c =
-    let start : tie.Start = search in
-    let asked : tie.After-is-read = search in
-    let told : tie.Else1 = search in
-    by-properties start.args.needed _ _ (sym asked.is_read.ensures ∙ yes _ told.if1.left) (omega arith)
+    by-properties c.args.needed _ _ (sym c.is_read.ensures ∙ yes _ c.if-not-is_read.false-raw) (omega arith)
 
-pub enough-spec : {M : Type 1} → statement M
-enough-spec =
+pub enough_spec : {M : Type 1} → statement M
+enough_spec =
     tie.close
     (tie.spec
     (λ c κs. search rules)

@@ -8,20 +8,19 @@ use Rattle.csvwrite.specs.Sheet.{ample}
 use Rattle.csvwrite.proofs.is_ample.Statement.{statement}
 use Rattle.csvwrite.proofs.is_ample.Tie as tie
 
-returns : tie.Need-returns
+returns : tie.Need-returns-then-rows-gt-MOST
 returns c = λ e. absurd (let z : ◌≡◌ {A = ℕ} 0 1 = cc in omega arith)
 
-returns-2 : tie.Need-returns-2
+returns-2 : tie.Need-returns-then-length-gt-MOST
 returns-2 c = λ e. absurd (let z : ◌≡◌ {A = ℕ} 0 1 = cc in omega arith)
 
-returns-3 : tie.Need-returns-3
+returns-3 : tie.Need-returns
 unfolding ample
 returns-3 c =
-    let most : tie.After-countable = search in
-    λ e. rw (sym most.countable.ensures) (leb-true _ _ e)
+    λ e. rw (sym c.countable.ensures) (leb-true _ _ e)
 
-pub is-ample-spec : {M : Type 1} → statement M
-is-ample-spec =
+pub is_ample_spec : {M : Type 1} → statement M
+is_ample_spec =
     tie.close
     (tie.spec
     returns

@@ -5,27 +5,20 @@ use Rattle.csvwrite.proofs.ExitLaws.{fits-done}
 use Rattle.csvwrite.proofs.text_fits.Statement.{statement}
 use Rattle.csvwrite.proofs.text_fits.Tie as tie
 
-add-less : tie.Need-overflow-add-less
+add-less : tie.Need-overflow_add-countable
 add-less c =
-    let start : tie.Start = search in
-    let most : tie.After-countable = search in
-    omega (arith, most.countable.ensures, countable-most start.args.room)
+    omega (arith, c.countable.ensures, countable-most c.args.room)
 
-records-left-requires : tie.Need-records-left-requires
+records-left-requires : tie.Need-records_left-requires
 records-left-requires c κs =
-    let start : tie.Start = search in
-    start.pre
+    c.requires
 
 returns : tie.Need-returns
 returns c =
-    let start : tie.Start = search in
-    let most : tie.After-countable = search in
-    let off : tie.After-less = search in
-    let took : tie.After-records-left = search in
-    fits-done start.args.room (omega (arith, off.less.ensures, most.countable.ensures)) took.records-left.ensures
+    fits-done c.args.room (omega (arith, c.less-all.ensures, c.countable.ensures)) c.records_left.ensures
 
-pub text-fits-spec : {M : Type 1} → statement M
-text-fits-spec =
+pub text_fits_spec : {M : Type 1} → statement M
+text_fits_spec =
     tie.close
     (tie.spec
     (λ c κs. search rules)

@@ -22,53 +22,40 @@ yes false e = sym e
 abbrev start_of : tie.After-enough → tie.Start
 start_of c = search
 
-abbrev needed_of : tie.After-enough → tie.After-read-blob
+abbrev needed_of : tie.After-enough → tie.After-read_blob-needed
 needed_of c = search
 
-needed : (c : tie.After-enough) → (needed_of c).read-blob.result ≡ answer_of (outcome (start_of c).args.table.now (start_of c).args.stream.now 0 0)
-needed c = needed_is _ _ _ _ (length-replicate {A = ℕ} 1 0) (length-replicate {A = ℕ} 1 0) (needed_of c).read-blob.ensures
+needed : (c : tie.After-enough) → (needed_of c).read_blob-needed.result ≡ answer_of (outcome (start_of c).args.table.now (start_of c).args.stream.now 0 0)
+needed c = needed_is _ _ _ _ (length-replicate {A = ℕ} 1 0) (length-replicate {A = ℕ} 1 0) (needed_of c).read_blob-needed.ensures
 
-write-all-requires : tie.Need-write-all-requires
+write-all-requires : tie.Need-write_all-requires
 write-all-requires c κs =
-    let asked : tie.After-is-ample = search in
-    let told : tie.Then1 = search in
-    ample_roomy (asked.is-ample.ensures told.if1.taken)
+    ample_roomy (c.is_ample.ensures c.if-is_ample.true)
 
-returns-2 : tie.Need-returns-2
+returns-2 : tie.Need-returns-then-not-enough
 returns-2 c =
     let asked : tie.After-enough = search in
-    let told : tie.Then2 = search in
-    let read : tie.After-read-blob2 = search in
     let a = (start_of asked).args in
-    refused-exit a.table.now a.stream.now a.controls.now a.properties.now (needed asked) asked.enough.ensures (no _ told.if2.taken) _ read.read-blob2.ensures
+    refused-exit a.table.now a.stream.now a.controls-1.now a.properties-1.now (needed asked) asked.enough.ensures (no _ c.if-not-enough.true-raw) _ c.read_blob.ensures
 
-text-fits-requires : tie.Need-text-fits-requires
+text-fits-requires : tie.Need-text_fits-requires
 text-fits-requires c κs =
     let asked : tie.After-enough = search in
-    let told : tie.Else2 = search in
-    let indexed : tie.After-index = search in
-    let spelled : tie.After-letters = search in
     let a = (start_of asked).args in
-    readable a.table.now a.stream.now a.controls.now a.properties.now (needed asked) asked.enough.ensures (yes _ told.if2.left) (record { index_is = indexed.index.ensures; letters-are = spelled.letters.ensures })
+    readable a.table.now a.stream.now a.controls-1.now a.properties-1.now (needed asked) asked.enough.ensures (yes _ c.if-not-enough.false-raw) (record { index_is = c.index-index.ensures; letters-are = c.letters-letters.ensures })
 
-returns-3 : tie.Need-returns-3
+returns-3 : tie.Need-returns-then-not-text_fits
 returns-3 c =
     let asked : tie.After-enough = search in
-    let told : tie.Else2 = search in
-    let judged : tie.After-text-fits = search in
-    let full : tie.Then3 = search in
-    let said : tie.After-refused = search in
     let a = (start_of asked).args in
-    no-room-exit a.table.now a.stream.now a.controls.now a.properties.now (needed asked) asked.enough.ensures (yes _ told.if2.left) judged.text-fits.ensures (no _ full.if3.taken) said.refused.ensures
+    no-room-exit a.table.now a.stream.now a.controls-1.now a.properties-1.now (needed asked) asked.enough.ensures (yes _ c.if-not-enough.false-raw) c.text_fits.ensures (no _ c.if-not-text_fits.true-raw) c.refused.ensures
 
-write-all-requires-2 : tie.Need-write-all-requires-2
+write-all-requires-2 : tie.Need-write_all-requires-2
 write-all-requires-2 c κs =
-    let judged : tie.After-text-fits = search in
-    let roomy : tie.Else3 = search in
-    fits_roomy judged.text-fits.ensures (yes _ roomy.if3.left)
+    fits_roomy c.text_fits.ensures (yes _ c.if-not-text_fits.false-raw)
 
-pub write-csv-spec : {M : Type 1} → statement M
-write-csv-spec =
+pub write_csv_spec : {M : Type 1} → statement M
+write_csv_spec =
     tie.close
     (tie.spec
     (λ c κs. search rules)

@@ -4,28 +4,27 @@ use Rattle.cursor.proofs.StackLaws.{Closing, unwind-end, unwind_some, unwind-up}
 use Rattle.cursor.proofs.unwound.Statement.{statement}
 use Rattle.cursor.proofs.unwound.Tie as tie
 
-abbrev invariant-loop : tie.invariant-loop
+abbrev invariant-loop : tie.invariant-loop-left
 invariant-loop stack at level₀ left₀ parent₀ level left parent = Closing stack level₀ left₀ parent₀ level left parent
 
-abbrev decreases-loop : tie.decreases-loop
+abbrev decreases-loop : tie.decreases-loop-left
 decreases-loop stack at level₀ left₀ parent₀ level left parent = level
 
-loop-holds : tie.Need-loop-init invariant-loop decreases-loop
+loop-holds : tie.Need-loop-left-init invariant-loop decreases-loop
 loop-holds c = record { same = refl; lower = omega arith; low = omega arith }
 
-returns : tie.Need-returns invariant-loop decreases-loop
-returns c = record { at-is = refl; low = omega arith; is = sym (unwind-end _ _ _ _ (omega arith)) ∙ c.before.before.loop.invariant.same }
+returns : tie.Need-returns-then-level-eq0 invariant-loop decreases-loop
+returns c = record { at-is = refl; low = omega arith; is = sym (unwind-end _ _ _ _ (omega arith)) ∙ c.loop-left.invariant.same }
 
-loop-again : tie.Need-loop-preserved invariant-loop decreases-loop
+loop-again : tie.Need-loop-left-preserved invariant-loop decreases-loop
 loop-again c =
-    let at-loop : tie.At-loop invariant-loop decreases-loop = search in
-    record { same = sym (unwind-up _ _ _ _ (omega arith) (omega arith)) ∙ at-loop.loop.inv.same; lower = omega arith; low = omega arith }
+    record { same = sym (unwind-up _ _ _ _ (omega arith) (omega arith)) ∙ c.loop-left.invariant.same; lower = omega arith; low = omega arith }
 
-returns-2 : tie.Need-returns-2 invariant-loop decreases-loop
-returns-2 c = record { at-is = refl; low = omega arith; is = sym (unwind_some _ _ _ _ (omega arith)) ∙ c.before.loop.invariant.same }
+returns-2 : tie.Need-returns invariant-loop decreases-loop
+returns-2 c = record { at-is = refl; low = omega arith; is = sym (unwind_some _ _ _ _ (omega arith)) ∙ c.loop-left.invariant.same }
 
-pub unwound-spec : {M : Type 1} → statement M
-unwound-spec =
+pub unwound_spec : {M : Type 1} → statement M
+unwound_spec =
     tie.close
     (tie.spec
     invariant-loop

@@ -6,38 +6,33 @@ use Rattle.cursor2000.proofs.StepLaws.{count_small, past_bad, past_by}
 use Rattle.cursor2000.proofs.past.Statement.{statement}
 use Rattle.cursor2000.proofs.past.Tie as tie
 
-cast-after-entry : tie.Need-overflow-cast-after-entry
+cast-after-entry : tie.Need-overflow_cast-count
 cast-after-entry c =
-    let after-head : tie.After-head = search in
-    let after-shared-slice-known : tie.After-shared-slice-known = search in
-    omega (arith, count_small _ (λ i. (after-shared-slice-known.shared-slice-known.given i).fits) _ _ _ (opens_listed _ _ _ _ after-head.head.ensures c.before.before.count.given.1))
+    omega (arith, count_small _ (λ i. (c.shared_slice_known-1.given i).fits) _ _ _ (opens_listed _ _ _ _ c.head.ensures c.in-Listed.is))
 
-returns : tie.Need-returns
+returns : tie.Need-returns-in-Bad
 returns c =
-    let start : tie.Start = search in
-    absurd (past_bad _ _ (opens_bad _ _ c.before.before.head.ensures c.enum_told.given.1) start.pre)
+    absurd (past_bad _ _ (opens_bad _ _ c.head.ensures c.in-Bad.is) c.requires)
 
-returns-2 : tie.Need-returns-2
+returns-2 : tie.Need-returns-in-Plain
 returns-2 c =
-    let after-head : tie.After-head = search in
-    past_by _ _ none (opens_plain _ _ _ after-head.head.ensures c.before.before.before.next.given.1) c.after-entry.ensures
+    past_by _ _ none (opens_plain _ _ _ c.head.ensures c.in-Plain.is) c.after_entry.ensures
 
-returns-3 : tie.Need-returns-3
+returns-3 : tie.Need-returns-in-Listed
 returns-3 c =
-    let after-head : tie.After-head = search in
-    past_by _ _ (some _) (opens_listed _ _ _ _ after-head.head.ensures c.before.before.before.count.given.1) c.after-entry2.ensures
+    past_by _ _ (some _) (opens_listed _ _ _ _ c.head.ensures c.in-Listed.is) c.after_entry-in-Listed.ensures
 
-pub past-spec : {M : Type 1} → statement M
-past-spec =
+pub past_spec : {M : Type 1} → statement M
+past_spec =
     tie.close
     (tie.spec
     (λ c κs. search rules)
     (λ c. search rules)
     (λ c. search rules)
-    (λ c κs. let start : tie.Start = search in start.pre.before)
+    (λ c κs. let start : tie.Start = search in start.requires.before)
     (λ c. search rules)
     cast-after-entry
-    (λ c κs. let start : tie.Start = search in start.pre.before)
+    (λ c κs. let start : tie.Start = search in start.requires.before)
     returns
     returns-2
     returns-3)

@@ -7,34 +7,32 @@ use Rattle.cursor2000.specs.Steps.{step_at}
 use Rattle.cursor2000.proofs.reported.Statement.{statement}
 use Rattle.cursor2000.proofs.reported.Tie as tie
 
-abbrev invariant-loop : tie.invariant-loop
+abbrev invariant-loop : tie.invariant-loop-left
 invariant-loop s level parent at₀ left₀ at left = Passing (step_at s) is_reported (cursor at₀ level left₀ parent) at left
 
-abbrev decreases-loop : tie.decreases-loop
+abbrev decreases-loop : tie.decreases-loop-left
 decreases-loop s level parent at₀ left₀ at left = left
 
-returns : tie.Need-returns invariant-loop decreases-loop
+returns : tie.Need-returns-then-level-gt0 invariant-loop decreases-loop
 returns c = passed_none _ _ _ (omega arith)
 
-loop-holds : tie.Need-loop-init invariant-loop decreases-loop
+loop-holds : tie.Need-loop-left-init invariant-loop decreases-loop
 loop-holds c = passing_none _ _ _ (omega arith)
 
-loop-again : tie.Need-loop-preserved invariant-loop decreases-loop
+loop-again : tie.Need-loop-left-preserved invariant-loop decreases-loop
 loop-again c =
-    let turn : tie.At-loop invariant-loop decreases-loop = search in
-    let x = c.before.before.before.skip.ensures.over _ c.before.next.given.1 in
-    passing_next turn.loop.inv (omega arith) x.0 _ x.1 x.2
+    let x = c.skip.ensures.over _ c.in-Over.is in
+    passing_next c.loop-left.invariant (omega arith) x.0 _ x.1 x.2
 
-returns-2 : tie.Need-returns-2 invariant-loop decreases-loop
+returns-2 : tie.Need-returns-in-Not invariant-loop decreases-loop
 returns-2 c =
-    let turn : tie.At-loop invariant-loop decreases-loop = search in
-    passed_some turn.loop.inv (c.before.before.skip.ensures.kept c.enum_told.given.1)
+    passed_some c.loop-left.invariant (c.skip.ensures.kept c.in-Not.is)
 
-returns-3 : tie.Need-returns-3 invariant-loop decreases-loop
-returns-3 c = passed_all c.before.loop.invariant (omega arith)
+returns-3 : tie.Need-returns invariant-loop decreases-loop
+returns-3 c = passed_all c.loop-left.invariant (omega arith)
 
-pub reported-spec : {M : Type 1} → statement M
-reported-spec =
+pub reported_spec : {M : Type 1} → statement M
+reported_spec =
     tie.close
     (tie.spec
     invariant-loop

@@ -5,56 +5,35 @@ use borrow.Author.Rules.{rules}
 use Rattle.cursor2000.proofs.skip.Statement.{statement}
 use Rattle.cursor2000.proofs.skip.Tie as tie
 
-returns : tie.Need-returns
-returns c = skip_short _ _ c.before.before.u16-if-inside.ensures c.enum_told.given.1
+returns : tie.Need-returns-in_default
+returns c = skip_short _ _ c.u16_if_inside.ensures c.in_default.is
 
-returns-2 : tie.Need-returns-2
+returns-2 : tie.Need-returns-then-is_section
 returns-2 c =
-    let after-u16-if-inside : tie.After-u16-if-inside = search in
-    skip_section _ _ after-u16-if-inside.u16-if-inside.ensures c.before.before.before.entry-type.given.1 c.before.is-section.ensures c.if1.true
+    skip_section _ _ c.u16_if_inside.ensures c.in-Of.is c.is_section.ensures c.if-is_section.true
 
-add-run-at : tie.Need-overflow-add-run-at
+add-run-at : tie.Need-overflow_add-at
 add-run-at c =
-    let after-u16-if-inside : tie.After-u16-if-inside = search in
-    omega (arith, inside-room _ _ _ _ after-u16-if-inside.u16-if-inside.ensures c.before.before.before.entry-type.given.1)
+    omega (arith, inside-room _ _ _ _ c.u16_if_inside.ensures c.in-Of.is)
 
-returns-3 : tie.Need-returns-3
+returns-3 : tie.Need-returns-in_default-run_at
 returns-3 c =
-    let after-is-section : tie.After-is-section = search in
-    let after-entry-type : tie.After-entry-type = search in
-    let after-u16-if-inside : tie.After-u16-if-inside = search in
-    skip_run_bad _ _ after-u16-if-inside.u16-if-inside.ensures after-entry-type.entry-type.given.1 after-is-section.is-section.ensures c.before.before.run_at.ensures c.enum-told2.given.1
+    skip_run_bad _ _ c.u16_if_inside.ensures c.in-Of.is c.is_section.ensures c.run_at.ensures c.in_default-run_at.is
 
-returns-4 : tie.Need-returns-4
+returns-4 : tie.Need-returns-in-Plain
 returns-4 c =
-    let after-u16-if-inside : tie.After-u16-if-inside = search in
-    let after-entry-type : tie.After-entry-type = search in
-    let after-is-section : tie.After-is-section = search in
-    let else1 : tie.Else1 = search in
-    let after-run-at : tie.After-run-at = search in
-    let after_next : tie.After-next = search in
-    skip_plain _ _ after-u16-if-inside.u16-if-inside.ensures after-entry-type.entry-type.given.1 after-is-section.is-section.ensures after-run-at.run_at.ensures after_next.next.given.1 c.before.before.before.head.ensures c.before.end.given.1 else1.if1.left
+    skip_plain _ _ c.u16_if_inside.ensures c.in-Of.is c.is_section.ensures c.run_at.ensures c.in-Of-run_at.is c.head.ensures c.in-Plain.is c.if-is_section.false
 
-returns-5 : tie.Need-returns-5
+returns-5 : tie.Need-returns-in-Listed
 returns-5 c =
-    let after-u16-if-inside : tie.After-u16-if-inside = search in
-    let after-entry-type : tie.After-entry-type = search in
-    let after-is-section : tie.After-is-section = search in
-    let after-run-at : tie.After-run-at = search in
-    let after_next : tie.After-next = search in
-    skip_listed _ _ after-u16-if-inside.u16-if-inside.ensures after-entry-type.entry-type.given.1 after-is-section.is-section.ensures after-run-at.run_at.ensures after_next.next.given.1 c.before.before.head.ensures c.enum-told3.given.1
+    skip_listed _ _ c.u16_if_inside.ensures c.in-Of.is c.is_section.ensures c.run_at.ensures c.in-Of-run_at.is c.head.ensures c.in-Listed.is
 
-returns-6 : tie.Need-returns-6
+returns-6 : tie.Need-returns-in-Bad
 returns-6 c =
-    let after-u16-if-inside : tie.After-u16-if-inside = search in
-    let after-entry-type : tie.After-entry-type = search in
-    let after-is-section : tie.After-is-section = search in
-    let after-run-at : tie.After-run-at = search in
-    let after_next : tie.After-next = search in
-    skip_head_bad _ _ after-u16-if-inside.u16-if-inside.ensures after-entry-type.entry-type.given.1 after-is-section.is-section.ensures after-run-at.run_at.ensures after_next.next.given.1 c.before.before.head.ensures c.enum-told4.given.1
+    skip_head_bad _ _ c.u16_if_inside.ensures c.in-Of.is c.is_section.ensures c.run_at.ensures c.in-Of-run_at.is c.head.ensures c.in-Bad.is
 
-pub skip-spec : {M : Type 1} → statement M
-skip-spec =
+pub skip_spec : {M : Type 1} → statement M
+skip_spec =
     tie.close
     (tie.spec
     (λ c κs. search rules) (λ c. search rules) (λ c. search rules)

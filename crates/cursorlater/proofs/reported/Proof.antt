@@ -8,31 +8,29 @@ use Rattle.cursorlater.proofs.StepLaws.{kept_top, left-top}
 use Rattle.cursorlater.proofs.reported.Statement.{statement}
 use Rattle.cursorlater.proofs.reported.Tie as tie
 
-abbrev invariant-loop : tie.invariant-loop
+abbrev invariant-loop : tie.invariant-loop-left
 invariant-loop s level parent at₀ left₀ at left = Passing (step_at s) is_reported (cursor at₀ level left₀ parent) at left
 
-abbrev decreases-loop : tie.decreases-loop
+abbrev decreases-loop : tie.decreases-loop-left
 decreases-loop s level parent at₀ left₀ at left = left
 
-returns : tie.Need-returns invariant-loop decreases-loop
+returns : tie.Need-returns-then-level-gt0 invariant-loop decreases-loop
 returns c = passed_none _ _ _ (omega arith)
 
-loop-again : tie.Need-loop-preserved invariant-loop decreases-loop
+loop-again : tie.Need-loop-left-preserved invariant-loop decreases-loop
 loop-again c =
-    let turn : tie.At-loop invariant-loop decreases-loop = search in
-    let x = left-top _ _ _ c.before.before.before.top-node-at.ensures _ c.before.next.given.1 in
-    passing_next turn.loop.inv (omega arith) x.0 _ x.1 x.2
+    let x = left-top _ _ _ c.top_node_at.ensures _ c.in-Skipped.is in
+    passing_next c.loop-left.invariant (omega arith) x.0 _ x.1 x.2
 
-returns-2 : tie.Need-returns-2 invariant-loop decreases-loop
+returns-2 : tie.Need-returns-in-Reported invariant-loop decreases-loop
 returns-2 c =
-    let turn : tie.At-loop invariant-loop decreases-loop = search in
-    passed_some turn.loop.inv (kept_top _ _ _ c.before.before.top-node-at.ensures c.enum_told.given.1)
+    passed_some c.loop-left.invariant (kept_top _ _ _ c.top_node_at.ensures c.in-Reported.is)
 
-returns-3 : tie.Need-returns-3 invariant-loop decreases-loop
-returns-3 c = passed_all c.before.loop.invariant (omega arith)
+returns-3 : tie.Need-returns invariant-loop decreases-loop
+returns-3 c = passed_all c.loop-left.invariant (omega arith)
 
-pub reported-spec : {M : Type 1} → statement M
-reported-spec =
+pub reported_spec : {M : Type 1} → statement M
+reported_spec =
     tie.close
     (tie.spec
     invariant-loop

@@ -10,70 +10,58 @@ use Rattle.differ2000.proofs.Walking.{Going, going_start, going-ready, going-few
 use Rattle.differ2000.proofs.list_top.Statement.{statement}
 use Rattle.differ2000.proofs.list_top.Tie as tie
 
-abbrev invariant-loop : tie.invariant-loop
+abbrev invariant-loop : tie.invariant-loop-c
 invariant-loop older newer hints₀ olds news s n rows₀ stack₀ c₀ control₀ property₀ listed₀ hints rows stack c control property listed =
     Going older newer s (left (step_at s) 0 stack₀ c₀) (listing rows₀ listed₀ property₀) stack c control (listing rows listed property)
 
-abbrev decreases-loop : tie.decreases-loop
+abbrev decreases-loop : tie.decreases-loop-c
 decreases-loop older newer hints₀ olds news s n rows₀ stack₀ c₀ control₀ property₀ listed₀ hints rows stack c control property listed = how_many (left (step_at s) control stack c)
 
 -- ---- places, each from a later one
-abbrev turn-of : tie.After-list-node invariant-loop decreases-loop → tie.At-loop invariant-loop decreases-loop
+abbrev turn-of : tie.After-list_node-e invariant-loop decreases-loop → tie.At-loop-c invariant-loop decreases-loop
 turn-of c = search
 
-abbrev test_of : tie.After-list-node invariant-loop decreases-loop → tie.Then1 invariant-loop decreases-loop
+abbrev test_of : tie.After-list_node-e invariant-loop decreases-loop → tie.In-loop-c invariant-loop decreases-loop
 test_of c = search
 
 -- the loop goes on
-some_left : (c : tie.After-list-node invariant-loop decreases-loop) → 0 < (turn-of c).loop.c.left
-some_left c = omega (arith, (test_of c).if1.true)
+some_left : (c : tie.After-list_node-e invariant-loop decreases-loop) → 0 < (turn-of c).loop-c.c.left
+some_left c = omega (arith, (test_of c).loop-c-test.true)
 
-loop-holds : tie.Need-loop-init invariant-loop decreases-loop
+loop-holds : tie.Need-loop-c-init invariant-loop decreases-loop
 loop-holds c =
-    let start : tie.Start invariant-loop decreases-loop = search in
-    let topped : tie.After-top invariant-loop decreases-loop = search in
-    let passed : tie.After-reported invariant-loop decreases-loop = search in
-    going_start _ (length-replicate {A = ℕ} 512 0) start.pre topped.top.ensures passed.reported.ensures
+    going_start _ (length-replicate {A = ℕ} 512 0) c.requires c.top.ensures c.reported-c.ensures
 
-list-node-requires : tie.Need-list-node-requires invariant-loop decreases-loop
+list-node-requires : tie.Need-list_node-e-requires invariant-loop decreases-loop
 list-node-requires c κs =
-    let turn : tie.At-loop invariant-loop decreases-loop = search in
-    let start : tie.Start invariant-loop decreases-loop = search in
-    going-ready turn.loop.inv (omega arith) start.pre.known
+    going-ready c.loop-c.invariant (omega arith) c.requires.known
 
 past-requires : tie.Need-past-requires invariant-loop decreases-loop
 past-requires c κs =
-    let listed : tie.After-list-node invariant-loop decreases-loop = search in
-    top_past (turn-of listed).loop.inv.goes (some_left listed) listed.list-node.ensures.is
+    let listed : tie.After-list_node-e invariant-loop decreases-loop = search in
+    top_past (turn-of listed).loop-c.invariant.goes (some_left listed) listed.list_node-e.ensures.is
 
-add-control : tie.Need-overflow-add-control invariant-loop decreases-loop
+add-control : tie.Need-overflow_add-control invariant-loop decreases-loop
 add-control c =
-    let listed : tie.After-list-node invariant-loop decreases-loop = search in
-    omega (arith, going-few (turn-of listed).loop.inv (some_left listed))
+    let listed : tie.After-list_node-e invariant-loop decreases-loop = search in
+    omega (arith, going-few (turn-of listed).loop-c.invariant (some_left listed))
 
-loop-less : tie.Need-loop-smaller invariant-loop decreases-loop
+loop-less : tie.Need-loop-c-smaller invariant-loop decreases-loop
 loop-less c =
-    let listed : tie.After-list-node invariant-loop decreases-loop = search in
-    let moved : tie.After-past invariant-loop decreases-loop = search in
-    let passed : tie.After-reported2 invariant-loop decreases-loop = search in
-    top_less (turn-of listed).loop.inv.goes (some_left listed) listed.list-node.ensures.is _ moved.past.ensures passed.reported2.ensures
+    let listed : tie.After-list_node-e invariant-loop decreases-loop = search in
+    top_less (turn-of listed).loop-c.invariant.goes (some_left listed) listed.list_node-e.ensures.is _ c.past.ensures c.reported-c-in-loop-c.ensures
 
-loop-again : tie.Need-loop-preserved invariant-loop decreases-loop
+loop-again : tie.Need-loop-c-preserved invariant-loop decreases-loop
 loop-again c =
-    let listed : tie.After-list-node invariant-loop decreases-loop = search in
-    let moved : tie.After-past invariant-loop decreases-loop = search in
-    let passed : tie.After-reported2 invariant-loop decreases-loop = search in
-    record { goes = top-next (turn-of listed).loop.inv.goes (some_left listed) listed.list-node.ensures.is _ moved.past.ensures passed.reported2.ensures }
+    let listed : tie.After-list_node-e invariant-loop decreases-loop = search in
+    record { goes = top-next (turn-of listed).loop-c.invariant.goes (some_left listed) listed.list_node-e.ensures.is _ c.past.ensures c.reported-c-in-loop-c.ensures }
 
 returns : tie.Need-returns invariant-loop decreases-loop
 returns c =
-    let turn : tie.At-loop invariant-loop decreases-loop = search in
-    let topped : tie.After-top invariant-loop decreases-loop = search in
-    let passed : tie.After-reported invariant-loop decreases-loop = search in
-    going_done (top-all _ _ _ _ topped.top.ensures passed.reported.ensures) (top-stop turn.loop.inv.goes (omega arith))
+    going_done (top-all _ _ _ _ c.top.ensures c.reported-c.ensures) (top-stop c.loop-c.invariant.goes (omega arith))
 
-pub list-top-spec : {M : Type 1} → statement M
-list-top-spec =
+pub list_top_spec : {M : Type 1} → statement M
+list_top_spec =
     tie.close
     (tie.spec
     invariant-loop
@@ -86,5 +74,5 @@ list-top-spec =
     add-control
     loop-less
     loop-again
-    (λ c. let turn : tie.At-loop invariant-loop decreases-loop = search in top_fact turn.loop.inv.goes (λ _ h. h.same))
+    (λ c. let turn : tie.At-loop-c invariant-loop decreases-loop = search in top_fact turn.loop-c.invariant.goes (λ _ h. h.same))
     returns)

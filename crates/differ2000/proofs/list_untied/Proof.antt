@@ -5,50 +5,45 @@ use Rattle.differ2000.proofs.list_untied.Statement.{statement}
 use Rattle.differ2000.proofs.list_untied.Tie as tie
 
 -- ---- places, each from a later one
-abbrev joined_of : tie.After-put-fit → tie.After-bit-or
+abbrev joined_of : tie.After-put_fit → tie.After-bit_or
 joined_of c = search
 
-abbrev small_of : tie.After-bit-or → tie.Else1
+abbrev small_of : tie.After-bit_or → tie.Else-shown-ge-UNMAPPED
 small_of c = search
 
-abbrev showed-of : tie.After-bit-or → tie.After-property
+abbrev showed-of : tie.After-bit_or → tie.After-property-shown
 showed-of c = search
 
-abbrev start_of : tie.After-property → tie.Start
+abbrev start_of : tie.After-property-shown → tie.Start
 start_of c = search
 
-property-requires : tie.Need-property-requires
+property-requires : tie.Need-property-shown-requires
 property-requires c κs =
-    let start : tie.Start = search in
-    inside start.pre
+    inside c.requires
 
-returns : tie.Need-returns
+returns : tie.Need-returns-then-shown-ge-UNMAPPED
 returns c =
-    let start : tie.Start = search in
-    let showed : tie.After-property = search in
-    let large : tie.Then1 = search in
-    not_learnt start.pre showed.property.ensures _ (omega (arith, large.if1.taken))
+    not_learnt c.requires c.property-shown.ensures _ (omega (arith, c.if-shown-ge-UNMAPPED.true))
 
-cast-put-fit : tie.Need-overflow-cast-put-fit
+cast-put-fit : tie.Need-overflow_cast-from
 cast-put-fit c =
-    let start : tie.Start = search in
-    omega (arith, start.pre.stored.few)
+    omega (arith, c.requires.stored.few)
 
-add-result : tie.Need-overflow-add-result
+add-result : tie.Need-overflow_add-result
 add-result c =
-    let wrote : tie.After-put-fit = search in
+    let wrote : tie.After-put_fit = search in
     omega (arith, (start_of (showed-of (joined_of wrote))).requires.stored.few)
 
-returns-2 : tie.Need-returns-2
+returns-2 : tie.Need-returns
 returns-2 c =
-    let wrote : tie.After-put-fit = search in
+    let wrote : tie.After-put_fit = search in
     let joined = joined_of wrote in
     let small = small_of joined in
     let showed = showed-of joined in
-    learnt (start_of showed).pre showed.property.ensures (omega (arith, small.if1.left)) joined.bit_or.ensures wrote.put-Fit.ensures
+    learnt (start_of showed).pre showed.property-shown.ensures (omega (arith, small.if-shown-ge-UNMAPPED.false)) joined.bit_or.ensures wrote.put_fit.ensures
 
-pub list-untied-spec : {M : Type 1} → statement M
-list-untied-spec =
+pub list_untied_spec : {M : Type 1} → statement M
+list_untied_spec =
     tie.close
     (tie.spec
     property-requires

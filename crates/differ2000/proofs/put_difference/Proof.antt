@@ -6,8 +6,8 @@ use Rattle.differ2000.proofs.put_difference.Statement.{statement}
 use Rattle.differ2000.proofs.put_difference.Tie as tie
 
 -- the row's place, a line for each store, then the end
-pub put-difference-spec : {M : Type 1} → statement M
-put-difference-spec =
+pub put_difference_spec : {M : Type 1} → statement M
+put_difference_spec =
     tie.close
     (tie.spec
     (λ c. search rules)

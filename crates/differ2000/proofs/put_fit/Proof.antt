@@ -4,18 +4,15 @@ use Rattle.differ2000.specs.Listing.{put_fit}
 use Rattle.differ2000.proofs.put_fit.Statement.{statement}
 use Rattle.differ2000.proofs.put_fit.Tie as tie
 
-returns : tie.Need-returns
+returns : tie.Need-returns-then-at-rows
 unfolding put_fit
 returns c =
-    let wrote : tie.After-put-difference = search in
-    let fits : tie.Then1 = search in
-    rw (le-leb _ _ fits.if1.taken) wrote.put-difference.ensures
+    rw (le-leb _ _ c.if-at-rows.true) c.put_difference.ensures
 
-returns-2 : tie.Need-returns-2
+returns-2 : tie.Need-returns-else-at-rows
 unfolding put_fit
 returns-2 c =
-    let over : tie.Else1 = search in
-    rw (lt-leb _ _ over.if1.left)
+    rw (lt-leb _ _ c.if-at-rows.false)
 
-pub put-fit-spec : {M : Type 1} → statement M
-put-fit-spec = tie.close (tie.spec (λ c. search rules) (λ c. search rules) (λ c κs. search rules) (λ c. search rules) returns returns-2)
+pub put_fit_spec : {M : Type 1} → statement M
+put_fit_spec = tie.close (tie.spec (λ c. search rules) (λ c. search rules) (λ c κs. search rules) (λ c. search rules) returns returns-2)

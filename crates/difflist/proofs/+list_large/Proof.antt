@@ -53,36 +53,36 @@ list-large-calls t = (
 module _ (t : ℕ) where
   list-requires : list-large-lts.Need-list-requires (list-large-calls t) (list-large-at t) list-large.Post
   list-requires c κs =
-      let out : list-large-lts.After-large-said (list-large-calls t) (list-large-at t) list-large.Post = search in
-      let properties : list-large-lts.After-large-properties (list-large-calls t) (list-large-at t) list-large.Post = search in
-      let controls : list-large-lts.After-large-controls (list-large-calls t) (list-large-at t) list-large.Post = search in
-      let rows : list-large-lts.After-large-rows (list-large-calls t) (list-large-at t) list-large.Post = search in
+      let out : list-large-lts.After-large_said-out (list-large-calls t) (list-large-at t) list-large.Post = search in
+      let properties : list-large-lts.After-large_properties-properties (list-large-calls t) (list-large-at t) list-large.Post = search in
+      let controls : list-large-lts.After-large_controls-controls (list-large-calls t) (list-large-at t) list-large.Post = search in
+      let rows : list-large-lts.After-large_rows-rows (list-large-calls t) (list-large-at t) list-large.Post = search in
       let start : list-large-lts.Start (list-large-calls t) (list-large-at t) list-large.Post = search in
-      large_ready start.pre.1.0 start.pre.1.1 rows.large-rows.ensures controls.large-controls.ensures properties.large-properties.ensures out.large-said.ensures
+      large_ready start.requires.1.0 start.requires.1.1 rows.large_rows-rows.ensures controls.large_controls-controls.ensures properties.large_properties-properties.ensures out.large_said-out.ensures
 
-  array-share-prefix-space : list-large-lts.Need-array-share-prefix-space (list-large-calls t) (list-large-at t) list-large.Post
+  array-share-prefix-space : list-large-lts.Need-slice_bounds-space-end (list-large-calls t) (list-large-at t) list-large.Post
   array-share-prefix-space c =
-      let filled : list-large-lts.After-fill (list-large-calls t) (list-large-at t) list-large.Post = search in
-      inside filled.fill.ensures filled.fill.kept.0
+      let filled : list-large-lts.After-fill-size (list-large-calls t) (list-large-at t) list-large.Post = search in
+      inside filled.fill-size.ensures filled.fill-size.auto.0
 
-  slice-aggregate-again : list-large-lts.Need-slice-aggregate-list-large (list-large-calls t) (list-large-at t) list-large.Post
+  slice-aggregate-again : list-large-lts.Need-slice_bounds-list_large-end (list-large-calls t) (list-large-at t) list-large.Post
   slice-aggregate-again c =
-      let filled : list-large-lts.After-fill (list-large-calls t) (list-large-at t) list-large.Post = search in
-      part-size filled.fill.ensures filled.fill.kept.0
+      let filled : list-large-lts.After-fill-size (list-large-calls t) (list-large-at t) list-large.Post = search in
+      part-size filled.fill-size.ensures filled.fill-size.auto.0
 
-  again-requires : list-large-lts.Need-list-large-requires (list-large-calls t) (list-large-at t) list-large.Post
+  again-requires : list-large-lts.Need-list_large-requires (list-large-calls t) (list-large-at t) list-large.Post
   again-requires c κs =
-      let filled : list-large-lts.After-fill (list-large-calls t) (list-large-at t) list-large.Post = search in
-      let space : list-large-lts.After-large-input (list-large-calls t) (list-large-at t) list-large.Post = search in
-      let first : list-large-lts.Else1 (list-large-calls t) (list-large-at t) list-large.Post = search in
+      let filled : list-large-lts.After-fill-size (list-large-calls t) (list-large-at t) list-large.Post = search in
+      let space : list-large-lts.After-large_input-space (list-large-calls t) (list-large-at t) list-large.Post = search in
+      let first : list-large-lts.Else-whole (list-large-calls t) (list-large-at t) list-large.Post = search in
       let start : list-large-lts.Start (list-large-calls t) (list-large-at t) list-large.Post = search in
-      let f = filled.fill in (
-        once start.args.whole start.pre.0 first.if1.left,
-        (omega (arith, part-size f.ensures f.kept.0, f.ensures.after (omega (arith, space.large-input.ensures, start.pre.1.1)), start.pre.1.0), part-short f.ensures f.kept.0 space.large-input.ensures),
+      let f = filled.fill-size in (
+        once start.args.whole start.requires.0 first.if-whole.false,
+        (omega (arith, part-size f.ensures f.kept.0, f.ensures.after (omega (arith, space.large_input-space.ensures, start.requires.1.1)), start.requires.1.0), part-short f.ensures f.kept.0 space.large_input-space.ensures),
       )
 
-pub +list-large-spec : {M : Type 1} → statement M
-+list-large-spec = close μ-list-large λ t. list-large-lts.spec (list-large-calls t)
+pub +list_large_spec : {M : Type 1} → statement M
++list_large_spec = close μ-list-large λ t. list-large-lts.spec (list-large-calls t)
     (list-large-at t)
     list-large.Post
     (λ c κs. search rules) (λ c κs. search rules) (λ c κs. search rules) (λ c κs. search rules)

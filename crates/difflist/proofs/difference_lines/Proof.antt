@@ -8,26 +8,24 @@ use Rattle.difflist.specs.Lines.{difference_line}
 use Rattle.difflist.proofs.difference_lines.Statement.{statement}
 use Rattle.difflist.proofs.difference_lines.Tie as tie
 
-abbrev invariant-loop : tie.invariant-loop
+abbrev invariant-loop : tie.invariant-loop-n
 invariant-loop out₀ at rows count controls p₀ n₀ out p n = Walked (difference_line controls) difference_width rows count out₀ at out p n
 
-abbrev decreases-loop : tie.decreases-loop
+abbrev decreases-loop : tie.decreases-loop-n
 decreases-loop out₀ at rows count controls p₀ n₀ out p n = count - n
 
-loop-again : tie.Need-loop-preserved invariant-loop decreases-loop
+loop-again : tie.Need-loop-n-preserved invariant-loop decreases-loop
 loop-again c =
-    let at-loop : tie.At-loop invariant-loop decreases-loop = search in
-    let in-loop : tie.In-loop invariant-loop decreases-loop = search in
-    walked_more at-loop.loop.inv in-loop.loop-test.taken c.before.before.difference-line.ensures
+    walked_more c.loop-n.invariant c.loop-n-test.true c.difference_line-p.ensures
 
-same_length : tie.Need-same-length invariant-loop decreases-loop
-same_length c = same c.before.loop.invariant.wrote
+same_length : tie.Need-shape_of-out invariant-loop decreases-loop
+same_length c = same c.loop-n.invariant.wrote
 
 returns : tie.Need-returns invariant-loop decreases-loop
-returns c = walked_all c.before.loop.invariant c.loop-test.false
+returns c = walked_all c.loop-n.invariant c.loop-n-test.false
 
-pub difference-lines-spec : {M : Type 1} → statement M
-difference-lines-spec =
+pub difference_lines_spec : {M : Type 1} → statement M
+difference_lines_spec =
     tie.close
     (tie.spec
     invariant-loop

@@ -7,5 +7,5 @@ returns : tie.Need-returns
 unfolding zeros
 returns c = refl
 
-pub large-controls-spec : {M : Type 1} → statement M
-large-controls-spec = tie.close (tie.spec returns)
+pub large_controls_spec : {M : Type 1} → statement M
+large_controls_spec = tie.close (tie.spec returns)

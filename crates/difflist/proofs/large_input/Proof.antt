@@ -8,5 +8,5 @@ use Rattle.difflist.proofs.large_input.Tie as tie
 returns : tie.Need-returns
 returns c = sym (length-replicate {A = ℕ} most_read 0)
 
-pub large-input-spec : {M : Type 1} → statement M
-large-input-spec = tie.close (tie.spec returns)
+pub large_input_spec : {M : Type 1} → statement M
+large_input_spec = tie.close (tie.spec returns)

@@ -7,5 +7,5 @@ returns : tie.Need-returns
 unfolding zeros
 returns c = refl
 
-pub large-properties-spec : {M : Type 1} → statement M
-large-properties-spec = tie.close (tie.spec returns)
+pub large_properties_spec : {M : Type 1} → statement M
+large_properties_spec = tie.close (tie.spec returns)

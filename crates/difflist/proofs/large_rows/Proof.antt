@@ -7,5 +7,5 @@ returns : tie.Need-returns
 unfolding zeros
 returns c = refl
 
-pub large-rows-spec : {M : Type 1} → statement M
-large-rows-spec = tie.close (tie.spec returns)
+pub large_rows_spec : {M : Type 1} → statement M
+large_rows_spec = tie.close (tie.spec returns)

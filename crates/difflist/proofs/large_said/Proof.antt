@@ -8,5 +8,5 @@ use Rattle.difflist.proofs.large_said.Tie as tie
 returns : tie.Need-returns
 returns c = sym (length-replicate {A = ℕ} large_said 0)
 
-pub large-said-spec : {M : Type 1} → statement M
-large-said-spec = tie.close (tie.spec returns)
+pub large_said_spec : {M : Type 1} → statement M
+large_said_spec = tie.close (tie.spec returns)

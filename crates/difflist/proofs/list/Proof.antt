@@ -6,23 +6,20 @@ use Rattle.difflist.proofs.Printing.{all-printed}
 use Rattle.difflist.proofs.list.Statement.{statement}
 use Rattle.difflist.proofs.list.Tie as tie
 
-slice-reshare-prefix-print : tie.Need-slice-reshare-prefix-print
-slice-reshare-prefix-print c = let written : tie.After-write-listed = search in within written.write-listed.ensures.wrote
+slice-reshare-prefix-print : tie.Need-slice_bounds-print-end
+slice-reshare-prefix-print c = within c.write_listed-end.ensures.wrote
 
-slice-aggregate-print : tie.Need-slice-aggregate-print
+slice-aggregate-print : tie.Need-slice_bounds-print-end-2
 slice-aggregate-print c =
-    let written : tie.After-write-listed = search in
-    let w = written.write-listed in
+    let w = c.write_listed-end in
     sym (length-take-le w.result _ (within w.ensures.wrote))
 
 print-requires : tie.Need-print-requires
 print-requires c κs =
-    let written : tie.After-write-listed = search in
-    let start : tie.Start = search in
-    all-printed written.write-listed.ensures start.pre
+    all-printed c.write_listed-end.ensures c.requires
 
-pub list-spec : {M : Type 1} → statement M
-list-spec =
+pub list_spec : {M : Type 1} → statement M
+list_spec =
     tie.close
     (tie.spec
     (λ c κs. search rules)

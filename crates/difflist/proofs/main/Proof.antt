@@ -5,11 +5,10 @@ use lib.ListN.{length-take, length-replicate}
 use Rattle.difflist.proofs.main.Statement.{statement}
 use Rattle.difflist.proofs.main.Tie as tie
 
-list-large-requires : tie.Need-list-large-requires
+list-large-requires : tie.Need-list_large-requires
 list-large-requires c κs =
-    let came : tie.After-read-full = search in
     let l = length-replicate {A = ℕ} 16384 0 in
-    (omega (arith, came.read-full.kept.1.0, l), omega (arith, came.read-full.kept.1.0, l))
+    (omega (arith, c.read_full-size.auto.1.0, l), omega (arith, c.read_full-size.auto.1.0, l))
 
 pub main_spec : {M : Type 1} → statement M
 main_spec =

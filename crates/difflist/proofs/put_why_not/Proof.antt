@@ -5,21 +5,16 @@ use Rattle.difflist.proofs.Answers.{same-why, other-why}
 use Rattle.difflist.proofs.put_why_not.Statement.{statement}
 use Rattle.difflist.proofs.put_why_not.Tie as tie
 
-returns : tie.Need-returns
+returns : tie.Need-returns-then-not-same_head
 returns c =
-    let headed : tie.After-same-head = search in
-    let start : tie.Start = search in
-    rw (other-why start.args.older.now start.args.newer.now (sym headed.same_head.ensures ∙ not-true _ (search))) c.before.before.put-why.ensures
+    rw (other-why c.args.older.now c.args.newer.now (sym c.same_head.ensures ∙ not-true _ (search))) c.put_why.ensures
 
-returns-2 : tie.Need-returns-2
+returns-2 : tie.Need-returns
 returns-2 c =
-    let lacked : tie.After-first-lack = search in
-    let headed : tie.After-same-head = search in
-    let start : tie.Start = search in
-    rw (same-why start.args.older.now start.args.newer.now (sym headed.same_head.ensures ∙ not-false _ (search)), sym lacked.first-lack.ensures) c.before.before.put-lack.ensures
+    rw (same-why c.args.older.now c.args.newer.now (sym c.same_head.ensures ∙ not-false _ (search)), sym c.first_lack-lack.ensures) c.put_lack.ensures
 
-pub put-why-not-spec : {M : Type 1} → statement M
-put-why-not-spec =
+pub put_why_not_spec : {M : Type 1} → statement M
+put_why_not_spec =
     tie.close
     (tie.spec
     (λ c κs. search rules) (λ c κs. search rules) (λ c. search rules)

@@ -7,27 +7,24 @@ use Rattle.difflist.proofs.Words.{Spaced, spaced-none, spaced-more, spaced-all}
 use Rattle.difflist.proofs.put_words.Statement.{statement}
 use Rattle.difflist.proofs.put_words.Tie as tie
 
-abbrev invariant-loop : tie.invariant-loop
+abbrev invariant-loop : tie.invariant-loop-i
 invariant-loop out₀ at words o₀ i₀ out o i = Spaced words out₀ at out o i
 
-abbrev decreases-loop : tie.decreases-loop
+abbrev decreases-loop : tie.decreases-loop-i
 decreases-loop out₀ at words o₀ i₀ out o i = length words - i
 
-loop-again : tie.Need-loop-preserved invariant-loop decreases-loop
+loop-again : tie.Need-loop-i-preserved invariant-loop decreases-loop
 loop-again c =
-    let l : tie.At-loop invariant-loop decreases-loop = search in
-    let test : tie.In-loop invariant-loop decreases-loop = search in
-    let blank : tie.After-put-byte invariant-loop decreases-loop = search in
-    spaced-more l.loop.inv test.loop-test.taken blank.put_byte.ensures c.before.before.put-decimal.ensures
+    spaced-more c.loop-i.invariant c.loop-i-test.true c.put_byte-p.ensures c.put_decimal-o.ensures
 
-same_length : tie.Need-same-length invariant-loop decreases-loop
-same_length c = same c.before.loop.invariant.wrote
+same_length : tie.Need-shape_of-out invariant-loop decreases-loop
+same_length c = same c.loop-i.invariant.wrote
 
 returns : tie.Need-returns invariant-loop decreases-loop
-returns c = spaced-all c.before.loop.invariant c.loop-test.false
+returns c = spaced-all c.loop-i.invariant c.loop-i-test.false
 
-pub put-words-spec : {M : Type 1} → statement M
-put-words-spec =
+pub put_words_spec : {M : Type 1} → statement M
+put_words_spec =
     tie.close
     (tie.spec
     invariant-loop

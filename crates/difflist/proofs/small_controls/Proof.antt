@@ -7,5 +7,5 @@ returns : tie.Need-returns
 unfolding zeros
 returns c = refl
 
-pub small-controls-spec : {M : Type 1} → statement M
-small-controls-spec = tie.close (tie.spec returns)
+pub small_controls_spec : {M : Type 1} → statement M
+small_controls_spec = tie.close (tie.spec returns)

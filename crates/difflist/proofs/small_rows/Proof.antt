@@ -7,5 +7,5 @@ returns : tie.Need-returns
 unfolding zeros
 returns c = refl
 
-pub small-rows-spec : {M : Type 1} → statement M
-small-rows-spec = tie.close (tie.spec returns)
+pub small_rows_spec : {M : Type 1} → statement M
+small_rows_spec = tie.close (tie.spec returns)

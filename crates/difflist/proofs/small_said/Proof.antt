@@ -8,5 +8,5 @@ use Rattle.difflist.proofs.small_said.Tie as tie
 returns : tie.Need-returns
 returns c = sym (length-replicate {A = ℕ} small_said 0)
 
-pub small-said-spec : {M : Type 1} → statement M
-small-said-spec = tie.close (tie.spec returns)
+pub small_said_spec : {M : Type 1} → statement M
+small_said_spec = tie.close (tie.spec returns)

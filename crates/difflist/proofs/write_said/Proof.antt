@@ -9,103 +9,91 @@ use Rattle.difflist.proofs.write_said.Statement.{statement}
 use Rattle.difflist.proofs.write_said.Tie as tie
 
 -- ---- places, each from a later one
-differ_of : tie.After-answer-line → tie.After-differences
+differ_of : tie.After-answer_line-p → tie.After-differences-a
 differ_of c = search
 
-start_of : tie.After-differences → tie.Start
+start_of : tie.After-differences-a → tie.Start
 start_of c = search
 
-read_of : tie.After-answer-line2 → tie.After-read-blob
+read_of : tie.After-answer_line-p-2 → tie.After-read_blob-b
 read_of c = search
 
-line_of : tie.After-read-blob → tie.After-answer-line
+line_of : tie.After-read_blob-b → tie.After-answer_line-p
 line_of c = search
 
-rows_of : tie.After-answer-line → tie.After-slice-known5
+rows_of : tie.After-answer_line-p → tie.After-slice_known-5-1
 rows_of c = search
 
-controls-of : tie.After-answer-line2 → tie.After-slice-known8
+controls-of : tie.After-answer_line-p-2 → tie.After-slice_known-7-1
 controls-of c = search
 
 -- ---- the lines of the answers
-first_short : (c : tie.After-differences) → length (answer_line c.differences.result) ≤ 51
-first_short c = answer-short c.differences.result (search rules) (search rules) (search rules) (search rules)
+first_short : (c : tie.After-differences-a) → length (answer_line c.differences-a.result) ≤ 51
+first_short c = answer-short c.differences-a.result (search rules) (search rules) (search rules) (search rules)
 
-second_short : (c : tie.After-read-blob) → length (answer_line c.read-blob.result) ≤ 51
-second_short c = answer-short c.read-blob.result (search rules) (search rules) (search rules) (search rules)
+second_short : (c : tie.After-read_blob-b) → length (answer_line c.read_blob-b.result) ≤ 51
+second_short c = answer-short c.read_blob-b.result (search rules) (search rules) (search rules) (search rules)
 
-put-why-not-requires : tie.Need-put-why-not-requires
+put-why-not-requires : tie.Need-put_why_not-requires
 unfolding differ_of start_of
 put-why-not-requires c κs =
-    let line : tie.After-answer-line = search in
+    let line : tie.After-answer_line-p = search in
     let told = differ_of line in
     let a = (start_of told).args in
-    let other : tie.Then1 = search in
-    newer-formed a.older.now a.newer.now a.stream.now a.rows.now a.controls.now a.properties.now told.differences.ensures other.if1.taken
+    newer-formed a.older.now a.newer.now a.stream.now a.rows-1.now a.controls-1.now a.properties-1.now told.differences-a.ensures c.if-a-eq-NO_SUCCESSOR.true
 
-returns : tie.Need-returns
+returns : tie.Need-returns-then-a-eq-NO_SUCCESSOR
 unfolding differ_of start_of
 returns c =
-    let line : tie.After-answer-line = search in
+    let line : tie.After-answer_line-p = search in
     let told = differ_of line in
     let a = (start_of told).args in
-    let other : tie.Then1 = search in
-    let why : tie.After-put-why-not = search in
-    written-why a.older.now a.newer.now a.stream.now a.rows.now a.controls.now a.properties.now told.differences.ensures
-    line.answer-line.ensures (first_short told) other.if1.taken why.put-why-not.ensures
+    written-why a.older.now a.newer.now a.stream.now a.rows-1.now a.controls-1.now a.properties-1.now told.differences-a.ensures
+    line.answer_line-p.ensures (first_short told) c.if-a-eq-NO_SUCCESSOR.true c.put_why_not.ensures
 
-returns-2 : tie.Need-returns-2
+returns-2 : tie.Need-returns-then-a-ne0
 unfolding differ_of start_of
 returns-2 c =
-    let line : tie.After-answer-line = search in
+    let line : tie.After-answer_line-p = search in
     let told = differ_of line in
     let a = (start_of told).args in
-    let succeeds : tie.Else1 = search in
-    let no : tie.Then2 = search in
-    written-refused a.older.now a.newer.now a.stream.now a.rows.now a.controls.now a.properties.now told.differences.ensures
-    line.answer-line.ensures (first_short told) succeeds.if1.left no.if2.taken
+    written-refused a.older.now a.newer.now a.stream.now a.rows-1.now a.controls-1.now a.properties-1.now told.differences-a.ensures
+    line.answer_line-p.ensures (first_short told) c.if-a-eq-NO_SUCCESSOR.false c.if-a-ne0.true
 
-returns-3 : tie.Need-returns-3
+returns-3 : tie.Need-returns-then-b-ne0
 unfolding differ_of start_of read_of line_of
 returns-3 c =
-    let second : tie.After-answer-line2 = search in
+    let second : tie.After-answer_line-p-2 = search in
     let read = read_of second in
     let line = line_of read in
     let told = differ_of line in
     let a = (start_of told).args in
-    let succeeds : tie.Else1 = search in
-    let yes : tie.Else2 = search in
-    let full : tie.Then3 = search in
-    written_full a.older.now a.newer.now a.stream.now a.rows.now a.controls.now a.properties.now told.differences.ensures
-    line.answer-line.ensures (first_short told) succeeds.if1.left (omega (arith, yes.if2.left)) read.read-blob.ensures
-    second.answer-line2.ensures (second_short read) full.if3.taken
+    written_full a.older.now a.newer.now a.stream.now a.rows-1.now a.controls-1.now a.properties-1.now told.differences-a.ensures
+    line.answer_line-p.ensures (first_short told) c.if-a-eq-NO_SUCCESSOR.false (omega (arith, c.if-a-ne0.false)) read.read_blob-b.ensures
+    second.answer_line-p-2.ensures (second_short read) c.if-b-ne0.true
 
-returns-4 : tie.Need-returns-4
+returns-4 : tie.Need-returns
 unfolding differ_of start_of read_of line_of rows_of controls-of
 returns-4 c =
-    let listed : tie.After-difference-lines = search in
-    let second : tie.After-answer-line2 = search in
+    let second : tie.After-answer_line-p-2 = search in
     let read = read_of second in
     let line = line_of read in
     let told = differ_of line in
     let a = (start_of told).args in
-    let succeeds : tie.Else1 = search in
-    let yes : tie.Else2 = search in
-    let fits : tie.Else3 = search in
-    written_lines a.older.now a.newer.now a.stream.now a.rows.now a.controls.now a.properties.now told.differences.ensures
-    line.answer-line.ensures (first_short told) succeeds.if1.left (omega (arith, yes.if2.left)) read.read-blob.ensures
-    second.answer-line2.ensures (second_short read) (omega (arith, fits.if3.left))
-    (λ i. omega (arith, (rows_of line).slice-known5.given i)) (λ i. omega (arith, (controls-of second).slice-known8.given i)) listed.difference-lines.ensures
+    written_lines a.older.now a.newer.now a.stream.now a.rows-1.now a.controls-1.now a.properties-1.now told.differences-a.ensures
+    line.answer_line-p.ensures (first_short told) c.if-a-eq-NO_SUCCESSOR.false (omega (arith, c.if-a-ne0.false)) read.read_blob-b.ensures
+    second.answer_line-p-2.ensures (second_short read) (omega (arith, c.if-b-ne0.false))
+    (λ i. omega (arith, (rows_of line).slice_known-5-1.given i)) (λ i. omega (arith, (controls-of second).slice_known-7-1.given i)) c.difference_lines.ensures
 
-same-length-9 : tie.Need-same-length-9
+same-length-9 : tie.Need-shape_of-rows
 unfolding differ_of read_of line_of
 same-length-9 c =
-    let second : tie.After-answer-line2 = search in
-    let told = (differ_of (line_of (read_of second))).differences in
+    let second : tie.After-answer_line-p-2 = search in
+    let told = (differ_of (line_of (read_of second))).differences-a in
     search
 
-pub write-said-spec : {M : Type 1} → statement M
-write-said-spec =
+pub write_said_spec : {M : Type 1} → statement M
+write_said_spec =
     tie.close
     (tie.spec
     (λ c κs. search rules) (λ c κs. search rules)

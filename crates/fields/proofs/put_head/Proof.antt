@@ -5,20 +5,15 @@ use Rattle.fields.proofs.put_head.Tie as tie
 
 returns : tie.Need-returns
 returns c =
-    let code : tie.After-put-hex = search in
-    let blank-2 : tie.After-put-byte3 = search in
-    let number : tie.After-put-decimal = search in
-    let blank : tie.After-put-byte2 = search in
-    let letter : tie.After-put-byte = search in
-    letter.put_byte.ensures
-    ⨟ blank.put-byte2.ensures
-    ⨟ number.put-decimal.ensures
-    ⨟ blank-2.put-byte3.ensures
-    ⨟ code.put-hex.ensures
-    ⨟ c.before.before.put-byte4.ensures
+    c.put_byte-p.ensures
+    ⨟ c.put_byte-p-2.ensures
+    ⨟ c.put_decimal-p.ensures
+    ⨟ c.put_byte-p-3.ensures
+    ⨟ c.put_hex-p.ensures
+    ⨟ c.put_byte.ensures
 
-pub put-head-spec : {M : Type 1} → statement M
-put-head-spec =
+pub put_head_spec : {M : Type 1} → statement M
+put_head_spec =
     tie.close
     (tie.spec
     (λ c κs. search rules) (λ c κs. search rules) (λ c κs. search rules) (λ c κs. search rules) (λ c κs. search rules)

@@ -6,27 +6,23 @@ use Rattle.fields.proofs.Fields.{numbered, loose, with-name}
 use Rattle.fields.proofs.put_name_size.Statement.{statement}
 use Rattle.fields.proofs.put_name_size.Tie as tie
 
-returns : tie.Need-returns
+returns : tie.Need-returns-then-mark-eq-NAME_NUMBERED
 returns c =
-    let start : tie.Start = search in
-    let a = start.args in
-    rw (numbered a.mark a.size (part a.stream.now a.start a.size) (omega arith)) c.before.before.put_byte.ensures
+    let a = c.args in
+    rw (numbered a.mark a.size (part a.stream.now a.start a.size) (omega arith)) c.put_byte.ensures
 
-returns-2 : tie.Need-returns-2
+returns-2 : tie.Need-returns-then-mark-eq-NAME_LOOSE
 returns-2 c =
-    let start : tie.Start = search in
-    let size : tie.After-put-decimal = search in
-    let a = start.args in
-    rw (loose a.mark a.size (part a.stream.now a.start a.size) (omega arith)) (size.put-decimal.ensures ⨟ c.before.before.put-byte2.ensures)
+    let a = c.args in
+    rw (loose a.mark a.size (part a.stream.now a.start a.size) (omega arith)) (c.put_decimal-p.ensures ⨟ c.put_byte-then-mark-eq-NAME_LOOSE.ensures)
 
-returns-3 : tie.Need-returns-3
+returns-3 : tie.Need-returns
 returns-3 c =
-    let start : tie.Start = search in
-    let a = start.args in
-    rw (with-name a.mark a.size (part a.stream.now a.start a.size) (λ e. omega arith) (λ e. omega arith)) c.before.before.put-characters.ensures
+    let a = c.args in
+    rw (with-name a.mark a.size (part a.stream.now a.start a.size) (λ e. omega arith) (λ e. omega arith)) c.put_characters.ensures
 
-pub put-name-size-spec : {M : Type 1} → statement M
-put-name-size-spec =
+pub put_name_size_spec : {M : Type 1} → statement M
+put_name_size_spec =
     tie.close
     (tie.spec
     (λ c κs. search rules) (λ c. search rules)

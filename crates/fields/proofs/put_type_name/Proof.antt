@@ -5,18 +5,16 @@ use Rattle.fields.proofs.Tables.{control-types, dash}
 use Rattle.fields.proofs.put_type_name.Statement.{statement}
 use Rattle.fields.proofs.put_type_name.Tie as tie
 
-returns : tie.Need-returns
+returns : tie.Need-returns-then-code-gt65535
 returns c =
-    let start : tie.Start = search in
-    rw (dash control_type_names control-types start.args.code (omega arith)) c.before.before.put_byte.ensures
+    rw (dash control_type_names control-types c.args.code (omega arith)) c.put_byte.ensures
 
-returns-2 : tie.Need-returns-2
+returns-2 : tie.Need-returns
 returns-2 c =
-    let after-type-name-in : tie.After-type-name-in = search in
-    rw after-type-name-in.type-name-in.ensures at c.before.before.put-name.ensures
+    rw c.type_name_in.ensures at c.put_name.ensures
 
-pub put-type-name-spec : {M : Type 1} → statement M
-put-type-name-spec =
+pub put_type_name_spec : {M : Type 1} → statement M
+put_type_name_spec =
     tie.close
     (tie.spec
     (λ c κs. search rules) (λ c. search rules)

@@ -5,19 +5,17 @@ use Rattle.fields.proofs.Tables.{values, dash}
 use Rattle.fields.proofs.put_value_name.Statement.{statement}
 use Rattle.fields.proofs.put_value_name.Tie as tie
 
-returns : tie.Need-returns
+returns : tie.Need-returns-then-id-gt65535
 returns c =
-    let start : tie.Start = search in
-    let a = start.args in
-    rw (dash (names_for a.mark) (values a.mark) a.id (omega arith)) c.before.before.put_byte.ensures
+    let a = c.args in
+    rw (dash (names_for a.mark) (values a.mark) a.id (omega arith)) c.put_byte.ensures
 
-returns-2 : tie.Need-returns-2
+returns-2 : tie.Need-returns
 returns-2 c =
-    let after-value-name-in : tie.After-value-name-in = search in
-    rw after-value-name-in.value-name-in.ensures at c.before.before.put-name.ensures
+    rw c.value_name_in.ensures at c.put_name.ensures
 
-pub put-value-name-spec : {M : Type 1} → statement M
-put-value-name-spec =
+pub put_value_name_spec : {M : Type 1} → statement M
+put_value_name_spec =
     tie.close
     (tie.spec
     (λ c κs. search rules) (λ c. search rules)

@@ -5,41 +5,39 @@ use Rattle.form2000.proofs.read.Statement.{statement}
 use Rattle.form2000.proofs.read.Tie as tie
 
 -- ---- places, each from a later one
-abbrev all_of : tie.After-judge → tie.After-all
+abbrev all_of : tie.After-judge-a → tie.In-Of
 all_of c = search
 
-abbrev start_of : tie.After-all → tie.Start
+abbrev start_of : tie.In-Of → tie.Start
 start_of c = search
 
-returns : tie.Need-returns
-returns c = read_bad _ _ _ _ c.before.before.before.count.ensures c.before.enum_told.given.1 c.counted.ensures
+returns : tie.Need-returns-in_default
+returns c = read_bad _ _ _ _ c.count.ensures c.in_default.is c.counted.ensures
 
-judge-requires : tie.Need-judge-requires
+judge-requires : tie.Need-judge-a-requires
 judge-requires c κs =
-    let all : tie.After-all = search in
+    let all : tie.In-Of = search in
     let start = start_of all in
     let a = start.args in
-    counts-small a.table.now _ all.before.before.count.ensures all.all.given.1 start.pre.small
+    counts-small a.table.now _ all.count.ensures all.in-Of.is start.requires.small
 
-returns-2 : tie.Need-returns-2
+returns-2 : tie.Need-returns-then-a-ne0
 returns-2 c =
     let judged = c.before.before in
     let all = all_of judged in
-    read-refused _ _ _ _ all.before.before.count.ensures all.all.given.1 judged.judge.ensures c.if1.true
+    read-refused _ _ _ _ all.count.ensures all.in-Of.is judged.judge-a.ensures c.if-a-ne0.true
 
 write-requires : tie.Need-write-requires
 write-requires c κs =
-    let judged : tie.After-judge = search in
+    let judged : tie.After-judge-a = search in
     let all = all_of judged in
-    read-ready _ _ _ _ all.before.before.count.ensures all.all.given.1 judged.judge.ensures c.before.before.if1.false (start_of all).pre
+    read-ready _ _ _ _ all.count.ensures all.in-Of.is judged.judge-a.ensures c.if-a-ne0.false (start_of all).pre
 
-returns-3 : tie.Need-returns-3
+returns-3 : tie.Need-returns
 returns-3 c =
-    let wrote : tie.After-write = search in
-    let else1 : tie.Else1 = search in
-    let judged : tie.After-judge = search in
+    let judged : tie.After-judge-a = search in
     let all = all_of judged in
-    read_done _ _ _ _ all.before.before.count.ensures all.all.given.1 judged.judge.ensures else1.if1.left wrote.write.ensures
+    read_done _ _ _ _ all.count.ensures all.in-Of.is judged.judge-a.ensures c.if-a-ne0.false c.write.ensures
 
 pub read_spec : {M : Type 1} → statement M
 read_spec =

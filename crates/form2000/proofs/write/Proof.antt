@@ -9,70 +9,69 @@ use Rattle.form2000.proofs.write.Statement.{statement}
 use Rattle.form2000.proofs.write.Tie as tie
 
 -- ---- places, each from a later one
-abbrev head_of : tie.After-count → tie.After-head
+abbrev head_of : tie.In-Listed → tie.After-head
 head_of c = search
 
-abbrev ran-of : tie.After-head → tie.After-properties
+abbrev ran-of : tie.After-head → tie.After-properties-own
 ran-of c = search
 
-abbrev scope_of : tie.After-properties → tie.After-find-scope
+abbrev scope_of : tie.After-properties-own → tie.After-find_scope-body
 scope_of c = search
 
-abbrev listed_of : tie.After-find-scope → tie.After-list-scopes
+abbrev listed_of : tie.After-find_scope-body → tie.After-list_scopes
 listed_of c = search
 
-abbrev start_of : tie.After-find-scope → tie.Start
+abbrev start_of : tie.After-find_scope-body → tie.Start
 start_of c = search
 
-abbrev bytes_of : tie.After-find-scope → tie.After-shared-slice-known2
+abbrev bytes_of : tie.After-find_scope-body → tie.After-shared_slice_known-2-1
 bytes_of c = search
 
 -- the rows that were found are the object's scope's
-found : (c : tie.After-find-scope) → Finds (start_of c).args.table.now c.before.object-scope.result 0 c.find-scope.result
-found c = c.find-scope.ensures (listed_of c).list-scopes.ensures
+found : (c : tie.After-find_scope-body) → Finds (start_of c).args.table.now c.object_scope.result 0 c.find_scope-body.result
+found c = c.find_scope-body.ensures (listed_of c).list_scopes.ensures
 
-properties-requires : tie.Need-properties-requires
+properties-requires : tie.Need-properties-own-requires
 properties-requires c κs =
-    let scope : tie.After-find-scope = search in
-    own-ready (start_of scope).pre scope.before.object-scope.ensures (found scope)
+    let scope : tie.After-find_scope-body = search in
+    own-ready (start_of scope).pre scope.object_scope.ensures (found scope)
 
-cast-put-top : tie.Need-overflow-cast-put-top
+cast-put-top : tie.Need-overflow_cast-count
 cast-put-top c =
-    let listed : tie.After-count = search in
+    let listed : tie.In-Listed = search in
     let headed = head_of listed in
     let bytes = bytes_of (scope_of (ran-of headed)) in
-    omega (arith, count_small _ (λ i. (bytes.shared-slice-known2.given i).fits) _ _ _ (opens_listed _ _ _ _ headed.head.ensures listed.count.given.1))
+    omega (arith, count_small _ (λ i. (bytes.shared_slice_known-2-1.given i).fits) _ _ _ (opens_listed _ _ _ _ headed.head.ensures listed.in-Listed.is))
 
-put-top-requires : tie.Need-put-top-requires
+put-top-requires : tie.Need-put_top-requires
 put-top-requires c κs =
-    let listed : tie.After-count = search in
+    let listed : tie.In-Listed = search in
     let headed = head_of listed in
     let ran = ran-of headed in
     let scope = scope_of ran in
-    top_ready (start_of scope).pre scope.before.object-scope.ensures (found scope) ran.properties.ensures headed.head.ensures listed.count.given.1 (listed_of scope).list-scopes.ensures
+    top_ready (start_of scope).pre scope.object_scope.ensures (found scope) ran.properties-own.ensures headed.head.ensures listed.in-Listed.is (listed_of scope).list_scopes.ensures
 
-returns : tie.Need-returns
+returns : tie.Need-returns-in-Listed
 returns c =
-    let put : tie.After-put-top = search in
-    let listed : tie.After-count = search in
+    let listed : tie.In-Listed = search in
     let headed = head_of listed in
     let ran = ran-of headed in
     let scope = scope_of ran in
-    top-done (start_of scope).pre scope.before.object-scope.ensures (found scope) ran.properties.ensures headed.head.ensures listed.count.given.1 put.put-top.ensures
+    top-done (start_of scope).pre scope.object_scope.ensures (found scope) ran.properties-own.ensures headed.head.ensures listed.in-Listed.is c.put_top.ensures
 
-returns-2 : tie.Need-returns-2
+returns-2 : tie.Need-returns-in-Plain
 returns-2 c =
     let headed = c.before.before in
     let ran = ran-of headed in
     let scope = scope_of ran in
-    absurd (never-plain (is (start_of scope).pre) (own-end (start_of scope).pre scope.before.object-scope.ensures (found scope) ran.properties.ensures) headed.head.ensures c.enum_told.given.1)
+    absurd (never-plain (is (start_of scope).pre) (own-end (start_of scope).pre scope.object_scope.ensures (found scope) ran.properties-own.ensures) headed.head.ensures c.in-Plain.is)
 
-returns-3 : tie.Need-returns-3
+returns-3 : tie.Need-returns-in-Bad
 returns-3 c =
     let headed = c.before.before in
     let ran = ran-of headed in
     let scope = scope_of ran in
-    absurd (never_bad (is (start_of scope).pre) (own-end (start_of scope).pre scope.before.object-scope.ensures (found scope) ran.properties.ensures) headed.head.ensures c.enum-told2.given.1)
+    absurd (never_bad (is (start_of scope).pre) (own-end (start_of scope).pre scope.object_scope.ensures (found scope) ran.properties-own.ensures) headed.head.ensures c.in-Bad.is)
 
 pub write_spec : {M : Type 1} → statement M
 write_spec =

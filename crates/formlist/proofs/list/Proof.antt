@@ -7,23 +7,20 @@ use Rattle.formlist.proofs.Printing.{all-printed}
 use Rattle.formlist.proofs.list.Statement.{statement}
 use Rattle.formlist.proofs.list.Tie as tie
 
-slice-reshare-prefix-print : tie.Need-slice-reshare-prefix-print
-slice-reshare-prefix-print c = within c.before.before.write-form-listing.ensures.wrote
+slice-reshare-prefix-print : tie.Need-slice_bounds-print-end
+slice-reshare-prefix-print c = within c.write_form_listing-end.ensures.wrote
 
-slice-aggregate-print : tie.Need-slice-aggregate-print
-slice-aggregate-print c = let w = c.before.before.before.write-form-listing in sym (length-take-le w.result _ (within w.ensures.wrote))
+slice-aggregate-print : tie.Need-slice_bounds-print-end-2
+slice-aggregate-print c = let w = c.write_form_listing-end in sym (length-take-le w.result _ (within w.ensures.wrote))
 
 print-requires : tie.Need-print-requires
 print-requires c κs =
-    let asked : tie.After-has-more = search in
-    let read : tie.After-read-full = search in
-    let start : tie.Start = search in
-    let room = start.pre.1 in
-    let r = read.read-full in
-    all-printed c.before.before.before.write-form-listing.ensures room.for_lines λ e. omega (arith, asked.Has-more.ensures e, r.ensures.1, r.kept, room.for_input)
+    let room = c.requires.1 in
+    let r = c.read_full-size in
+    all-printed c.write_form_listing-end.ensures room.for_lines λ e. omega (arith, c.has_more-more.ensures e, r.ensures.1, r.kept, room.for_input)
 
-pub list-spec : {M : Type 1} → statement M
-list-spec =
+pub list_spec : {M : Type 1} → statement M
+list_spec =
     tie.close
     (tie.spec
     (λ c κs. search rules) (λ c κs. search rules) (λ c. search rules) (λ c. search rules) (λ c κs. search rules)

@@ -8,9 +8,8 @@ use Rattle.formlist.proofs.main.Tie as tie
 
 list-requires : tie.Need-list-requires
 list-requires c κs =
-    let spelled : tie.After-letters = search in
-    let indexed : tie.After-index = search in (
-      record { index_is = indexed.index.ensures; letters-are = spelled.letters.ensures },
+    (
+      record { index_is = c.index-index.ensures; letters-are = c.letters-letters.ensures },
       record { for_input = length-replicate {A = ℕ} 32768 0; for_lines = simp length-replicate (omega (arith, bound)) },
     )
 

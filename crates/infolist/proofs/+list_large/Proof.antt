@@ -53,40 +53,40 @@ list-large-calls t = (
 
 module _ (t : ℕ) where
   refuse-requires : list-large-lts.Need-refuse-requires (list-large-calls t) (list-large-at t) list-large.Post
-  refuse-requires c κs = c.before.before.requires.1 c.if1.true
+  refuse-requires c κs = c.before.before.requires.1 c.if-more.true
 
-  slice-aggregate-again : list-large-lts.Need-slice-aggregate-list-large (list-large-calls t) (list-large-at t) list-large.Post
+  slice-aggregate-again : list-large-lts.Need-slice_bounds-list_large-end (list-large-calls t) (list-large-at t) list-large.Post
   slice-aggregate-again c =
-      let filled : list-large-lts.After-fill (list-large-calls t) (list-large-at t) list-large.Post = search in
-      let space : list-large-lts.After-large-stream (list-large-calls t) (list-large-at t) list-large.Post = search in
-      space.large-stream.ensures ∙ sym filled.fill.kept.0
+      let filled : list-large-lts.After-fill-size (list-large-calls t) (list-large-at t) list-large.Post = search in
+      let space : list-large-lts.After-large_stream-space (list-large-calls t) (list-large-at t) list-large.Post = search in
+      space.large_stream-space.ensures ∙ sym filled.fill-size.auto.0
 
-  again-requires : list-large-lts.Need-list-large-requires (list-large-calls t) (list-large-at t) list-large.Post
+  again-requires : list-large-lts.Need-list_large-requires (list-large-calls t) (list-large-at t) list-large.Post
   again-requires c κs =
-      let filled : list-large-lts.After-fill (list-large-calls t) (list-large-at t) list-large.Post = search in
-      let space : list-large-lts.After-large-stream (list-large-calls t) (list-large-at t) list-large.Post = search in
-      let first : list-large-lts.Else1 (list-large-calls t) (list-large-at t) list-large.Post = search in
+      let filled : list-large-lts.After-fill-size (list-large-calls t) (list-large-at t) list-large.Post = search in
+      let space : list-large-lts.After-large_stream-space (list-large-calls t) (list-large-at t) list-large.Post = search in
+      let first : list-large-lts.Else-more (list-large-calls t) (list-large-at t) list-large.Post = search in
       let start : list-large-lts.Start (list-large-calls t) (list-large-at t) list-large.Post = search in
-      (once start.args.more start.pre.0 first.if1.left, λ _. omega (arith, space.large-stream.ensures, filled.fill.kept.0))
+      (once start.args.more start.requires.0 first.if-more.false, λ _. omega (arith, space.large_stream-space.ensures, filled.fill-size.auto.0))
 
-  array-share-prefix-space : list-large-lts.Need-array-share-prefix-space (list-large-calls t) (list-large-at t) list-large.Post
-  array-share-prefix-space c = let f = c.before.before.before.fill in inside f.ensures f.auto.0
+  array-share-prefix-space : list-large-lts.Need-slice_bounds-space-end (list-large-calls t) (list-large-at t) list-large.Post
+  array-share-prefix-space c = let f = c.fill-size in inside f.ensures f.auto.0
 
-  slice-aggregate-list : list-large-lts.Need-slice-aggregate-list (list-large-calls t) (list-large-at t) list-large.Post
+  slice-aggregate-list : list-large-lts.Need-slice_bounds-list-end (list-large-calls t) (list-large-at t) list-large.Post
   slice-aggregate-list c =
-      let filled : list-large-lts.After-fill (list-large-calls t) (list-large-at t) list-large.Post = search in
-      part-size filled.fill.ensures filled.fill.kept.0
+      let filled : list-large-lts.After-fill-size (list-large-calls t) (list-large-at t) list-large.Post = search in
+      part-size filled.fill-size.ensures filled.fill-size.auto.0
 
   list-requires : list-large-lts.Need-list-requires (list-large-calls t) (list-large-at t) list-large.Post
   list-requires c κs =
-      let filled : list-large-lts.After-fill (list-large-calls t) (list-large-at t) list-large.Post = search in
-      let lines : list-large-lts.After-large-lines (list-large-calls t) (list-large-at t) list-large.Post = search in
-      let rows : list-large-lts.After-large-rows (list-large-calls t) (list-large-at t) list-large.Post = search in
-      let space : list-large-lts.After-large-stream (list-large-calls t) (list-large-at t) list-large.Post = search in
-      roomy 4194304 (omega arith) (part-short filled.fill.ensures filled.fill.kept.0 space.large-stream.ensures) (omega (arith, rows.large-rows.ensures)) (omega (arith, lines.large-lines.ensures))
+      let filled : list-large-lts.After-fill-size (list-large-calls t) (list-large-at t) list-large.Post = search in
+      let lines : list-large-lts.After-large_lines-out (list-large-calls t) (list-large-at t) list-large.Post = search in
+      let rows : list-large-lts.After-large_rows-rows (list-large-calls t) (list-large-at t) list-large.Post = search in
+      let space : list-large-lts.After-large_stream-space (list-large-calls t) (list-large-at t) list-large.Post = search in
+      roomy 4194304 (omega arith) (part-short filled.fill-size.ensures filled.fill-size.auto.0 space.large_stream-space.ensures) (omega (arith, rows.large_rows-rows.ensures)) (omega (arith, lines.large_lines-out.ensures))
 
-pub +list-large-spec : {M : Type 1} → statement M
-+list-large-spec = close μ-list-large λ t. list-large-lts.spec (list-large-calls t)
+pub +list_large_spec : {M : Type 1} → statement M
++list_large_spec = close μ-list-large λ t. list-large-lts.spec (list-large-calls t)
     (list-large-at t)
     list-large.Post
     (refuse-requires t)

@@ -8,5 +8,5 @@ use Rattle.infolist.proofs.large_rows.Tie as tie
 returns : tie.Need-returns
 returns c = sym (length-replicate {A = ℕ} (524284 * type_info_width) 0)
 
-pub large-rows-spec : {M : Type 1} → statement M
-large-rows-spec = tie.close (tie.spec returns)
+pub large_rows_spec : {M : Type 1} → statement M
+large_rows_spec = tie.close (tie.spec returns)

@@ -7,5 +7,5 @@ use Rattle.infolist.proofs.large_stream.Tie as tie
 returns : tie.Need-returns
 returns c = sym (length-replicate {A = ℕ} 4194304 0)
 
-pub large-stream-spec : {M : Type 1} → statement M
-large-stream-spec = tie.close (tie.spec returns)
+pub large_stream_spec : {M : Type 1} → statement M
+large_stream_spec = tie.close (tie.spec returns)

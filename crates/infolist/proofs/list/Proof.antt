@@ -7,24 +7,20 @@ use Rattle.infolist.proofs.Printing.{all-printed}
 use Rattle.infolist.proofs.list.Statement.{statement}
 use Rattle.infolist.proofs.list.Tie as tie
 
-slice-reshare-prefix-print : tie.Need-slice-reshare-prefix-print
-slice-reshare-prefix-print c = let written : tie.After-write-infos = search in within written.write-infos.ensures
+slice-reshare-prefix-print : tie.Need-slice_bounds-print-end
+slice-reshare-prefix-print c = within c.write_infos-end.ensures
 
-slice-aggregate-print : tie.Need-slice-aggregate-print
+slice-aggregate-print : tie.Need-slice_bounds-print-end-2
 slice-aggregate-print c =
-    let written : tie.After-write-infos = search in
-    let w = written.write-infos in
+    let w = c.write_infos-end in
     sym (length-take-le w.result _ (within w.ensures))
 
 print-requires : tie.Need-print-requires
 print-requires c κs =
-    let written : tie.After-write-infos = search in
-    let known : tie.After-shared-slice-known = search in
-    let start : tie.Start = search in
-    all-printed written.write-infos.ensures (λ i. omega (arith, known.shared-slice-known.given i)) start.pre
+    all-printed c.write_infos-end.ensures (λ i. omega (arith, c.shared_slice_known-1.given i)) c.requires
 
-pub list-spec : {M : Type 1} → statement M
-list-spec =
+pub list_spec : {M : Type 1} → statement M
+list_spec =
     tie.close
     (tie.spec
     (λ c κs. search rules) (λ c κs. search rules) (λ c. search rules) (λ c. search rules) (λ c κs. search rules)

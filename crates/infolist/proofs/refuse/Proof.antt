@@ -10,12 +10,12 @@ use Rattle.infolines.proofs.Printed.{too_long}
 use Rattle.infolist.proofs.refuse.Statement.{statement}
 use Rattle.infolist.proofs.refuse.Tie as tie
 
-pub refuse-spec : {M : Type 1} → statement M
-refuse-spec =
+pub refuse_spec : {M : Type 1} → statement M
+refuse_spec =
     tie.close
     (tie.spec
     (λ c. search rules) (λ c κs. search rules)
-    (λ c. let w = c.before.refusal-line in omega (arith, within w.ensures, w.auto.0, length-replicate {A = ℕ} 64 0))
-    (λ c. sym (length-take-le _ _ (within c.before.before.refusal-line.ensures)))
-    (λ c κs. let start : tie.Start = search in refusal-printed too_long c.before.before.refusal-line.ensures (simp length-replicate (omega arith)) start.pre)
+    (λ c. let w = c.refusal_line-end in omega (arith, within w.ensures, w.auto.0, length-replicate {A = ℕ} 64 0))
+    (λ c. sym (length-take-le _ _ (within c.refusal_line-end.ensures)))
+    (λ c κs. let start : tie.Start = search in refusal-printed too_long c.refusal_line-end.ensures (simp length-replicate (omega arith)) start.requires)
     (λ c. search rules))

@@ -7,17 +7,16 @@ use Rattle.inputs.proofs.Came.{filled}
 use Rattle.inputs.proofs.fill.Statement.{statement}
 use Rattle.inputs.proofs.fill.Tie as tie
 
-sub-read-full : tie.Need-overflow-sub-read-full
-sub-read-full c = within c.before.before.put-text.ensures
+sub-read-full : tie.Need-slice_bounds-read_full-count
+sub-read-full c = within c.put_text-at.ensures
 
-part-read-full-start : tie.Need-slice-bounds-read-full-start
-part-read-full-start c = let h = within c.before.before.put-text.ensures in search rules
+part-read-full-start : tie.Need-slice_bounds-read_full-start
+part-read-full-start c = let h = within c.put_text-at.ensures in search rules
 
 returns : tie.Need-returns
 returns c =
-    let after-put-text : tie.After-put-text = search in
-    let p = after-put-text.put-text in
-    let r = c.before.before.read-full in
+    let p = c.put_text-at in
+    let r = c.read_full in
     filled p.ensures (length p.last.0 - p.result) r.new.1.0 r.result (omega (arith, within p.ensures))
 
 pub fill_spec : {M : Type 1} → statement M

@@ -6,34 +6,31 @@ use Rattle.join.proofs.RowLaws.{CountedTo, counted_none, counted-few, counted-al
 use Rattle.join.proofs.count_rows.Statement.{statement}
 use Rattle.join.proofs.count_rows.Tie as tie
 
-abbrev invariant-loop : tie.invariant-loop
+abbrev invariant-loop : tie.invariant-loop-a
 invariant-loop one other a₀ b₀ rows₀ a b rows = CountedTo one a₀ other b₀ a b rows
 
-abbrev decreases-loop : tie.decreases-loop
+abbrev decreases-loop : tie.decreases-loop-a
 decreases-loop one other a₀ b₀ rows₀ a b rows = a.left + b.left
 
-returns : tie.Need-returns invariant-loop decreases-loop
+returns : tie.Need-returns-then-not-turn invariant-loop decreases-loop
 returns c =
-    let top : tie.At-loop invariant-loop decreases-loop = search in
-    sym (counted_clash top.loop.inv c.before.before.row-turn.ensures (not-true _ c.if2.true))
+    sym (counted_clash c.loop-a.invariant c.row_turn-turn.ensures (not-true _ c.if-not-turn.true))
 
-loop-again : tie.Need-loop-preserved invariant-loop decreases-loop
+loop-again : tie.Need-loop-a-preserved invariant-loop decreases-loop
 loop-again c =
-    let row-turn : tie.After-row-turn invariant-loop decreases-loop = search in
-    let top : tie.At-loop invariant-loop decreases-loop = search in
-    counted_next top.loop.inv row-turn.row-turn.ensures (not-false _ c.before.before.if2.false)
+    counted_next c.loop-a.invariant c.row_turn-turn.ensures (not-false _ c.if-not-turn.false)
 
-pub count-rows-spec : {M : Type 1} → statement M
-count-rows-spec =
+pub count_rows_spec : {M : Type 1} → statement M
+count_rows_spec =
     tie.close
     (tie.spec
     invariant-loop
     decreases-loop
     (λ c. counted_none c.before.before.requires)
-    (λ c. let w = c.before.before.loop.invariant.walks in omega (arith, w.one_walk.few, w.other_walk.few))
-    (λ c κs. record { walks = c.before.before.before.loop.invariant.walks; more = c.if1.true })
+    (λ c. let w = c.loop-a.invariant.walks in omega (arith, w.one_walk.few, w.other_walk.few))
+    (λ c κs. record { walks = c.loop-a.invariant.walks; more = c.loop-a-test.true })
     returns
-    (λ c. let top : tie.At-loop invariant-loop decreases-loop = search in omega (arith, counted-few top.loop.inv))
-    (λ c. let row-turn : tie.After-row-turn invariant-loop decreases-loop = search in row-turn.row-turn.ensures.fewer)
+    (λ c. let top : tie.At-loop-a invariant-loop decreases-loop = search in omega (arith, counted-few top.loop-a.invariant))
+    (λ c. let row-turn : tie.After-row_turn-turn invariant-loop decreases-loop = search in row-turn.row_turn-turn.ensures.fewer)
     loop-again
-    (λ c. sym (counted-all c.before.before.before.loop.invariant (omega arith))))
+    (λ c. sym (counted-all c.loop-a.invariant (omega arith))))

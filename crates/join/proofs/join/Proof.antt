@@ -14,104 +14,93 @@ use Rattle.join.proofs.join.Statement.{statement}
 use Rattle.join.proofs.join.Tie as tie
 
 -- ---- what is known past the tests
-one-formed : (c : tie.Else1) →
+one-formed : (c : tie.Else-not-well_formed) →
     let start : tie.Start = search in
     well_formed_lem start.args.one.now ≡ true
-one-formed c = sym c.before.well-formed.ensures ∙ not-false _ c.if1.left
+one-formed c = sym c.well_formed-2.ensures ∙ not-false _ c.if-not-well_formed.false-raw
 
-formed : (c : tie.Else2) →
+formed : (c : tie.Else-not-well_formed-2) →
     let start : tie.Start = search in
     Formed start.args.one.now start.args.other.now
-formed c = record { one-formed = one-formed c.before.before; other-formed = sym c.before.well-formed2.ensures ∙ not-false _ c.if2.left }
+formed c = record { one-formed = one-formed c.before.before; other-formed = sym c.well_formed-3.ensures ∙ not-false _ c.if-not-well_formed-2.false-raw }
 
-counted : (c : tie.After-count-scopes) →
+counted : (c : tie.After-count_scopes-sized) →
     let start : tie.Start = search in
-    Counted start.args.one.now start.args.other.now c.count-scopes.result
+    Counted start.args.one.now start.args.other.now c.count_scopes-sized.result
 counted c =
-    let else2 : tie.Else2 = search in
-    let else3 : tie.Else3 = search in
-    record { formed = formed else2; heads = sym else3.before.same_head.ensures ∙ not-false _ else3.if3.left; sizes = c.count-scopes.ensures }
+    let else2 : tie.Else-not-well_formed-2 = search in
+    let else3 : tie.Else-not-same_head = search in
+    record { formed = formed else2; heads = sym else3.same_head.ensures ∙ not-false _ else3.if-not-same_head.false-raw; sizes = c.count_scopes-sized.ensures }
 
-passed : (c : tie.Else4) →
+passed : (c : tie.Else-not-sized) →
     let start : tie.Start = search in
-    Passed start.args.one.now start.args.other.now c.before.before.count-scopes.result
-passed c = record { counted = counted c.before.before; agreed = not-false _ c.if4.left }
+    Passed start.args.one.now start.args.other.now c.count_scopes-sized.result
+passed c = record { counted = counted c.before.before; agreed = not-false _ c.if-not-sized.false }
 
 -- ---- the answers
-returns : tie.Need-returns
-returns c = shown (exit-first _ _ (sym c.before.before.well-formed.ensures ∙ not-true _ c.before.if1.taken)) c.refused.ensures
+returns : tie.Need-returns-then-not-well_formed
+returns c = shown (exit-first _ _ (sym c.well_formed-2.ensures ∙ not-true _ c.if-not-well_formed.true-raw)) c.refused.ensures
 
-returns-2 : tie.Need-returns-2
+returns-2 : tie.Need-returns-then-not-well_formed-2
 returns-2 c =
-    let else1 : tie.Else1 = search in
-    shown (exit-second _ _ (one-formed else1) (sym c.before.before.well-formed2.ensures ∙ not-true _ c.before.if2.taken)) c.refused2.ensures
+    let else1 : tie.Else-not-well_formed = search in
+    shown (exit-second _ _ (one-formed else1) (sym c.well_formed-3.ensures ∙ not-true _ c.if-not-well_formed-2.true-raw)) c.refused-then-not-well_formed-2.ensures
 
-returns-3 : tie.Need-returns-3
+returns-3 : tie.Need-returns-then-not-same_head
 returns-3 c =
-    let else2 : tie.Else2 = search in
-    shown (exit_heads (formed else2) (sym c.before.before.same_head.ensures ∙ not-true _ c.before.if3.taken)) c.refused3.ensures
+    let else2 : tie.Else-not-well_formed-2 = search in
+    shown (exit_heads (formed else2) (sym c.same_head.ensures ∙ not-true _ c.if-not-same_head.true-raw)) c.refused-then-not-same_head.ensures
 
-count-scopes-requires : tie.Need-count-scopes-requires
+count-scopes-requires : tie.Need-count_scopes-sized-requires
 count-scopes-requires c κs =
-    let else2 : tie.Else2 = search in
+    let else2 : tie.Else-not-well_formed-2 = search in
     formed else2
 
-returns-4 : tie.Need-returns-4
-returns-4 c = shown (exit_clash (counted c.before.before.before) (not-true _ c.before.if4.taken)) c.refused4.ensures
+returns-4 : tie.Need-returns-then-not-sized
+returns-4 c = shown (exit_clash (counted c.before.before.before) (not-true _ c.if-not-sized.true)) c.refused-then-not-sized.ensures
 
-returns-5 : tie.Need-returns-5
-returns-5 c = shown (exit-many (passed c.before.before.before) (omega (arith, c.before.if5.taken))) c.refused5.ensures
+returns-5 : tie.Need-returns-then-sized-gt-MOST_SCOPES
+returns-5 c = shown (exit-many (passed c.before.before.before) (omega (arith, c.if-sized-gt-MOST_SCOPES.true))) c.refused-then-sized-gt-MOST_SCOPES.ensures
 
-add-size-3 : tie.Need-add-size-3
+add-size-3 : tie.Need-overflow_add-size-3
 add-size-3 c =
-    let else5 : tie.Else5 = search in
-    let else4 : tie.Else4 = search in
-    omega (arith, rows_few (passed else4), c.before.before.byte-number.ensures.small, else5.if5.left)
+    let else4 : tie.Else-not-sized = search in
+    omega (arith, rows_few (passed else4), c.byte_number.ensures.small, c.if-sized-gt-MOST_SCOPES.false)
 
-returns-6 : tie.Need-returns-6
+returns-6 : tie.Need-returns-then-out-size
 returns-6 c =
-    let after-byte-number : tie.After-byte-number = search in
-    let else5 : tie.Else5 = search in
-    let else4 : tie.Else4 = search in
+    let else4 : tie.Else-not-sized = search in
     let p = passed else4 in
-    let l = size_is p after-byte-number.byte-number.ensures.is in
-    shown (exit-text p _ (omega (arith, else5.if5.left)) ∙ no-room-exit _ _ (omega (arith, l, c.before.if6.taken))) c.refused6.ensures
+    let l = size_is p c.byte_number.ensures.is in
+    shown (exit-text p _ (omega (arith, c.if-sized-gt-MOST_SCOPES.false)) ∙ no-room-exit _ _ (omega (arith, l, c.if-out-size.true))) c.refused-then-out-size.ensures
 
-put-contents-requires : tie.Need-put-contents-requires
+put-contents-requires : tie.Need-put_contents-at-requires
 put-contents-requires c κs =
-    let else4 : tie.Else4 = search in
+    let else4 : tie.Else-not-sized = search in
     tables_agree (passed else4)
 
-put-bodies-requires : tie.Need-put-bodies-requires
+put-bodies-requires : tie.Need-put_bodies-requires
 put-bodies-requires c κs =
-    let else4 : tie.Else4 = search in
+    let else4 : tie.Else-not-sized = search in
     (passed else4).counted.formed
 
-cast-wrote : tie.Need-cast-wrote
+cast-wrote : tie.Need-overflow_cast-size
 cast-wrote c =
-    let after-byte-number : tie.After-byte-number = search in
-    let else5 : tie.Else5 = search in
-    let else4 : tie.Else4 = search in
-    omega (arith, rows_few (passed else4), after-byte-number.byte-number.ensures.small, else5.if5.left)
+    let else4 : tie.Else-not-sized = search in
+    omega (arith, rows_few (passed else4), c.byte_number.ensures.small, c.if-sized-gt-MOST_SCOPES.false)
 
-returns-7 : tie.Need-returns-7
+returns-7 : tie.Need-returns
 returns-7 c =
-    let after-put-bodies : tie.After-put-bodies = search in
-    let after-put-contents : tie.After-put-contents = search in
-    let after-put-head : tie.After-put-head = search in
-    let else6 : tie.Else6 = search in
-    let after-byte-number : tie.After-byte-number = search in
-    let else5 : tie.Else5 = search in
-    let else4 : tie.Else4 = search in
+    let else4 : tie.Else-not-sized = search in
     let p = passed else4 in
-    let l = size_is p after-byte-number.byte-number.ensures.is in
-    let w = wrote_as (after-put-head.put-head.ensures ⨟ after-put-contents.put-contents.ensures ⨟ after-put-bodies.put-bodies.ensures) (parts_are p) in
+    let l = size_is p c.byte_number.ensures.is in
+    let w = wrote_as (c.put_head-at.ensures ⨟ c.put_contents-at.ensures ⨟ c.put_bodies.ensures) (parts_are p) in
     shown
-    (exit-text p _ (omega (arith, else5.if5.left)) ∙ room-exit _ _ w (omega (arith, l, else6.if6.left)))
+    (exit-text p _ (omega (arith, c.if-sized-gt-MOST_SCOPES.false)) ∙ room-exit _ _ w (omega (arith, l, c.if-out-size.false)))
     (c.wrote.ensures ∙ ap (λ (n : ℕ). answer 0 n 0 0) l)
 
-pub join-spec : {M : Type 1} → statement M
-join-spec =
+pub join_spec : {M : Type 1} → statement M
+join_spec =
     tie.close
     (tie.spec
     (λ c κs. search rules) (λ c κs. search rules)
@@ -126,7 +115,7 @@ join-spec =
     (λ c κs. search rules)
     returns-5
     (λ c κs. search rules) (λ c. search rules) (λ c. search rules) (λ c. search rules) (λ c. search rules)
-    (λ c. let else4 : tie.Else4 = search in omega (arith, rows_few (passed else4)))
+    (λ c. let else4 : tie.Else-not-sized = search in omega (arith, rows_few (passed else4)))
     add-size-3
     (λ c κs. search rules)
     returns-6

@@ -15,38 +15,35 @@ use Rattle.join.proofs.put_bodies.Tie as tie
 abbrev body : Scope → List ℕ
 body s = ties_bytes s.rows
 
-abbrev invariant-loop : tie.invariant-loop
+abbrev invariant-loop : tie.invariant-loop-a
 invariant-loop out₀ at one other a₀ b₀ o₀ out a b o =
     Writing ScopesWalk body one a other b out₀ at (bodies_bytes (join_scopes (scopes one) (scopes other))) out o (join_scopes (scopes_in one a) (scopes_in other b))
 
-abbrev decreases-loop : tie.decreases-loop
+abbrev decreases-loop : tie.decreases-loop-a
 decreases-loop out₀ at one other a₀ b₀ o₀ out a b o = a.left + b.left
 
-loop-again : tie.Need-loop-preserved invariant-loop decreases-loop
+loop-again : tie.Need-loop-a-preserved invariant-loop decreases-loop
 loop-again c =
-    let put-rows : tie.After-put-rows invariant-loop decreases-loop = search in
-    let scope-turn : tie.After-scope-turn invariant-loop decreases-loop = search in
-    let top : tie.At-loop invariant-loop decreases-loop = search in
-    let t = scope-turn.scope-turn.ensures in
-    turn-written top.loop.inv t.turn t.rest put-rows.put-rows.ensures
+    let t = c.scope_turn-turn.ensures in
+    turn-written c.loop-a.invariant t.turn t.rest c.put_rows-o.ensures
 
 returns : tie.Need-returns invariant-loop decreases-loop
 returns c =
-    let l = c.before.before.before.loop in
+    let l = c.loop-a in
     none_left l.invariant (scopes-none _ l.a _ l.b (omega arith))
 
-pub put-bodies-spec : {M : Type 1} → statement M
-put-bodies-spec =
+pub put_bodies_spec : {M : Type 1} → statement M
+put_bodies_spec =
     tie.close
     (tie.spec
     invariant-loop
     decreases-loop
     (λ c κs. tt) (λ c κs. tt)
-    (λ c. let start : tie.Start invariant-loop decreases-loop = search in writing_start start.pre c.before.scopes-of.ensures c.scopes-of2.ensures)
-    (λ c. let w = c.before.before.loop.invariant.walks in omega (arith, w.one_walk.place, w.other_walk.place))
-    (λ c κs. record { walks = c.before.before.before.loop.invariant.walks; more = c.if1.true })
-    (λ c κs. c.before.scope-turn.ensures.rows)
-    (λ c. let scope-turn : tie.After-scope-turn invariant-loop decreases-loop = search in scope-turn.scope-turn.ensures.fewer)
+    (λ c. let start : tie.Start invariant-loop decreases-loop = search in writing_start start.requires c.scopes_of-a.ensures c.scopes_of-b.ensures)
+    (λ c. let w = c.loop-a.invariant.walks in omega (arith, w.one_walk.place, w.other_walk.place))
+    (λ c κs. record { walks = c.loop-a.invariant.walks; more = c.loop-a-test.true })
+    (λ c κs. c.scope_turn-turn.ensures.rows)
+    (λ c. let scope-turn : tie.After-scope_turn-turn invariant-loop decreases-loop = search in scope-turn.scope_turn-turn.ensures.fewer)
     loop-again
     (λ c. same (returns c))
     returns)

@@ -5,60 +5,47 @@ use Rattle.join.proofs.RowLaws.{row-left, first-row, second-row, both_rows}
 use Rattle.join.proofs.row_turn.Statement.{statement}
 use Rattle.join.proofs.row_turn.Tie as tie
 
-rows-after-requires : tie.Need-rows-after-requires
+rows-after-requires : tie.Need-rows_after-rest-requires
 rows-after-requires c κs =
-    let start : tie.Start = search in
-    row-left start.pre.walks.one_walk (alone-more _ _ _ _ (sym c.before.alone.ensures ∙ c.if1.true))
+    row-left c.requires.walks.one_walk (alone-more _ _ _ _ (sym c.alone.ensures ∙ c.if-alone.true))
 
-returns : tie.Need-returns
+returns : tie.Need-returns-then-alone
 returns c =
-    let after-row-at2 : tie.After-row-at2 = search in
-    let after-row-at : tie.After-row-at = search in
-    let start : tie.Start = search in
-    first-row start.pre.walks after-row-at.row-at.ensures after-row-at2.row-at2.ensures (sym c.before.before.alone.ensures ∙ c.before.if1.true) c.rows-after.ensures
+    first-row c.requires.walks c.row_at-x.ensures c.row_at-y.ensures (sym c.alone.ensures ∙ c.if-alone.true) c.rows_after-rest.ensures
 
-rows-after-requires-2 : tie.Need-rows-after-requires-2
+rows-after-requires-2 : tie.Need-rows_after-rest-requires-then-alone-2
 rows-after-requires-2 c κs =
-    let start : tie.Start = search in
-    row-left start.pre.walks.other_walk (alone-more _ _ _ _ (sym c.before.alone2.ensures ∙ c.if2.true))
+    row-left c.requires.walks.other_walk (alone-more _ _ _ _ (sym c.alone-2.ensures ∙ c.if-alone-2.true))
 
-returns-2 : tie.Need-returns-2
+returns-2 : tie.Need-returns-then-alone-2
 returns-2 c =
-    let after-row-at2 : tie.After-row-at2 = search in
-    let after-row-at : tie.After-row-at = search in
-    let start : tie.Start = search in
-    second-row start.pre.walks after-row-at.row-at.ensures after-row-at2.row-at2.ensures (sym c.before.before.alone2.ensures ∙ c.before.if2.true) c.rows-after2.ensures
+    second-row c.requires.walks c.row_at-x.ensures c.row_at-y.ensures (sym c.alone-2.ensures ∙ c.if-alone-2.true) c.rows_after-rest-then-alone-2.ensures
 
 -- past both tests
-go_both : (c : tie.Else2) →
-    let after-row-at2 : tie.After-row-at2 = search in
-    let after-row-at : tie.After-row-at = search in
+go_both : (c : tie.Else-alone-2) →
+    let after-row-at2 : tie.After-row_at-y = search in
+    let after-row-at : tie.After-row_at-x = search in
     let start : tie.Start = search in
-    Both start.args.a.left after-row-at.row-at.result.id start.args.b.left after-row-at2.row-at2.result.id
+    Both start.args.a.left after-row-at.row_at-x.result.id start.args.b.left after-row-at2.row_at-y.result.id
 go_both c =
-    let else1 : tie.Else1 = search in
+    let else1 : tie.Else-alone = search in
     let start : tie.Start = search in
-    both _ _ _ _ start.pre.more (sym else1.before.alone.ensures ∙ else1.if1.left) (sym c.before.alone2.ensures ∙ c.if2.false)
+    both _ _ _ _ start.requires.more (sym else1.alone.ensures ∙ else1.if-alone.false) (sym c.alone-2.ensures ∙ c.if-alone-2.false)
 
-rows-after-requires-3 : tie.Need-rows-after-requires-3
+rows-after-requires-3 : tie.Need-rows_after-front-requires
 rows-after-requires-3 c κs =
-    let start : tie.Start = search in
-    row-left start.pre.walks.one_walk (go_both c.before).first
+    row-left c.requires.walks.one_walk (go_both c.before).first
 
-rows-after-requires-4 : tie.Need-rows-after-requires-4
+rows-after-requires-4 : tie.Need-rows_after-back-requires
 rows-after-requires-4 c κs =
-    let start : tie.Start = search in
-    row-left start.pre.walks.other_walk (go_both c.before.before).second
+    row-left c.requires.walks.other_walk (go_both c.before.before).second
 
-returns-3 : tie.Need-returns-3
+returns-3 : tie.Need-returns
 returns-3 c =
-    let after-row-at2 : tie.After-row-at2 = search in
-    let after-row-at : tie.After-row-at = search in
-    let start : tie.Start = search in
-    both_rows start.pre.walks after-row-at.row-at.ensures after-row-at2.row-at2.ensures (go_both c.before.before.before) c.before.before.same_row.ensures c.before.rows-after3.ensures c.rows-after4.ensures
+    both_rows c.requires.walks c.row_at-x.ensures c.row_at-y.ensures (go_both c.before.before.before) c.same_row-agreed.ensures c.rows_after-front.ensures c.rows_after-back.ensures
 
-pub row-turn-spec : {M : Type 1} → statement M
-row-turn-spec =
+pub row_turn_spec : {M : Type 1} → statement M
+row_turn_spec =
     tie.close
     (tie.spec
     (λ c κs. search rules) (λ c κs. search rules) (λ c. search rules) (λ c. search rules) (λ c κs. search rules)

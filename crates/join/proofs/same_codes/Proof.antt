@@ -4,24 +4,22 @@ use Rattle.join.proofs.HeadLaws.{ComparedTo, none_compared, code-differs, code_s
 use Rattle.join.proofs.same_codes.Statement.{statement}
 use Rattle.join.proofs.same_codes.Tie as tie
 
-abbrev invariant-loop : tie.invariant-loop
+abbrev invariant-loop : tie.invariant-loop-left
 invariant-loop one other n at₀ left₀ at left = ComparedTo one other n at left
 
-abbrev decreases-loop : tie.decreases-loop
+abbrev decreases-loop : tie.decreases-loop-left
 decreases-loop one other n at₀ left₀ at left = left
 
-returns : tie.Need-returns invariant-loop decreases-loop
+returns : tie.Need-returns-then-u16_number invariant-loop decreases-loop
 returns c =
-    let top : tie.At-loop invariant-loop decreases-loop = search in
-    sym (code-differs top.loop.inv (omega arith) c.before.before.u16-number.ensures.is c.before.u16-number2.ensures.is c.if1.true)
+    sym (code-differs c.loop-left.invariant (omega arith) c.u16_number.ensures.is c.u16_number-in-loop-left.ensures.is c.if-u16_number.true)
 
-loop-again : tie.Need-loop-preserved invariant-loop decreases-loop
+loop-again : tie.Need-loop-left-preserved invariant-loop decreases-loop
 loop-again c =
-    let top : tie.At-loop invariant-loop decreases-loop = search in
-    code_same top.loop.inv (omega arith) c.before.before.u16-number.ensures.is c.before.u16-number2.ensures.is c.if1.false
+    code_same c.loop-left.invariant (omega arith) c.u16_number.ensures.is c.u16_number-in-loop-left.ensures.is c.if-u16_number.false
 
-pub same-codes-spec : {M : Type 1} → statement M
-same-codes-spec =
+pub same_codes_spec : {M : Type 1} → statement M
+same_codes_spec =
     tie.close
     (tie.spec
     invariant-loop
@@ -31,4 +29,4 @@ same-codes-spec =
     returns
     (λ c. omega arith) (λ c. omega arith) (λ c. omega arith)
     loop-again
-    (λ c. sym (all_compared c.before.loop.invariant (omega arith))))
+    (λ c. sym (all_compared c.loop-left.invariant (omega arith))))

@@ -4,16 +4,15 @@ use Rattle.join.proofs.RowLaws.{row_apart, row_kinds}
 use Rattle.join.proofs.same_row.Statement.{statement}
 use Rattle.join.proofs.same_row.Tie as tie
 
-returns : tie.Need-returns
-returns c = sym (row_apart c.before.before.before.args.x c.before.before.before.args.y (λ e. omega (arith, c.if1.true)))
+returns : tie.Need-returns-then-x-y
+returns c = sym (row_apart c.args.x c.args.y (λ e. omega (arith, c.if-x-y.true)))
 
-returns-2 : tie.Need-returns-2
+returns-2 : tie.Need-returns
 returns-2 c =
-    let start : tie.Start = search in
-    sym (row_kinds start.args.x start.args.y (omega (arith, c.before.before.if1.false)))
+    sym (row_kinds c.args.x c.args.y (omega (arith, c.if-x-y.false)))
 
-pub same-row-spec : {M : Type 1} → statement M
-same-row-spec =
+pub same_row_spec : {M : Type 1} → statement M
+same_row_spec =
     tie.close
     (tie.spec
     returns

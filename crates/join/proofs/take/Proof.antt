@@ -7,8 +7,7 @@ use Rattle.join.proofs.take.Tie as tie
 
 returns : tie.Need-returns
 returns c =
-    let start : tie.Start = search in
-    ap (λ (n : ℕ). taken_by start.args.a n) c.before.before.before.u16-number.ensures.is
+    ap (λ (n : ℕ). taken_by c.args.a n) c.u16_number-count.ensures.is
 
 pub take_spec : {M : Type 1} → statement M
 take_spec =

@@ -8,37 +8,25 @@ use Rattle.joinwhy.proofs.Clashes.{first-formed}
 use Rattle.joinwhy.proofs.put_clash.Statement.{statement}
 use Rattle.joinwhy.proofs.put_clash.Tie as tie
 
-returns : tie.Need-returns
+returns : tie.Need-returns-then-not-well_formed
 returns c =
-    let start : tie.Start = search in
-    let one : tie.After-well-formed = search in
-    rw (one_bad start.args.one.now start.args.other.now (sym one.well-formed.ensures ∙ not-true _ (search))) nothing
+    rw (one_bad c.args.one.now c.args.other.now (sym c.well_formed-2.ensures ∙ not-true _ (search))) nothing
 
-returns-2 : tie.Need-returns-2
+returns-2 : tie.Need-returns-then-not-well_formed-2
 returns-2 c =
-    let start : tie.Start = search in
-    let other : tie.After-well-formed2 = search in
-    rw (other_bad start.args.one.now start.args.other.now (sym other.well-formed2.ensures ∙ not-true _ (search))) nothing
+    rw (other_bad c.args.one.now c.args.other.now (sym c.well_formed-2.ensures ∙ not-true _ (search))) nothing
 
-first-other-requires : tie.Need-first-other-requires
+first-other-requires : tie.Need-first_other-clash-requires
 first-other-requires c κs =
-    let other : tie.After-well-formed2 = search in
-    let else2 : tie.Else2 = search in
-    sym other.well-formed2.ensures ∙ not-false _ else2.if2.left
+    sym c.well_formed-2.ensures ∙ not-false _ c.if-not-well_formed-2.false-raw
 
-returns-3 : tie.Need-returns-3
+returns-3 : tie.Need-returns
 returns-3 c =
-    let start : tie.Start = search in
-    let one : tie.After-well-formed = search in
-    let other : tie.After-well-formed2 = search in
-    let else1 : tie.Else1 = search in
-    let else2 : tie.Else2 = search in
-    let found : tie.After-first-other = search in
-    let formed = first-formed start.args.one.now start.args.other.now (sym one.well-formed.ensures ∙ not-false _ else1.if1.left) (sym other.well-formed2.ensures ∙ not-false _ else2.if2.left) in
-    rw (← (found.first-other.ensures ∙ sym (ap as_lack formed))) c.before.before.put-lack.ensures
+    let formed = first-formed c.args.one.now c.args.other.now (sym c.well_formed-2.ensures ∙ not-false _ c.if-not-well_formed.false-raw) (sym c.well_formed-2.ensures ∙ not-false _ c.if-not-well_formed-2.false-raw) in
+    rw (← (c.first_other-clash.ensures ∙ sym (ap as_lack formed))) c.put_lack.ensures
 
-pub put-clash-spec : {M : Type 1} → statement M
-put-clash-spec =
+pub put_clash_spec : {M : Type 1} → statement M
+put_clash_spec =
     tie.close
     (tie.spec
     (λ c κs. search rules)

@@ -9,24 +9,21 @@ use Rattle.joinwhy.proofs.Heads.{words-next, words-done}
 use Rattle.joinwhy.proofs.put_codes.Statement.{statement}
 use Rattle.joinwhy.proofs.put_codes.Tie as tie
 
-abbrev invariant-loop : tie.invariant-loop
+abbrev invariant-loop : tie.invariant-loop-left
 invariant-loop out₀ at table start n p₀ place₀ left₀ out p place left = Left (λ q k. code_words (codes_at table q k)) 2 (2 ^ 32) start n out₀ at out p place left
 
-abbrev decreases-loop : tie.decreases-loop
+abbrev decreases-loop : tie.decreases-loop-left
 decreases-loop out₀ at table start n p₀ place₀ left₀ out p place left = left
 
-loop-again : tie.Need-loop-preserved invariant-loop decreases-loop
+loop-again : tie.Need-loop-left-preserved invariant-loop decreases-loop
 loop-again c =
-    let top : tie.At-loop invariant-loop decreases-loop = search in
-    let blank : tie.After-put-byte invariant-loop decreases-loop = search in
-    let code : tie.After-u16-number invariant-loop decreases-loop = search in
-    one_less top.loop.inv (omega arith) (words-next _ top.loop.place top.loop.left (omega arith) code.u16-number.ensures.is) (blank.put_byte.ensures ⨟ c.before.before.put-hex.ensures)
+    one_less c.loop-left.invariant (omega arith) (words-next _ c.loop-left.place c.loop-left.left (omega arith) c.u16_number.ensures.is) (c.put_byte-q.ensures ⨟ c.put_hex-p.ensures)
 
 returns : tie.Need-returns invariant-loop decreases-loop
-returns c = let top = c.before.loop in none_left top.invariant (words-done _ top.place top.left (omega arith))
+returns c = let top = c.loop-left in none_left top.invariant (words-done _ top.place top.left (omega arith))
 
-pub put-codes-spec : {M : Type 1} → statement M
-put-codes-spec =
+pub put_codes_spec : {M : Type 1} → statement M
+put_codes_spec =
     tie.close
     (tie.spec
     invariant-loop

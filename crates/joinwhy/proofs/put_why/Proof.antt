@@ -4,24 +4,20 @@ use Rattle.joinwhy.proofs.Heads.{why_heads, why-rows, why-nothing}
 use Rattle.joinwhy.proofs.put_why.Statement.{statement}
 use Rattle.joinwhy.proofs.put_why.Tie as tie
 
-returns : tie.Need-returns
+returns : tie.Need-returns-then-number-eq-OTHER_HEAD
 returns c =
-    let after-put-head : tie.After-put-head = search in
-    let start : tie.Start = search in
-    let a = start.args in rw (why_heads a.number a.one.now a.other.now (search)) (after-put-head.put-head.ensures ⨟ c.before.before.put-head2.ensures)
+    let a = c.args in rw (why_heads a.number a.one.now a.other.now (search)) (c.put_head-p.ensures ⨟ c.put_head.ensures)
 
-returns-2 : tie.Need-returns-2
+returns-2 : tie.Need-returns-then-number-eq-TWO_ROWS
 returns-2 c =
-    let start : tie.Start = search in
-    let a = start.args in rw (why-rows a.number a.one.now a.other.now (search)) c.before.before.put-clash.ensures
+    let a = c.args in rw (why-rows a.number a.one.now a.other.now (search)) c.put_clash.ensures
 
-returns-3 : tie.Need-returns-3
+returns-3 : tie.Need-returns
 returns-3 c =
-    let start : tie.Start = search in
-    let a = start.args in rw (why-nothing a.number a.one.now a.other.now (search) (search)) nothing
+    let a = c.args in rw (why-nothing a.number a.one.now a.other.now (search) (search)) nothing
 
-pub put-why-spec : {M : Type 1} → statement M
-put-why-spec =
+pub put_why_spec : {M : Type 1} → statement M
+put_why_spec =
     tie.close
     (tie.spec
     (λ c κs. search rules) (λ c κs. search rules) (λ c. search rules)

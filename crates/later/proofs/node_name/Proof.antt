@@ -7,40 +7,32 @@ use Rattle.later.proofs.node_name.Statement.{statement}
 use Rattle.later.proofs.node_name.Tie as tie
 
 -- the name from here on is the node's
-abbrev invariant-loop : tie.invariant-loop
+abbrev invariant-loop : tie.invariant-loop-i
 invariant-loop rows first end i₀ i = name_from rows end i ≡ name_from rows end first
 
-abbrev decreases-loop : tie.decreases-loop
+abbrev decreases-loop : tie.decreases-loop-i
 decreases-loop rows first end i₀ i = end - i
 
-returns : tie.Need-returns invariant-loop decreases-loop
+returns : tie.Need-returns-then-get_id-eq-NAME_ID invariant-loop decreases-loop
 returns c =
-    let turn : tie.At-loop invariant-loop decreases-loop = search in
-    let test : tie.In-loop invariant-loop decreases-loop = search in
-    let id : tie.After-get-id invariant-loop decreases-loop = search in
-    let found : tie.Then1 invariant-loop decreases-loop = search in
-    let read : tie.After-get-property invariant-loop decreases-loop = search in
-    c.name_by.ensures ∙ name-found _ _ _ test.loop-test.taken (sym id.get-id.ensures ∙ found.if1.taken) read.get-property.ensures ∙ turn.loop.inv
+    c.name_by.ensures ∙ name-found _ _ _ c.loop-i-test.true (sym c.get_id.ensures ∙ c.if-get_id-eq-NAME_ID.true) c.get_property.ensures ∙ c.loop-i.invariant
 
-loop-again : tie.Need-loop-preserved invariant-loop decreases-loop
+loop-again : tie.Need-loop-i-preserved invariant-loop decreases-loop
 loop-again c =
-    let turn : tie.At-loop invariant-loop decreases-loop = search in
-    let test : tie.In-loop invariant-loop decreases-loop = search in
-    let id : tie.After-get-id invariant-loop decreases-loop = search in
-    name-on _ _ _ test.loop-test.taken (λ e. c.if1.false (id.get-id.ensures ∙ e)) ∙ turn.loop.inv
+    name-on _ _ _ c.loop-i-test.true (λ e. c.if-get_id-eq-NAME_ID.false (c.get_id.ensures ∙ e)) ∙ c.loop-i.invariant
 
-pub node-name-spec : {M : Type 1} → statement M
-node-name-spec =
+pub node_name_spec : {M : Type 1} → statement M
+node_name_spec =
     tie.close
     (tie.spec
     invariant-loop
     decreases-loop
     (λ c. refl)
-    (λ c. let start : tie.Start invariant-loop decreases-loop = search in omega (arith, start.pre, c.loop-test.true))
+    (λ c. let start : tie.Start invariant-loop decreases-loop = search in omega (arith, start.requires, c.loop-i-test.true))
     (λ c κs. search rules)
-    (λ c. let start : tie.Start invariant-loop decreases-loop = search in let test : tie.In-loop invariant-loop decreases-loop = search in omega (arith, start.pre, test.loop-test.taken))
+    (λ c. let start : tie.Start invariant-loop decreases-loop = search in let test : tie.In-loop-i invariant-loop decreases-loop = search in omega (arith, start.requires, test.loop-i-test.true))
     (λ c κs. search rules) (λ c κs. search rules)
     returns
     (λ c. search rules) (λ c. search rules)
     loop-again
-    (λ c. name-none _ _ _ c.loop-test.false ∙ c.before.loop.invariant))
+    (λ c. name-none _ _ _ c.loop-i-test.false ∙ c.loop-i.invariant))

@@ -4,30 +4,17 @@ use Rattle.later.proofs.ReadLaws.{read_short, read-refused, blob-ready, read_don
 use Rattle.later.proofs.read.Statement.{statement}
 use Rattle.later.proofs.read.Tie as tie
 
-returns-2 : tie.Need-returns-2
+returns-2 : tie.Need-returns-then-a-ne-READ
 returns-2 c =
-    let long : tie.Else1 = search in
-    let counted : tie.After-count = search in
-    let judged : tie.After-judge = search in
-    read-refused long.if1.left counted.count.ensures _ _ _ judged.judge.ensures c.if2.true
+    read-refused c.if-stream-lt-OBJECT_AT.false c.count-n.ensures _ _ _ c.judge-a.ensures c.if-a-ne-READ.true
 
-write-blob-requires : tie.Need-write-blob-requires
+write-blob-requires : tie.Need-write_blob-requires
 write-blob-requires c κs =
-    let start : tie.Start = search in
-    let long : tie.Else1 = search in
-    let counted : tie.After-count = search in
-    let judged : tie.After-judge = search in
-    let room : tie.Else2 = search in
-    blob-ready long.if1.left counted.count.ensures _ _ _ judged.judge.ensures room.if2.left start.pre
+    blob-ready c.if-stream-lt-OBJECT_AT.false c.count-n.ensures _ _ _ c.judge-a.ensures c.if-a-ne-READ.false c.requires
 
-returns-3 : tie.Need-returns-3
+returns-3 : tie.Need-returns
 returns-3 c =
-    let long : tie.Else1 = search in
-    let counted : tie.After-count = search in
-    let judged : tie.After-judge = search in
-    let room : tie.Else2 = search in
-    let wrote : tie.After-write-blob = search in
-    read_done long.if1.left counted.count.ensures _ _ _ judged.judge.ensures room.if2.left _ _ wrote.write-blob.ensures
+    read_done c.if-stream-lt-OBJECT_AT.false c.count-n.ensures _ _ _ c.judge-a.ensures c.if-a-ne-READ.false _ _ c.write_blob.ensures
 
 pub read_spec : {M : Type 1} → statement M
 read_spec =

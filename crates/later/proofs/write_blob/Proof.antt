@@ -3,41 +3,27 @@ use Rattle.later.proofs.ReadLaws.{own-ready, blob-tree-ready, blob-tree-done, bl
 use Rattle.later.proofs.write_blob.Statement.{statement}
 use Rattle.later.proofs.write_blob.Tie as tie
 
-write-tree-requires : tie.Need-write-tree-requires
+write-tree-requires : tie.Need-write_tree-requires
 write-tree-requires c κs =
-    let start : tie.Start = search in
-    let group : tie.After-write-group = search in
-    let tree : tie.Then1 = search in
-    blob-tree-ready start.pre group.write-group.ensures tree.if1.taken
+    blob-tree-ready c.requires c.write_group-w.ensures c.if-tree.true
 
-write-scanned-requires : tie.Need-write-scanned-requires
+write-scanned-requires : tie.Need-write_scanned-requires
 write-scanned-requires c κs =
-    let start : tie.Start = search in
-    let group : tie.After-write-group = search in
-    let scan : tie.Else1 = search in
-    blob-scan-ready start.pre group.write-group.ensures scan.if1.left
+    blob-scan-ready c.requires c.write_group-w.ensures c.if-tree.false
 
-returns : tie.Need-returns
+returns : tie.Need-returns-then-tree
 returns c =
-    let start : tie.Start = search in
-    let group : tie.After-write-group = search in
-    let tree : tie.Then1 = search in
-    let wrote : tie.After-write-tree = search in
-    blob-tree-done start.pre group.write-group.ensures tree.if1.taken wrote.write-tree.ensures
+    blob-tree-done c.requires c.write_group-w.ensures c.if-tree.true c.write_tree.ensures
 
-returns-2 : tie.Need-returns-2
+returns-2 : tie.Need-returns-else-tree
 returns-2 c =
-    let start : tie.Start = search in
-    let group : tie.After-write-group = search in
-    let scan : tie.Else1 = search in
-    let wrote : tie.After-write-scanned = search in
-    blob-scan-done start.pre group.write-group.ensures scan.if1.left wrote.write-scanned.ensures
+    blob-scan-done c.requires c.write_group-w.ensures c.if-tree.false c.write_scanned.ensures
 
-pub write-blob-spec : {M : Type 1} → statement M
-write-blob-spec =
+pub write_blob_spec : {M : Type 1} → statement M
+write_blob_spec =
     tie.close
     (tie.spec
-    (λ c κs. let start : tie.Start = search in own-ready start.pre)
+    (λ c κs. let start : tie.Start = search in own-ready start.requires)
     write-tree-requires
     write-scanned-requires
     (λ c. search rules) (λ c. search rules)

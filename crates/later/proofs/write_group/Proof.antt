@@ -8,90 +8,61 @@ use Rattle.later.proofs.Visits.{Writing, writing_start, writing_least, writing_s
 use Rattle.later.proofs.write_group.Statement.{statement}
 use Rattle.later.proofs.write_group.Tie as tie
 
-abbrev invariant-loop : tie.invariant-loop
+abbrev invariant-loop : tie.invariant-loop-size
 invariant-loop s limit at rows₀ first p₀ n₀ rows p n = Writing s limit at rows₀ first rows p n
 
-abbrev decreases-loop : tie.decreases-loop
+abbrev decreases-loop : tie.decreases-loop-size
 decreases-loop s limit at rows₀ first p₀ n₀ rows p n = limit - p
 
-returns : tie.Need-returns invariant-loop decreases-loop
+returns : tie.Need-returns-in-Outside invariant-loop decreases-loop
 returns c =
-    let start : tie.Start invariant-loop decreases-loop = search in
-    let turn : tie.At-loop invariant-loop decreases-loop = search in
-    let parsed : tie.After-parse-entry invariant-loop decreases-loop = search in
-    writing_none turn.loop.inv start.pre.inside parsed.parse-entry.ensures c.enum_told.given.1
+    writing_none c.loop-size.invariant c.requires.inside c.parse_entry.ensures c.in-Outside.is
 
-property-at-requires : tie.Need-property-at-requires invariant-loop decreases-loop
+property-at-requires : tie.Need-property_at-q-requires invariant-loop decreases-loop
 property-at-requires c κs =
-    let start : tie.Start invariant-loop decreases-loop = search in
-    let parsed : tie.After-parse-entry invariant-loop decreases-loop = search in
-    inside-property _ _ _ parsed.parse-entry.ensures c.before.size.given.1 start.pre.inside start.pre.small
+    inside-property _ _ _ c.parse_entry.ensures c.in-Inside.is c.requires.inside c.requires.small
 
-put-property-requires : tie.Need-put-property-requires invariant-loop decreases-loop
+put-property-requires : tie.Need-put_property-requires invariant-loop decreases-loop
 put-property-requires c κs =
-    let start : tie.Start invariant-loop decreases-loop = search in
-    let turn : tie.At-loop invariant-loop decreases-loop = search in
-    let parsed : tie.After-parse-entry invariant-loop decreases-loop = search in
-    let size : tie.After-size invariant-loop decreases-loop = search in
-    writing_room turn.loop.inv start.pre.inside parsed.parse-entry.ensures size.size.given.1
+    writing_room c.loop-size.invariant c.requires.inside c.parse_entry.ensures c.in-Inside.is
 
-add-n : tie.Need-overflow-add-n invariant-loop decreases-loop
+add-n : tie.Need-overflow_add-n invariant-loop decreases-loop
 add-n c =
-    let start : tie.Start invariant-loop decreases-loop = search in
-    let turn : tie.At-loop invariant-loop decreases-loop = search in
-    let parsed : tie.After-parse-entry invariant-loop decreases-loop = search in
-    let size : tie.After-size invariant-loop decreases-loop = search in
-    omega (arith, writing_room turn.loop.inv start.pre.inside parsed.parse-entry.ensures size.size.given.1, writing_same turn.loop.inv)
+    omega (arith, writing_room c.loop-size.invariant c.requires.inside c.parse_entry.ensures c.in-Inside.is, writing_same c.loop-size.invariant)
 
-same-length-2 : tie.Need-same-length-2 invariant-loop decreases-loop
+same-length-2 : tie.Need-shape_of-rows-then-ends_group invariant-loop decreases-loop
 same-length-2 c =
-    let turn : tie.At-loop invariant-loop decreases-loop = search in
-    let put : tie.After-put-property invariant-loop decreases-loop = search in
-    put.put-property.kept.0 ∙ writing_same turn.loop.inv
+    c.put_property.auto.0 ∙ writing_same c.loop-size.invariant
 
-returns-2 : tie.Need-returns-2 invariant-loop decreases-loop
+returns-2 : tie.Need-returns-then-ends_group invariant-loop decreases-loop
 returns-2 c =
-    let start : tie.Start invariant-loop decreases-loop = search in
-    let turn : tie.At-loop invariant-loop decreases-loop = search in
-    let parsed : tie.After-parse-entry invariant-loop decreases-loop = search in
-    let size : tie.After-size invariant-loop decreases-loop = search in
-    let read : tie.After-property-at invariant-loop decreases-loop = search in
-    let put : tie.After-put-property invariant-loop decreases-loop = search in
-    writing_last turn.loop.inv start.pre.inside parsed.parse-entry.ensures size.size.given.1 read.property-at.ensures put.put-property.ensures c.before.ends-group.ensures c.if1.true
+    writing_last c.loop-size.invariant c.requires.inside c.parse_entry.ensures c.in-Inside.is c.property_at-q.ensures c.put_property.ensures c.ends_group.ensures c.if-ends_group.true
 
-loop-less : tie.Need-loop-smaller invariant-loop decreases-loop
+loop-less : tie.Need-loop-size-smaller invariant-loop decreases-loop
 loop-less c =
-    let parsed : tie.After-parse-entry invariant-loop decreases-loop = search in
-    let size : tie.After-size invariant-loop decreases-loop = search in
-    omega (arith, extent-inside parsed.parse-entry.ensures size.size.given.1)
+    omega (arith, extent-inside c.parse_entry.ensures c.in-Inside.is)
 
-loop-again : tie.Need-loop-preserved invariant-loop decreases-loop
+loop-again : tie.Need-loop-size-preserved invariant-loop decreases-loop
 loop-again c =
-    let start : tie.Start invariant-loop decreases-loop = search in
-    let turn : tie.At-loop invariant-loop decreases-loop = search in
-    let parsed : tie.After-parse-entry invariant-loop decreases-loop = search in
-    let size : tie.After-size invariant-loop decreases-loop = search in
-    let read : tie.After-property-at invariant-loop decreases-loop = search in
-    let put : tie.After-put-property invariant-loop decreases-loop = search in
-    writing_more turn.loop.inv start.pre.inside parsed.parse-entry.ensures size.size.given.1 read.property-at.ensures put.put-property.ensures c.before.ends-group.ensures c.if1.false
+    writing_more c.loop-size.invariant c.requires.inside c.parse_entry.ensures c.in-Inside.is c.property_at-q.ensures c.put_property.ensures c.ends_group.ensures c.if-ends_group.false
 
-pub write-group-spec : {M : Type 1} → statement M
-write-group-spec =
+pub write_group_spec : {M : Type 1} → statement M
+write_group_spec =
     tie.close
     (tie.spec
     invariant-loop
     decreases-loop
-    (λ c. let start : tie.Start invariant-loop decreases-loop = search in writing_start start.pre)
+    (λ c. let start : tie.Start invariant-loop decreases-loop = search in writing_start start.requires)
     (λ c κs. search rules) (λ c. search rules)
-    (λ c. let turn : tie.At-loop invariant-loop decreases-loop = search in writing_least turn.loop.inv)
-    (λ c. let turn : tie.At-loop invariant-loop decreases-loop = search in writing_same turn.loop.inv)
+    (λ c. let turn : tie.At-loop-size invariant-loop decreases-loop = search in writing_least turn.loop-size.invariant)
+    (λ c. let turn : tie.At-loop-size invariant-loop decreases-loop = search in writing_same turn.loop-size.invariant)
     returns
     (λ c. search rules)
     property-at-requires
     put-property-requires
     add-n
     (λ c κs. search rules)
-    (λ c. let turn : tie.At-loop invariant-loop decreases-loop = search in omega (arith, writing_least turn.loop.inv))
+    (λ c. let turn : tie.At-loop-size invariant-loop decreases-loop = search in omega (arith, writing_least turn.loop-size.invariant))
     same-length-2
     returns-2
     loop-less

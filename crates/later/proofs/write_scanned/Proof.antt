@@ -9,101 +9,96 @@ use Rattle.later.proofs.WriteNodeLaws.{Sweeping, sweeping_start, sweeping_group,
 use Rattle.later.proofs.write_scanned.Statement.{statement}
 use Rattle.later.proofs.write_scanned.Tie as tie
 
-abbrev invariant-loop : tie.invariant-loop
+abbrev invariant-loop : tie.invariant-loop-a
 invariant-loop s from controls₀ properties₀ property a₀ i₀ j₀ controls properties a i j = Sweeping s from (state controls₀ 0 properties₀ property) a (state controls i properties j)
 
-abbrev decreases-loop : tie.decreases-loop
+abbrev decreases-loop : tie.decreases-loop-a
 decreases-loop s from controls₀ properties₀ property a₀ i₀ j₀ controls properties a i j = length s - a
 
 -- ---- places, each from a later one
-abbrev next_of : tie.After-write-group invariant-loop decreases-loop → tie.After-find-match2 invariant-loop decreases-loop
+abbrev next_of : tie.After-write_group-w invariant-loop decreases-loop → tie.After-find_match-limit invariant-loop decreases-loop
 next_of c = search
 
-abbrev test_of : tie.After-find-match2 invariant-loop decreases-loop → tie.In-loop invariant-loop decreases-loop
+abbrev test_of : tie.After-find_match-limit invariant-loop decreases-loop → tie.In-loop-a invariant-loop decreases-loop
 test_of c = search
 
-abbrev turn-of : tie.After-find-match2 invariant-loop decreases-loop → tie.At-loop invariant-loop decreases-loop
+abbrev turn-of : tie.After-find_match-limit invariant-loop decreases-loop → tie.At-loop-a invariant-loop decreases-loop
 turn-of c = search
 
-abbrev group_of : tie.Then1 invariant-loop decreases-loop → tie.After-write-group invariant-loop decreases-loop
+abbrev group_of : tie.Then-w-gt0 invariant-loop decreases-loop → tie.After-write_group-w invariant-loop decreases-loop
 group_of c = search
 
 -- what is written stays few
-adds : (c : tie.Then1 invariant-loop decreases-loop) → (turn-of (next_of (group_of c))).loop.i + (turn-of (next_of (group_of c))).loop.j + (1 + (group_of c).write-group.result.count) ≤ longest
+adds : (c : tie.Then-w-gt0 invariant-loop decreases-loop) → (turn-of (next_of (group_of c))).loop-a.i + (turn-of (next_of (group_of c))).loop-a.j + (1 + (group_of c).write_group-w.result.count) ≤ longest
 adds c =
     let group = group_of c in
     let next = next_of group in
-    sweeping_adds (turn-of next).loop.inv (test_of next).loop-test.taken next.find-match2.ensures group.write-group.ensures c.if1.true
+    sweeping_adds (turn-of next).loop-a.invariant (test_of next).loop-a-test.true next.find_match-limit.ensures group.write_group-w.ensures c.if-w-gt0.true
 
-loop-holds : tie.Need-loop-init invariant-loop decreases-loop
+loop-holds : tie.Need-loop-a-init invariant-loop decreases-loop
 loop-holds c =
-    let start : tie.Start invariant-loop decreases-loop = search in
-    sweeping_start start.pre c.find-match.ensures
+    sweeping_start c.requires c.find_match-a.ensures
 
-write-group-requires : tie.Need-write-group-requires invariant-loop decreases-loop
+write-group-requires : tie.Need-write_group-w-requires invariant-loop decreases-loop
 write-group-requires c κs =
-    let next : tie.After-find-match2 invariant-loop decreases-loop = search in
-    sweeping_group (turn-of next).loop.inv (test_of next).loop-test.taken next.find-match2.ensures
+    let next : tie.After-find_match-limit invariant-loop decreases-loop = search in
+    sweeping_group (turn-of next).loop-a.invariant (test_of next).loop-a-test.true next.find_match-limit.ensures
 
-put-control-requires : tie.Need-put-control-requires invariant-loop decreases-loop
+put-control-requires : tie.Need-put_control-requires invariant-loop decreases-loop
 put-control-requires c κs =
-    let any : tie.Then1 invariant-loop decreases-loop = search in
+    let any : tie.Then-w-gt0 invariant-loop decreases-loop = search in
     let group = group_of any in
     let next = next_of group in
-    sweeping_row (turn-of next).loop.inv (test_of next).loop-test.taken next.find-match2.ensures group.write-group.ensures any.if1.taken
+    sweeping_row (turn-of next).loop-a.invariant (test_of next).loop-a-test.true next.find_match-limit.ensures group.write_group-w.ensures any.if-w-gt0.true
 
-loop-less : tie.Need-loop-smaller invariant-loop decreases-loop
+loop-less : tie.Need-loop-a-smaller-then-w-gt0 invariant-loop decreases-loop
 loop-less c =
-    let next : tie.After-find-match2 invariant-loop decreases-loop = search in
-    omega (arith, next.find-match2.ensures.behind, (test_of next).loop-test.taken)
+    let next : tie.After-find_match-limit invariant-loop decreases-loop = search in
+    omega (arith, next.find_match-limit.ensures.behind, (test_of next).loop-a-test.true)
 
-loop-again : tie.Need-loop-preserved invariant-loop decreases-loop
+loop-again : tie.Need-loop-a-preserved-then-w-gt0 invariant-loop decreases-loop
 loop-again c =
-    let put : tie.After-put-control invariant-loop decreases-loop = search in
-    let row : tie.After-control-row invariant-loop decreases-loop = search in
-    let named : tie.After-text-name invariant-loop decreases-loop = search in
-    let read : tie.After-get-property invariant-loop decreases-loop = search in
-    let any : tie.Then1 invariant-loop decreases-loop = search in
+    let any : tie.Then-w-gt0 invariant-loop decreases-loop = search in
     let group = group_of any in
     let next = next_of group in
-    sweeping_more (turn-of next).loop.inv (test_of next).loop-test.taken next.find-match2.ensures group.write-group.ensures any.if1.taken
-    read.get-property.ensures named.text-name.ensures row.control-row.ensures put.put-control.ensures
+    sweeping_more (turn-of next).loop-a.invariant (test_of next).loop-a-test.true next.find_match-limit.ensures group.write_group-w.ensures any.if-w-gt0.true
+    c.get_property.ensures c.text_name.ensures c.control_row-row.ensures c.put_control.ensures
 
-loop-less-2 : tie.Need-loop-smaller-2 invariant-loop decreases-loop
+loop-less-2 : tie.Need-loop-a-smaller invariant-loop decreases-loop
 loop-less-2 c =
-    let next : tie.After-find-match2 invariant-loop decreases-loop = search in
-    omega (arith, next.find-match2.ensures.behind, (test_of next).loop-test.taken)
+    let next : tie.After-find_match-limit invariant-loop decreases-loop = search in
+    omega (arith, next.find_match-limit.ensures.behind, (test_of next).loop-a-test.true)
 
-loop-again-2 : tie.Need-loop-preserved-2 invariant-loop decreases-loop
+loop-again-2 : tie.Need-loop-a-preserved invariant-loop decreases-loop
 loop-again-2 c =
-    let group : tie.After-write-group invariant-loop decreases-loop = search in
+    let group : tie.After-write_group-w invariant-loop decreases-loop = search in
     let next = next_of group in
-    sweeping_same (turn-of next).loop.inv (test_of next).loop-test.taken next.find-match2.ensures group.write-group.ensures c.if1.false
+    sweeping_same (turn-of next).loop-a.invariant (test_of next).loop-a-test.true next.find_match-limit.ensures group.write_group-w.ensures c.if-w-gt0.false
 
-pub write-scanned-spec : {M : Type 1} → statement M
-write-scanned-spec =
+pub write_scanned_spec : {M : Type 1} → statement M
+write_scanned_spec =
     tie.close
     (tie.spec
     invariant-loop
     decreases-loop
-    (λ c κs. let start : tie.Start invariant-loop decreases-loop = search in start.pre.within)
+    (λ c κs. let start : tie.Start invariant-loop decreases-loop = search in start.requires.within)
     loop-holds
-    (λ c. omega (arith, match-room _ _ (c.before.loop.invariant.here c.loop-test.true)))
-    (λ c κs. omega (arith, match-room _ _ (c.before.loop.invariant.here c.loop-test.true)))
+    (λ c. omega (arith, match-room _ _ (c.loop-a.invariant.here c.loop-a-test.true)))
+    (λ c κs. omega (arith, match-room _ _ (c.loop-a.invariant.here c.loop-a-test.true)))
     write-group-requires
-    (λ c. let any : tie.Then1 invariant-loop decreases-loop = search in omega (arith, adds any))
+    (λ c. let any : tie.Then-w-gt0 invariant-loop decreases-loop = search in omega (arith, adds any))
     (λ c κs. search rules) (λ c κs. search rules)
-    (λ c. let any : tie.Then1 invariant-loop decreases-loop = search in omega (arith, adds any))
-    (λ c. let any : tie.Then1 invariant-loop decreases-loop = search in omega (arith, adds any))
-    (λ c. let any : tie.Then1 invariant-loop decreases-loop = search in omega (arith, adds any))
+    (λ c. let any : tie.Then-w-gt0 invariant-loop decreases-loop = search in omega (arith, adds any))
+    (λ c. let any : tie.Then-w-gt0 invariant-loop decreases-loop = search in omega (arith, adds any))
+    (λ c. let any : tie.Then-w-gt0 invariant-loop decreases-loop = search in omega (arith, adds any))
     (λ c κs. search rules)
     put-control-requires
-    (λ c. let any : tie.Then1 invariant-loop decreases-loop = search in omega (arith, adds any))
-    (λ c. let any : tie.Then1 invariant-loop decreases-loop = search in omega (arith, adds any))
+    (λ c. let any : tie.Then-w-gt0 invariant-loop decreases-loop = search in omega (arith, adds any))
+    (λ c. let any : tie.Then-w-gt0 invariant-loop decreases-loop = search in omega (arith, adds any))
     loop-less
     loop-again
     loop-less-2
     loop-again-2
-    (λ c. c.before.loop.invariant.controls-same)
-    (λ c. c.before.loop.invariant.properties-same)
-    (λ c. sweeping_done c.before.loop.invariant c.loop-test.false))
+    (λ c. c.loop-a.invariant.controls-same)
+    (λ c. c.loop-a.invariant.properties-same)
+    (λ c. sweeping_done c.loop-a.invariant c.loop-a-test.false))

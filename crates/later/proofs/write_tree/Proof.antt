@@ -6,34 +6,26 @@ use Rattle.later.proofs.write_tree.Statement.{statement}
 use Rattle.later.proofs.write_tree.Tie as tie
 
 -- a count of two bytes fits
-cast-write-sections : tie.Need-overflow-cast-write-sections
+cast-write-sections : tie.Need-overflow_cast-count
 cast-write-sections c =
-    let known : tie.After-shared-slice-known = search in
-    let kids : tie.After-children-at = search in
-    omega (arith, count_small _ _ _ kids.children-at.ensures (λ i. (known.shared-slice-known.given i).fits) c.before.count.given.1)
+    let known : tie.After-shared_slice_known-1 = search in
+    let kids : tie.After-children_at = search in
+    omega (arith, count_small _ _ _ kids.children_at.ensures (λ i. (known.shared_slice_known-1.given i).fits) c.in-Of.is)
 
-write-sections-requires : tie.Need-write-sections-requires
+write-sections-requires : tie.Need-write_sections-requires
 write-sections-requires c κs =
-    let start : tie.Start = search in
-    let kids : tie.After-children-at = search in
-    let count : tie.After-count = search in
-    tree-ready _ _ _ _ start.pre kids.children-at.ensures count.count.given.1
+    tree-ready _ _ _ _ c.requires c.children_at.ensures c.in-Of.is
 
-returns : tie.Need-returns
+returns : tie.Need-returns-in-Bad
 returns c =
-    let start : tie.Start = search in
-    absurd (tree-never _ _ _ _ start.pre.fits c.before.before.children-at.ensures c.enum_told.given.1)
+    absurd (tree-never _ _ _ _ c.requires.fits c.children_at.ensures c.in-Bad.is)
 
-returns-2 : tie.Need-returns-2
+returns-2 : tie.Need-returns-in-Of
 returns-2 c =
-    let start : tie.Start = search in
-    let kids : tie.After-children-at = search in
-    let count : tie.After-count = search in
-    let wrote : tie.After-write-sections = search in
-    tree-done _ _ _ _ start.pre kids.children-at.ensures count.count.given.1 wrote.write-sections.ensures
+    tree-done _ _ _ _ c.requires c.children_at.ensures c.in-Of.is c.write_sections.ensures
 
-pub write-tree-spec : {M : Type 1} → statement M
-write-tree-spec =
+pub write_tree_spec : {M : Type 1} → statement M
+write_tree_spec =
     tie.close
     (tie.spec
     (λ c κs. search rules) (λ c. search rules) (λ c. search rules)

@@ -6,9 +6,7 @@ use Rattle.listing.proofs.answer_line.Tie as tie
 
 returns : tie.Need-returns
 returns c =
-    let start : tie.Start = search in
-    let wrote : tie.After-numbers-line = search in
-    wrote_as wrote.numbers-line.ensures (answer-is start.args.a)
+    wrote_as c.numbers_line.ensures (answer-is c.args.a)
 
-pub answer-line-spec : {M : Type 1} → statement M
-answer-line-spec = tie.close (tie.spec (λ c. search rules) (λ c κs. search rules) (λ c. same (returns c)) returns)
+pub answer_line_spec : {M : Type 1} → statement M
+answer_line_spec = tie.close (tie.spec (λ c κs. search rules) (λ c. same (returns c)) returns)

@@ -4,17 +4,17 @@ use Rattle.listing.specs.InfoLine.{is_shown}
 use Rattle.listing.proofs.is_shown.Statement.{statement}
 use Rattle.listing.proofs.is_shown.Tie as tie
 
-returns : tie.Need-returns
+returns : tie.Need-returns-then-b-lt32
 unfolding is_shown
-returns c = simp (lt-leb 0x20 c.before.args.b (omega arith))
+returns c = simp (lt-leb 0x20 c.args.b (omega arith))
 
-returns-2 : tie.Need-returns-2
+returns-2 : tie.Need-returns-then-b-gt126
 unfolding is_shown
-returns-2 c = let a = c.before.before.args in simp (le-leb 0x20 a.b (omega arith), lt-leb a.b 0x7E (omega arith))
+returns-2 c = let a = c.args in simp (le-leb 0x20 a.b (omega arith), lt-leb a.b 0x7E (omega arith))
 
-returns-3 : tie.Need-returns-3
+returns-3 : tie.Need-returns
 unfolding is_shown
-returns-3 c = let a = c.before.before.args in simp (le-leb 0x20 a.b (omega arith), le-leb a.b 0x7E (omega arith))
+returns-3 c = let a = c.args in simp (le-leb 0x20 a.b (omega arith), le-leb a.b 0x7E (omega arith))
 
-pub is-shown-spec : {M : Type 1} → statement M
-is-shown-spec = tie.close (tie.spec returns returns-2 returns-3)
+pub is_shown_spec : {M : Type 1} → statement M
+is_shown_spec = tie.close (tie.spec returns returns-2 returns-3)

@@ -6,22 +6,16 @@ use Rattle.listing.proofs.property_line.Tie as tie
 
 returns : tie.Need-returns
 returns c =
-    let shown : tie.After-put-shown = search in
-    let blank : tie.After-put-byte = search in
-    let value-name : tie.After-put-value-name = search in
-    let head : tie.After-put-head = search in
-    let row : tie.After-get-property = search in
-    let start : tie.Start = search in
-    property-wrote start.args.n (row_at property_width start.args.n start.args.rows.now) start.args.stream.now
-    row.get-property.ensures
-    head.put-head.ensures
-    value-name.put-value-name.ensures
-    blank.put_byte.ensures
-    shown.put-shown.ensures
-    c.before.before.put-end.ensures
+    property-wrote c.args.n (row_at property_width c.args.n c.args.rows.now) c.args.stream.now
+    c.get_property-row.ensures
+    c.put_head-p.ensures
+    c.put_value_name-p.ensures
+    c.put_byte-p.ensures
+    c.put_shown-p.ensures
+    c.put_end.ensures
 
-pub property-line-spec : {M : Type 1} → statement M
-property-line-spec =
+pub property_line_spec : {M : Type 1} → statement M
+property_line_spec =
     tie.close
     (tie.spec
     (λ c κs. search rules) (λ c κs. search rules) (λ c κs. search rules) (λ c κs. search rules) (λ c κs. search rules)

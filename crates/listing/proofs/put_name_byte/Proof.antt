@@ -5,21 +5,16 @@ use Rattle.listing.proofs.InfoName.{shown, escaped}
 use Rattle.listing.proofs.put_name_byte.Statement.{statement}
 use Rattle.listing.proofs.put_name_byte.Tie as tie
 
-returns : tie.Need-returns
+returns : tie.Need-returns-then-is_shown
 returns c =
-    let taken : tie.Then1 = search in
-    let asked : tie.After-is-shown = search in
-    rw (shown _ (sym asked.is-shown.ensures ∙ taken.if1.taken)) c.before.before.put_byte.ensures
+    rw (shown _ (sym c.is_shown.ensures ∙ c.if-is_shown.true)) c.put_byte.ensures
 
-returns-2 : tie.Need-returns-2
+returns-2 : tie.Need-returns
 returns-2 c =
-    let backslash : tie.After-put-byte2 = search in
-    let left : tie.Else1 = search in
-    let asked : tie.After-is-shown = search in
-    rw (escaped _ (sym asked.is-shown.ensures ∙ left.if1.left)) (backslash.put-byte2.ensures ⨟ c.before.before.put-hex.ensures)
+    rw (escaped _ (sym c.is_shown.ensures ∙ c.if-is_shown.false)) (c.put_byte-p.ensures ⨟ c.put_hex.ensures)
 
-pub put-name-byte-spec : {M : Type 1} → statement M
-put-name-byte-spec =
+pub put_name_byte_spec : {M : Type 1} → statement M
+put_name_byte_spec =
     tie.close
     (tie.spec
     (λ c κs. search rules) (λ c κs. search rules) (λ c. search rules)

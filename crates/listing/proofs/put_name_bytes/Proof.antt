@@ -6,26 +6,24 @@ use Rattle.listing.proofs.InfoName.{Spelled, spelled_none, spelled-more, spelled
 use Rattle.listing.proofs.put_name_bytes.Statement.{statement}
 use Rattle.listing.proofs.put_name_bytes.Tie as tie
 
-abbrev invariant-loop : tie.invariant-loop
+abbrev invariant-loop : tie.invariant-loop-i
 invariant-loop out₀ at s o₀ i₀ out o i = Spelled s out₀ at out o i
 
-abbrev decreases-loop : tie.decreases-loop
+abbrev decreases-loop : tie.decreases-loop-i
 decreases-loop out₀ at s o₀ i₀ out o i = length s - i
 
-loop-again : tie.Need-loop-preserved invariant-loop decreases-loop
+loop-again : tie.Need-loop-i-preserved invariant-loop decreases-loop
 loop-again c =
-    let l : tie.At-loop invariant-loop decreases-loop = search in
-    let test : tie.In-loop invariant-loop decreases-loop = search in
-    spelled-more l.loop.inv test.loop-test.taken c.before.before.put-name-byte.ensures
+    spelled-more c.loop-i.invariant c.loop-i-test.true c.put_name_byte-o.ensures
 
-same_length : tie.Need-same-length invariant-loop decreases-loop
-same_length c = same c.before.loop.invariant.wrote
+same_length : tie.Need-shape_of-out invariant-loop decreases-loop
+same_length c = same c.loop-i.invariant.wrote
 
 returns : tie.Need-returns invariant-loop decreases-loop
-returns c = spelled-all c.before.loop.invariant c.loop-test.false
+returns c = spelled-all c.loop-i.invariant c.loop-i-test.false
 
-pub put-name-bytes-spec : {M : Type 1} → statement M
-put-name-bytes-spec =
+pub put_name_bytes_spec : {M : Type 1} → statement M
+put_name_bytes_spec =
     tie.close
     (tie.spec
     invariant-loop

@@ -9,14 +9,14 @@ use Rattle.matchlater.proofs.MatchLaws.{match_past}
 use Rattle.matchlater.proofs.match_at.Statement.{statement}
 use Rattle.matchlater.proofs.match_at.Tie as tie
 
-pub match-at-spec : {M : Type 1} → statement M
+pub match_at_spec : {M : Type 1} → statement M
 unfolding match_at
-match-at-spec =
+match_at_spec =
     tie.close
     (tie.spec
-    (λ c. let a = c.before.before.args in sym (match_past a.s.now a.at (omega arith)))
+    (λ c. let a = c.args in sym (match_past a.s.now a.at (omega arith)))
     (λ c. search rules)
-    (λ c. let a = c.before.before.before.args in sym (match_past a.s.now a.at (omega arith)))
+    (λ c. let a = c.args in sym (match_past a.s.now a.at (omega arith)))
     (λ c κs. search rules) (λ c. search rules) (λ c κs. search rules)
-    (λ c. let start : tie.Start = search in let a = start.args in simp (le-leb (a.at + 6) (length a.s.now) (omega arith), eq-eqb _ _ (sym c.before.before.u16-at.ensures ∙ c.before.if3.true), c.u32-at.ensures))
-    (λ c. let start : tie.Start = search in let a = start.args in simp (le-leb (a.at + 6) (length a.s.now) (omega arith), ne_eqb _ _ (λ e. c.if3.false (c.before.u16-at.ensures ∙ e)), ne_eqb _ _ c.if3.false)))
+    (λ c. let start : tie.Start = search in let a = start.args in simp (le-leb (a.at + 6) (length a.s.now) (omega arith), eq-eqb _ _ (sym c.u16_at.ensures ∙ c.if-u16_at-eq-NAME_ID.true), c.u32_at.ensures))
+    (λ c. let start : tie.Start = search in let a = start.args in simp (le-leb (a.at + 6) (length a.s.now) (omega arith), ne_eqb _ _ (λ e. c.if-u16_at-eq-NAME_ID.false (c.u16_at.ensures ∙ e)), ne_eqb _ _ c.if-u16_at-eq-NAME_ID.false)))

@@ -7,32 +7,29 @@ use Rattle.matchlater.proofs.MatchLaws.{match-on, leap_one}
 use Rattle.matchlater.proofs.match_before.Statement.{statement}
 use Rattle.matchlater.proofs.match_before.Tie as tie
 
-abbrev invariant-loop : tie.invariant-loop
+abbrev invariant-loop : tie.invariant-loop-p
 invariant-loop s from stop p₀ p = Leapt s from stop p
 
-abbrev decreases-loop : tie.decreases-loop
+abbrev decreases-loop : tie.decreases-loop-p
 decreases-loop s from stop p₀ p = stop - p
 
-loop-again : tie.Need-loop-preserved invariant-loop decreases-loop
+loop-again : tie.Need-loop-p-preserved-then-rules_out invariant-loop decreases-loop
 loop-again c =
-    let turn : tie.At-loop invariant-loop decreases-loop = search in
-    record { same = turn.loop.inv.same ∙ leap_one _ _ (sym c.before.rules-out.ensures ∙ c.if1.true); behind = omega arith; within = omega arith }
+    record { same = c.loop-p.invariant.same ∙ leap_one _ _ (sym c.rules_out.ensures ∙ c.if-rules_out.true); behind = omega arith; within = omega arith }
 
-returns : tie.Need-returns invariant-loop decreases-loop
+returns : tie.Need-returns-then-match_at invariant-loop decreases-loop
 returns c =
-    let turn : tie.At-loop invariant-loop decreases-loop = search in
-    record { same = turn.loop.inv.same; behind = omega arith; within = omega arith; here = λ _. sym c.before.match-at.ensures ∙ c.if2.true }
+    record { same = c.loop-p.invariant.same; behind = omega arith; within = omega arith; here = λ _. sym c.match_at.ensures ∙ c.if-match_at.true }
 
-loop-again-2 : tie.Need-loop-preserved-2 invariant-loop decreases-loop
+loop-again-2 : tie.Need-loop-p-preserved invariant-loop decreases-loop
 loop-again-2 c =
-    let turn : tie.At-loop invariant-loop decreases-loop = search in
-    record { same = turn.loop.inv.same ∙ match-on _ _ (sym c.before.match-at.ensures ∙ c.if2.false); behind = omega arith; within = omega arith }
+    record { same = c.loop-p.invariant.same ∙ match-on _ _ (sym c.match_at.ensures ∙ c.if-match_at.false); behind = omega arith; within = omega arith }
 
-returns-2 : tie.Need-returns-2 invariant-loop decreases-loop
-returns-2 c = record { same = c.before.loop.invariant.same ∙ ap (matches_from _) (omega arith); behind = omega arith; within = omega arith; here = λ h. absurd (omega arith) }
+returns-2 : tie.Need-returns invariant-loop decreases-loop
+returns-2 c = record { same = c.loop-p.invariant.same ∙ ap (matches_from _) (omega arith); behind = omega arith; within = omega arith; here = λ h. absurd (omega arith) }
 
-pub match-before-spec : {M : Type 1} → statement M
-match-before-spec =
+pub match_before_spec : {M : Type 1} → statement M
+match_before_spec =
     tie.close
     (tie.spec
     invariant-loop

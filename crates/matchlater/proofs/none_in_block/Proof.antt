@@ -13,29 +13,28 @@ record Tried (s : List ℕ) (at : ℕ) (none : Bool) (i : ℕ) : Type 0 where
   within : i ≤ 32
   is : none ≡ none_of_lem i s at
 
-abbrev invariant-loop : tie.invariant-loop
+abbrev invariant-loop : tie.invariant-loop-i
 invariant-loop s at none₀ i₀ none i = Tried s at none i
 
-abbrev decreases-loop : tie.decreases-loop
+abbrev decreases-loop : tie.decreases-loop-i
 decreases-loop s at none₀ i₀ none i = 32 - i
 
-loop-holds : tie.Need-loop-init invariant-loop decreases-loop
+loop-holds : tie.Need-loop-i-init invariant-loop decreases-loop
 unfolding none_of_lem
 loop-holds c = record { within = omega arith; is = refl }
 
-loop-again : tie.Need-loop-preserved invariant-loop decreases-loop
+loop-again : tie.Need-loop-i-preserved invariant-loop decreases-loop
 loop-again c =
-    let turn : tie.At-loop invariant-loop decreases-loop = search in
-    record { within = omega arith; is = ap₂ ◌&&◌ turn.loop.inv.is c.rules-out.ensures ∙ none_more _ _ _ }
+    record { within = omega arith; is = ap₂ ◌&&◌ c.loop-i.invariant.is c.rules_out-none.ensures ∙ none_more _ _ _ }
 
 returns : tie.Need-returns invariant-loop decreases-loop
 returns c =
-    let a = c.before.before.before.args in
-    let e : c.before.loop.i ≡ 32 = omega arith in
-    c.before.loop.invariant.is ∙ ap (λ n. none_of_lem n a.s.now a.at) e
+    let a = c.args in
+    let e : c.loop-i.i ≡ 32 = omega arith in
+    c.loop-i.invariant.is ∙ ap (λ n. none_of_lem n a.s.now a.at) e
 
-pub none-in-block-spec : {M : Type 1} → statement M
-none-in-block-spec =
+pub none_in_block_spec : {M : Type 1} → statement M
+none_in_block_spec =
     tie.close
     (tie.spec
     invariant-loop

@@ -7,16 +7,15 @@ use Rattle.names.proofs.Bracket.{placed}
 use Rattle.names.proofs.is_at.Statement.{statement}
 use Rattle.names.proofs.is_at.Tie as tie
 
-returns : tie.Need-returns
+returns : tie.Need-returns-then-ids-near
 returns c = λ e. absurd (let z : ◌≡◌ {A = ℕ} 0 1 = cc in omega arith)
 
-returns-2 : tie.Need-returns-2
+returns-2 : tie.Need-returns
 returns-2 c =
-    let first : tie.Start = search in
-    λ e. placed first.args.ids.now first.args.id first.args.near first.pre (omega arith) (eqb-true _ _ e)
+    λ e. placed c.args.ids.now c.args.id c.args.near c.requires (omega arith) (eqb-true _ _ e)
 
-pub is-at-spec : {M : Type 1} → statement M
-is-at-spec =
+pub is_at_spec : {M : Type 1} → statement M
+is_at_spec =
     tie.close
     (tie.spec
     returns

@@ -5,29 +5,25 @@ use borrow.Author.Rules.{rules}
 use Rattle.names.proofs.name_in.Statement.{statement}
 use Rattle.names.proofs.name_in.Tie as tie
 
-mul-place-in : tie.Need-overflow-mul-place-in
-mul-place-in c = let first : tie.Start = search in omega (arith, ids_there first.pre.lent first.pre.stand)
+mul-place-in : tie.Need-offset_bounds-index-from
+mul-place-in c = omega (arith, ids_there c.requires.lent c.requires.stand)
 
-part-place-in-end : tie.Need-slice-bounds-place-in-end
-part-place-in-end c = let first : tie.Start = search in ids_there first.pre.lent first.pre.stand
+part-place-in-end : tie.Need-slice_bounds-place_in-end
+part-place-in-end c = ids_there c.requires.lent c.requires.stand
 
-place-in-requires : tie.Need-place-in-requires
-place-in-requires c κs = let first : tie.Start = search in ids_ascend first.pre.lent first.pre.stand
+place-in-requires : tie.Need-place_in-i-requires
+place-in-requires c κs = ids_ascend c.requires.lent c.requires.stand
 
-returns : tie.Need-returns
+returns : tie.Need-returns-then-i-to
 returns c =
-    let first : tie.Start = search in
-    let placed : tie.After-place-in = search in
-    c.row-name.ensures ∙ name-is first.pre.lent first.pre.stand first.args.id placed.IsPlace-in.result placed.IsPlace-in.ensures (omega arith)
+    c.row_name.ensures ∙ name-is c.requires.lent c.requires.stand c.args.id c.place_in-i.result c.place_in-i.ensures (omega arith)
 
-returns-2 : tie.Need-returns-2
+returns-2 : tie.Need-returns
 returns-2 c =
-    let first : tie.Start = search in
-    let placed : tie.After-place-in = search in
-    c.nothing-of.ensures ∙ no_name first.pre.lent first.pre.stand first.args.id placed.IsPlace-in.result placed.IsPlace-in.ensures (omega arith)
+    c.nothing_of.ensures ∙ no_name c.requires.lent c.requires.stand c.args.id c.place_in-i.result c.place_in-i.ensures (omega arith)
 
-pub name-in-spec : {M : Type 1} → statement M
-name-in-spec =
+pub name_in_spec : {M : Type 1} → statement M
+name_in_spec =
     tie.close
     (tie.spec
     mul-place-in

@@ -5,29 +5,25 @@ use borrow.Author.Rules.{rules}
 use Rattle.names.proofs.name_near.Statement.{statement}
 use Rattle.names.proofs.name_near.Tie as tie
 
-mul-place-near : tie.Need-overflow-mul-place-near
-mul-place-near c = let first : tie.Start = search in omega (arith, ids_there first.pre.0.lent first.pre.0.stand)
+mul-place-near : tie.Need-offset_bounds-index-from
+mul-place-near c = omega (arith, ids_there c.requires.0.lent c.requires.0.stand)
 
-part-place-near-end : tie.Need-slice-bounds-place-near-end
-part-place-near-end c = let first : tie.Start = search in ids_there first.pre.0.lent first.pre.0.stand
+part-place-near-end : tie.Need-slice_bounds-place_near-end
+part-place-near-end c = ids_there c.requires.0.lent c.requires.0.stand
 
-place-near-requires : tie.Need-place-near-requires
-place-near-requires c κs = let first : tie.Start = search in ids_ascend first.pre.0.lent first.pre.0.stand
+place-near-requires : tie.Need-place_near-i-requires
+place-near-requires c κs = ids_ascend c.requires.0.lent c.requires.0.stand
 
-returns : tie.Need-returns
+returns : tie.Need-returns-then-i-to
 returns c =
-    let first : tie.Start = search in
-    let placed : tie.After-place-near = search in
-    c.row-name.ensures ∙ name-is first.pre.0.lent first.pre.0.stand first.args.id placed.place-near.result placed.place-near.ensures (omega arith)
+    c.row_name.ensures ∙ name-is c.requires.0.lent c.requires.0.stand c.args.id c.place_near-i.result c.place_near-i.ensures (omega arith)
 
-returns-2 : tie.Need-returns-2
+returns-2 : tie.Need-returns
 returns-2 c =
-    let first : tie.Start = search in
-    let placed : tie.After-place-near = search in
-    c.nothing-of.ensures ∙ no_name first.pre.0.lent first.pre.0.stand first.args.id placed.place-near.result placed.place-near.ensures (omega arith)
+    c.nothing_of.ensures ∙ no_name c.requires.0.lent c.requires.0.stand c.args.id c.place_near-i.result c.place_near-i.ensures (omega arith)
 
-pub name-near-spec : {M : Type 1} → statement M
-name-near-spec =
+pub name_near_spec : {M : Type 1} → statement M
+name_near_spec =
     tie.close
     (tie.spec
     (λ c. search rules)

@@ -5,7 +5,7 @@ use Rattle.names.proofs.number_name.Tie as tie
 
 returns : tie.Need-returns
 unfolding names_for
-returns c = let written : tie.After-value-name = search in written.value-name.ensures
+returns c = c.value_name.ensures
 
-pub number-name-spec : {M : Type 1} → statement M
-number-name-spec = tie.close (tie.spec (λ c κs. search rules) (λ c. search rules) returns)
+pub number_name_spec : {M : Type 1} → statement M
+number_name_spec = tie.close (tie.spec (λ c κs. search rules) (λ c. search rules) returns)

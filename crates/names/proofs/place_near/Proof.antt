@@ -2,14 +2,12 @@ use borrow.Author.Rules.{rules}
 use Rattle.names.proofs.place_near.Statement.{statement}
 use Rattle.names.proofs.place_near.Tie as tie
 
-returns : tie.Need-returns
+returns : tie.Need-returns-then-is_at
 returns c =
-    let asked : tie.After-is-at = search in
-    let told : tie.Then1 = search in
-    asked.is_at.ensures told.if1.taken
+    c.is_at.ensures c.if-is_at.true
 
-pub place-near-spec : {M : Type 1} → statement M
-place-near-spec =
+pub place_near_spec : {M : Type 1} → statement M
+place_near_spec =
     tie.close
     (tie.spec
     (λ c κs. search rules)

@@ -19,18 +19,18 @@ the-name first = letters-at first.requires.lent first.args.row first.requires.th
 fits : (first : tie.Start) → half first + first.args.row + 1 < length first.args.index.now
 fits first = omega (arith, size first.requires.lent, first.requires.there)
 
-pub row-name-spec : {M : Type 1} → statement M
-row-name-spec =
+pub row_name_spec : {M : Type 1} → statement M
+row_name_spec =
     tie.close
     (tie.spec
     (λ c. omega (arith, fits c))
     (λ c. let first : tie.Start = search in omega (arith, fits first))
     (λ c. let first : tie.Start = search in omega (arith, fits first))
-    (λ c. let first : tie.Start = search in omega (arith, c.shared-slice-known.given (half first + first.args.row)))
+    (λ c. let first : tie.Start = search in omega (arith, c.shared_slice_known-1.given (half first + first.args.row)))
     (λ c. let first : tie.Start = search in omega (arith, fits first))
     (λ c. let first : tie.Start = search in omega (arith, fits first))
     (λ c. let first : tie.Start = search in omega (arith, fits first))
-    (λ c. let first : tie.Start = search in omega (arith, c.shared-slice-known2.given (half first + first.args.row + 1)))
+    (λ c. let first : tie.Start = search in omega (arith, c.shared_slice_known-2-1.given (half first + first.args.row + 1)))
     (λ c. let first : tie.Start = search in (the-name first).ordered)
     (λ c. let first : tie.Start = search in (the-name first).ordered)
     (λ c. let first : tie.Start = search in (the-name first).inside)

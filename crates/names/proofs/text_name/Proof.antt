@@ -5,7 +5,7 @@ use Rattle.names.proofs.text_name.Tie as tie
 
 returns : tie.Need-returns
 unfolding names_for
-returns c = let written : tie.After-value-name = search in written.value-name.ensures
+returns c = c.value_name.ensures
 
-pub text-name-spec : {M : Type 1} → statement M
-text-name-spec = tie.close (tie.spec (λ c κs. search rules) (λ c. search rules) returns)
+pub text_name_spec : {M : Type 1} → statement M
+text_name_spec = tie.close (tie.spec (λ c κs. search rules) (λ c. search rules) returns)

@@ -4,21 +4,17 @@ use Rattle.names.proofs.Short.{value-short}
 use Rattle.names.proofs.value_name.Statement.{statement}
 use Rattle.names.proofs.value_name.Tie as tie
 
-write-name-requires : tie.Need-write-name-requires
+write-name-requires : tie.Need-write_name-requires
 write-name-requires c κs =
-    let first : tie.Start = search in
-    let named : tie.After-value-name-in = search in
-    rw named.value-name-in.ensures (value-short first.args.mark first.args.id)
+    rw c.value_name_in.ensures (value-short c.args.mark c.args.id)
 
 returns : tie.Need-returns
 unfolding name_exit
 returns c =
-    let written : tie.After-write-name = search in
-    let named : tie.After-value-name-in = search in
-    rw named.value-name-in.ensures at written.write-name.ensures
+    rw c.value_name_in.ensures at c.write_name.ensures
 
-pub value-name-spec : {M : Type 1} → statement M
-value-name-spec =
+pub value_name_spec : {M : Type 1} → statement M
+value_name_spec =
     tie.close
     (tie.spec
     (λ c κs. search rules) (λ c κs. search rules) (λ c. search rules) (λ c. search rules) (λ c κs. search rules)

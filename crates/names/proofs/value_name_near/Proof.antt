@@ -7,9 +7,7 @@ use Rattle.names.proofs.value_name_near.Tie as tie
 
 returns : tie.Need-returns
 returns c =
-    let start : tie.Start = search in
-    let asked : tie.After-rows-for = search in
-    c.name-near.ensures ∙ ap (λ (t : Table). name_in_lem t start.args.id) asked.rows-for.ensures.are
+    c.name_near.ensures ∙ ap (λ (t : Table). name_in_lem t c.args.id) c.rows_for-rows.ensures.are
 
-pub value-name-near-spec : {M : Type 1} → statement M
-value-name-near-spec = tie.close (tie.spec (λ c κs. search rules) (λ c κs. search rules) (λ c κs. search rules) returns)
+pub value_name_near_spec : {M : Type 1} → statement M
+value_name_near_spec = tie.close (tie.spec (λ c κs. search rules) (λ c κs. search rules) (λ c κs. search rules) returns)

@@ -4,21 +4,18 @@ use Rattle.text.proofs.Written.{shown, room-exit, no-room-exit}
 use Rattle.names.proofs.write_name.Statement.{statement}
 use Rattle.names.proofs.write_name.Tie as tie
 
-returns : tie.Need-returns
+returns : tie.Need-returns-then-out-name
 returns c =
-    let start : tie.Start = search in
-    let a = start.args in
+    let a = c.args in
     shown (no-room-exit a.name.now a.out.now (omega arith)) c.refused.ensures
 
-returns-2 : tie.Need-returns-2
+returns-2 : tie.Need-returns
 returns-2 c =
-    let start : tie.Start = search in
-    let put : tie.After-put-text = search in
-    let a = start.args in
-    shown (room-exit a.name.now a.out.now put.put-text.ensures (omega arith)) c.wrote.ensures
+    let a = c.args in
+    shown (room-exit a.name.now a.out.now c.put_text.ensures (omega arith)) c.wrote.ensures
 
-pub write-name-spec : {M : Type 1} → statement M
-write-name-spec =
+pub write_name_spec : {M : Type 1} → statement M
+write_name_spec =
     tie.close
     (tie.spec
     (λ c κs. search rules)

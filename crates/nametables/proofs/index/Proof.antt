@@ -8,5 +8,5 @@ returns : tie.Need-returns
 unfolding all_names text_names number_names bytes_names control_type_names
 returns c = refl
 
-pub index-spec : {M : Type 1} → statement M
-index-spec = tie.close (tie.spec returns)
+pub index_spec : {M : Type 1} → statement M
+index_spec = tie.close (tie.spec returns)

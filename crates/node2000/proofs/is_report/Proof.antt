@@ -8,7 +8,7 @@ use Rattle.node2000.proofs.is_report.Tie as tie
 
 returns : tie.Need-returns
 unfolding is_report
-returns c = ap (λ (b : ℕ). eqb b 0x97) c.byte-at.ensures
+returns c = ap (λ (b : ℕ). eqb b 0x97) c.byte_at.ensures
 
-pub is-report-spec : {M : Type 1} → statement M
-is-report-spec = tie.close (tie.spec (λ c κs. search rules) returns)
+pub is_report_spec : {M : Type 1} → statement M
+is_report_spec = tie.close (tie.spec (λ c κs. search rules) returns)

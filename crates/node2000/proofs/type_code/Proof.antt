@@ -3,12 +3,12 @@ use borrow.Author.Rules.{rules}
 use Rattle.node2000.proofs.type_code.Statement.{statement}
 use Rattle.node2000.proofs.type_code.Tie as tie
 
-returns : tie.Need-returns
-returns c = type-header _ _ _ c.before.before.before.is-header.ensures c.before.before.if1.true c.before.header-mark.ensures c.bit_or.ensures
+returns : tie.Need-returns-then-is_header
+returns c = type-header _ _ _ c.is_header.ensures c.if-is_header.true c.header_mark.ensures c.bit_or.ensures
 
-returns-2 : tie.Need-returns-2
-returns-2 c = type-other _ _ _ c.before.is-header.ensures c.if1.false
+returns-2 : tie.Need-returns
+returns-2 c = type-other _ _ _ c.is_header.ensures c.if-is_header.false
 
-pub type-code-spec : {M : Type 1} → statement M
-type-code-spec =
+pub type_code_spec : {M : Type 1} → statement M
+type_code_spec =
     tie.close (tie.spec (λ c κs. search rules) (λ c κs. search rules) (λ c κs. search rules) returns returns-2)

@@ -11,30 +11,27 @@ use Rattle.numbers.specs.declared.Int.TheVariants.{Of}
 use Rattle.numbers.proofs.integer_value.Statement.{statement}
 use Rattle.numbers.proofs.integer_value.Tie as tie
 
-returns : tie.Need-returns
+returns : tie.Need-returns-then-bytes-eq1
 returns c =
-    ap Of (to_z_pos w32 {n = c.byte-at.result} (omega arith) ∙ ap pos c.byte-at.ensures)
-    ∙ ap int_of (one_byte c.before.before.before.args.bytes.now (omega arith))
+    ap Of (to_z_pos w32 {n = c.byte_at.result} (omega arith) ∙ ap pos c.byte_at.ensures)
+    ∙ ap int_of (one_byte c.args.bytes.now (omega arith))
 
-returns-2 : tie.Need-returns-2
+returns-2 : tie.Need-returns-then-bytes-eq2
 returns-2 c =
-    let start : tie.Start = search in
-    ap Of (to_z-of_z {w = w32} (record { sfits = c.signed16.type-inv }) ∙ c.signed16.ensures ∙ ap (signed 0x8000) c.before.u16-at.ensures)
-    ∙ ap int_of (two_bytes start.args.bytes.now (omega arith))
+    ap Of (to_z-of_z {w = w32} (record { sfits = c.signed16.type_inv }) ∙ c.signed16.ensures ∙ ap (signed 0x8000) c.u16_at.ensures)
+    ∙ ap int_of (two_bytes c.args.bytes.now (omega arith))
 
-returns-3 : tie.Need-returns-3
+returns-3 : tie.Need-returns-then-bytes-eq4
 returns-3 c =
-    let start : tie.Start = search in
-    ap Of (to_z-of_z {w = w32} (record { sfits = c.signed32.type-inv }) ∙ c.signed32.ensures ∙ ap (signed 0x80000000) c.before.u32-at.ensures)
-    ∙ ap int_of (four_bytes start.args.bytes.now (omega arith))
+    ap Of (to_z-of_z {w = w32} (record { sfits = c.signed32.type_inv }) ∙ c.signed32.ensures ∙ ap (signed 0x80000000) c.u32_at.ensures)
+    ∙ ap int_of (four_bytes c.args.bytes.now (omega arith))
 
-returns-4 : tie.Need-returns-4
+returns-4 : tie.Need-returns
 returns-4 c =
-    let start : tie.Start = search in
-    ap int_of (no_integer start.args.bytes.now (λ e. omega arith) (λ e. omega arith) (λ e. omega arith))
+    ap int_of (no_integer c.args.bytes.now (λ e. omega arith) (λ e. omega arith) (λ e. omega arith))
 
-pub integer-value-spec : {M : Type 1} → statement M
-integer-value-spec =
+pub integer_value_spec : {M : Type 1} → statement M
+integer_value_spec =
     tie.close
     (tie.spec
     (λ c κs. search rules) (λ c. search rules)

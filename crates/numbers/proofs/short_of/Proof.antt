@@ -17,20 +17,20 @@ y c = to_z w32 (of_z w32 c.args.v)
 y-is : (c : tie.Start) → y c ≡ c.args.v
 y-is c = to_z-of_z {w = w32} c.ranges.v
 
-small : (c : tie.Else2) → SFits w16 (y c.before.before)
-small c = record { sfits = within (y c.before.before) c.before.if1.false c.if2.false (omega arith) (omega arith) }
+small : (c : tie.Else-v-gt32767) → SFits w16 (y c.before.before)
+small c = record { sfits = within (y c.before.before) c.if-v-ltminus32768.false c.if-v-gt32767.false (omega arith) (omega arith) }
 
-returns : tie.Need-returns
-returns c = too_low (y c.before) c.if1.true (omega arith) ∙ ap short_of (y-is c.before)
+returns : tie.Need-returns-then-v-ltminus32768
+returns c = too_low (y c.before) c.if-v-ltminus32768.true (omega arith) ∙ ap short_of (y-is c.before)
 
-returns-2 : tie.Need-returns-2
-returns-2 c = too_high (y c.before.before) c.if2.true (omega arith) ∙ ap short_of (y-is c.before.before)
+returns-2 : tie.Need-returns-then-v-gt32767
+returns-2 c = too_high (y c.before.before) c.if-v-gt32767.true (omega arith) ∙ ap short_of (y-is c.before.before)
 
-cast-t3 : tie.Need-overflow-cast-t3
+cast-t3 : tie.Need-overflow_cast-result
 cast-t3 c = small c
 
-returns-3 : tie.Need-returns-3
+returns-3 : tie.Need-returns
 returns-3 c = ap Fits (to_z-of_z {w = w16} (small c)) ∙ short-is (y c.before.before) (small c).sfits ∙ ap short_of (y-is c.before.before)
 
-pub short-of-spec : {M : Type 1} → statement M
-short-of-spec = tie.close (tie.spec returns returns-2 cast-t3 returns-3)
+pub short_of_spec : {M : Type 1} → statement M
+short_of_spec = tie.close (tie.spec returns returns-2 cast-t3 returns-3)

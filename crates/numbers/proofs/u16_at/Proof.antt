@@ -6,14 +6,14 @@ use Rattle.numbers.proofs.Past.{no-u16}
 use Rattle.numbers.proofs.u16_at.Statement.{statement}
 use Rattle.numbers.proofs.u16_at.Tie as tie
 
-returns : tie.Need-returns
+returns : tie.Need-returns-then-at-s
 unfolding u16
 returns c = search rules
 
-returns-2 : tie.Need-returns-2
-returns-2 c = sym (no-u16 c.before.before.args.s.now c.before.before.args.at (omega arith))
+returns-2 : tie.Need-returns-else-at-s
+returns-2 c = sym (no-u16 c.args.s.now c.args.at (omega arith))
 
-pub u16-at-spec : {M : Type 1} → statement M
-u16-at-spec =
+pub u16_at_spec : {M : Type 1} → statement M
+u16_at_spec =
     tie.close
     (tie.spec (λ c κs. search rules) (λ c. search rules) (λ c κs. search rules) (λ c κs. search rules) returns returns-2)

@@ -7,6 +7,6 @@ returns : tie.Need-returns
 unfolding u16
 returns c = search rules
 
-pub u16-inside-spec : {M : Type 1} → statement M
-u16-inside-spec =
+pub u16_inside_spec : {M : Type 1} → statement M
+u16_inside_spec =
     tie.close (tie.spec (λ c. search rules) (λ c. search rules) (λ c. search rules) (λ c κs. search rules) returns)

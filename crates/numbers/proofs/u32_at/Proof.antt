@@ -6,24 +6,22 @@ use Rattle.numbers.proofs.Past.{no-u16}
 use Rattle.numbers.proofs.u32_at.Statement.{statement}
 use Rattle.numbers.proofs.u32_at.Tie as tie
 
-returns : tie.Need-returns
+returns : tie.Need-returns-then-s-le2
 unfolding u32
 returns c =
-    let start : tie.Start = search in
-    let a = start.args in omega (arith, no-u16 a.s.now (a.at + 2) (omega arith))
+    let a = c.args in omega (arith, no-u16 a.s.now (a.at + 2) (omega arith))
 
-returns-2 : tie.Need-returns-2
+returns-2 : tie.Need-returns-then-s-at
 unfolding u32
 returns-2 c =
-    let start : tie.Start = search in
-    let a = start.args in omega (arith, no-u16 a.s.now (a.at + 2) (omega arith))
+    let a = c.args in omega (arith, no-u16 a.s.now (a.at + 2) (omega arith))
 
-returns-3 : tie.Need-returns-3
+returns-3 : tie.Need-returns
 unfolding u32
 returns-3 c = search rules
 
-pub u32-at-spec : {M : Type 1} → statement M
-u32-at-spec =
+pub u32_at_spec : {M : Type 1} → statement M
+u32_at_spec =
     tie.close
     (tie.spec
     (λ c κs. search rules) (λ c κs. search rules)

@@ -7,6 +7,6 @@ returns : tie.Need-returns
 unfolding u32
 returns c = search rules
 
-pub u32-inside-spec : {M : Type 1} → statement M
-u32-inside-spec =
+pub u32_inside_spec : {M : Type 1} → statement M
+u32_inside_spec =
     tie.close (tie.spec (λ c κs. search rules) (λ c. search rules) (λ c κs. search rules) (λ c κs. search rules) returns)

@@ -10,9 +10,9 @@ use Rattle.numbers.proofs.widen.Tie as tie
 
 returns : tie.Need-returns
 returns c =
-    let w = c.widen-bits.result in
+    let w = c.widen_bits-w.result in
     let e : w / 4294967296 * 4294967296 + w % 4294967296 ≡ w = div-add-mod' w 4294967296 in
-    (ap words_of c.widen-bits.ensures, ap (λ (n : ℕ). of_bits binary64 n) (e ∙ c.widen-bits.ensures) ∙ same-value c.before.args.low)
+    (ap words_of c.widen_bits-w.ensures, ap (λ (n : ℕ). of_bits binary64 n) (e ∙ c.widen_bits-w.ensures) ∙ same-value c.args.low)
 
 pub widen_spec : {M : Type 1} → statement M
 widen_spec = tie.close (tie.spec (λ c κs. search rules) (λ c. search rules) (λ c. search rules) returns)

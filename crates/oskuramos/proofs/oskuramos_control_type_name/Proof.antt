@@ -4,20 +4,20 @@ use borrow.Author.Rules.{rules}
 use Rattle.oskuramos.proofs.oskuramos_control_type_name.Statement.{statement}
 use Rattle.oskuramos.proofs.oskuramos_control_type_name.Tie as tie
 
-control-type-name-requires : tie.Need-control-type-name-requires
+control-type-name-requires : tie.Need-control_type_name-requires
 control-type-name-requires c κs = search rules
 
-handed-answer-requires : tie.Need-handed-answer-requires
+handed-answer-requires : tie.Need-handed_answer-requires
 handed-answer-requires c κs = search rules
 
-same_length : tie.Need-same-length
+same_length : tie.Need-shape_of-out
 same_length c = search rules
 
 returns : tie.Need-returns
 returns c =
-    let e = c.before.before.before.control-type-name.ensures in
-    (c.handed-answer.ensures ∙ ap handed_answer e.0, e.1)
+    let e = c.control_type_name.ensures in
+    (c.handed_answer.ensures ∙ ap handed_answer e.0, e.1)
 
-pub oskuramos-control-type-name-spec : {M : Type 1} → statement M
-oskuramos-control-type-name-spec =
+pub oskuramos_control_type_name_spec : {M : Type 1} → statement M
+oskuramos_control_type_name_spec =
     tie.close (tie.spec control-type-name-requires handed-answer-requires same_length returns)

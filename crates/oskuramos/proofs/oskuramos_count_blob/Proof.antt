@@ -1,4 +1,3 @@
--- A walk of the code by hand, since the kit has none for a struct that is lent. All that was lent goes to `count_blob` for good, and its answer is handed over.
 use mathlib.Core.Path.{◌≡◌, refl, ap, ◌∙◌}
 use mathlib.Core.List.{[], ◌∷◌}
 use seplogic.Ra.Ura.{Ura}
@@ -54,6 +53,7 @@ use Rattle.oskuramos.specs.contracts.oskuramos_count_blob.Key.{name as #oskuramo
 use Rattle.oskuramos.specs.contracts.oskuramos_count_blob as f
 use Rattle.oskuramos.proofs.oskuramos_count_blob.Statement as stated
 use Rattle.oskuramos.proofs.oskuramos_count_blob.Code as code
+-- A walk of the code by hand, since the kit has none for a struct that is lent. All that was lent goes to `count_blob` for good, and its answer is handed over.
 
 abbrev stayed : Stays (f.ended).signature.params (f.ended).kept
 stayed = (gave_ref (0 ∷ []) tt (plain (λ _. T.the_row)), (stay_dropped (shr_slice_of (1 ∷ []) tt (plain (λ _. u8))) yes, (stay_dropped (shr_slice_of (2 ∷ []) tt (plain (λ _. u8))) yes, (stay_dropped (plain (λ _. u32)) yes, (stay_dropped (plain (λ _. u32)) yes, tt)))))
@@ -73,7 +73,7 @@ module _ {M : Type 1} {𝓤 : Ura M} (𝓛 : Logic 𝓤) (mem : Memory → SProp
   abbrev to-hand : rules.Answer → Val → Hand.Ghost
   to-hand r v = ((tt, tt, tt, (r, tt), (v ∷ [], tt)), tt)
 
-  goes-hand : (r : rules.Answer) (v : Val) → ent 𝓤 (sem 𝓛 ((R.the_row).own_val r (v ∷ []))) (Hand.pre (to-hand r v))
+  goes-hand : (r : rules.Answer) (v : Val) → ent 𝓤 (sem 𝓛 ((R.the_row).own_val r (v ∷ []))) (Hand.requires (to-hand r v))
   goes-hand r v = qed 𝓛 (‵ ((R.the_row).own_val r (v ∷ [])) ∷ []) ∵ nothing ! $ move ! (1 ∷ 0 ∷ []) $ join ! $ nothing ! $ join ! $ frame ! $ done !
 
 abbrev spelled : (κs : Lfts 3) → Spells (types_at (f.signature).params κs)

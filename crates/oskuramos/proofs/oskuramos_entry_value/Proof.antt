@@ -5,8 +5,8 @@ use Rattle.oskuramos.proofs.oskuramos_entry_value.Statement.{statement}
 use Rattle.oskuramos.proofs.oskuramos_entry_value.Tie as tie
 
 returns : tie.Need-returns
-returns c = c.handed-value.ensures ∙ ap handed_value c.before.entry-value.ensures
+returns c = c.handed_value.ensures ∙ ap handed_value c.entry_value.ensures
 
-pub oskuramos-entry-value-spec : {M : Type 1} → statement M
-oskuramos-entry-value-spec =
+pub oskuramos_entry_value_spec : {M : Type 1} → statement M
+oskuramos_entry_value_spec =
     tie.close (tie.spec (λ c κs. search rules) (λ c κs. search rules) returns)

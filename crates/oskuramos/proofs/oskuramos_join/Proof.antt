@@ -6,9 +6,9 @@ use Rattle.oskuramos.proofs.oskuramos_join.Tie as tie
 
 returns : tie.Need-returns
 returns c =
-    let e = c.before.before.before.join.ensures in
-    (c.handed-answer.ensures ∙ ap handed_answer e.0, e.1)
+    let e = c.join.ensures in
+    (c.handed_answer.ensures ∙ ap handed_answer e.0, e.1)
 
-pub oskuramos-join-spec : {M : Type 1} → statement M
-oskuramos-join-spec =
+pub oskuramos_join_spec : {M : Type 1} → statement M
+oskuramos_join_spec =
     tie.close (tie.spec (λ c κs. search rules) (λ c κs. search rules) (λ c. search rules) returns)

@@ -6,9 +6,9 @@ use Rattle.oskuramos.proofs.oskuramos_label_text.Tie as tie
 
 returns : tie.Need-returns
 returns c =
-    let e = c.before.before.before.label-text.ensures in
-    (c.handed-answer.ensures ∙ ap handed_answer e.0, e.1)
+    let e = c.label_text.ensures in
+    (c.handed_answer.ensures ∙ ap handed_answer e.0, e.1)
 
-pub oskuramos-label-text-spec : {M : Type 1} → statement M
-oskuramos-label-text-spec =
+pub oskuramos_label_text_spec : {M : Type 1} → statement M
+oskuramos_label_text_spec =
     tie.close (tie.spec (λ c κs. search rules) (λ c κs. search rules) (λ c. search rules) returns)

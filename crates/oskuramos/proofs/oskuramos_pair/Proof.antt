@@ -6,9 +6,9 @@ use Rattle.oskuramos.proofs.oskuramos_pair.Tie as tie
 
 returns : tie.Need-returns
 returns c =
-    let e = c.before.before.before.pair.ensures in
-    (c.handed-answer.ensures ∙ ap handed_answer e.0, e.1)
+    let e = c.pair.ensures in
+    (c.handed_answer.ensures ∙ ap handed_answer e.0, e.1)
 
-pub oskuramos-pair-spec : {M : Type 1} → statement M
-oskuramos-pair-spec =
+pub oskuramos_pair_spec : {M : Type 1} → statement M
+oskuramos_pair_spec =
     tie.close (tie.spec (λ c κs. search rules) (λ c κs. search rules) (λ c. search rules) returns)

@@ -6,10 +6,9 @@ use Rattle.oskuramos.proofs.oskuramos_read_csv.Tie as tie
 
 returns : tie.Need-returns
 returns c =
-    let after-read-csv : tie.After-read-csv = search in
-    let e = after-read-csv.read_csv_lem.ensures in
-    (c.handed-answer.ensures ∙ ap handed_answer e.0, e.1)
+    let e = c.read_csv.ensures in
+    (c.handed_answer.ensures ∙ ap handed_answer e.0, e.1)
 
-pub oskuramos-read-csv-spec : {M : Type 1} → statement M
-oskuramos-read-csv-spec =
+pub oskuramos_read_csv_spec : {M : Type 1} → statement M
+oskuramos_read_csv_spec =
     tie.close (tie.spec (λ c κs. search rules) (λ c κs. search rules) (λ c. search rules) (λ c. search rules) returns)

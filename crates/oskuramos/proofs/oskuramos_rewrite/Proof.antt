@@ -6,9 +6,9 @@ use Rattle.oskuramos.proofs.oskuramos_rewrite.Tie as tie
 
 returns : tie.Need-returns
 returns c =
-    let e = c.before.before.before.rewrite.ensures in
-    (c.handed-answer.ensures ∙ ap handed_answer e.0, e.1)
+    let e = c.rewrite.ensures in
+    (c.handed_answer.ensures ∙ ap handed_answer e.0, e.1)
 
-pub oskuramos-rewrite-spec : {M : Type 1} → statement M
-oskuramos-rewrite-spec =
+pub oskuramos_rewrite_spec : {M : Type 1} → statement M
+oskuramos_rewrite_spec =
     tie.close (tie.spec (λ c κs. search rules) (λ c κs. search rules) (λ c. search rules) returns)

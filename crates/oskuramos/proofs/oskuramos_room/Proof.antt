@@ -5,7 +5,7 @@ use Rattle.oskuramos.proofs.oskuramos_room.Statement.{statement}
 use Rattle.oskuramos.proofs.oskuramos_room.Tie as tie
 
 returns : tie.Need-returns
-returns c = c.handed-room.ensures ∙ ap handed_room c.before.room_for.ensures
+returns c = c.handed_room.ensures ∙ ap handed_room c.room_for.ensures
 
-pub oskuramos-room-spec : {M : Type 1} → statement M
-oskuramos-room-spec = tie.close (tie.spec (λ c κs. search rules) (λ c κs. search rules) returns)
+pub oskuramos_room_spec : {M : Type 1} → statement M
+oskuramos_room_spec = tie.close (tie.spec (λ c κs. search rules) (λ c κs. search rules) returns)

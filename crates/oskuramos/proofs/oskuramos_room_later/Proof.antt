@@ -5,7 +5,7 @@ use Rattle.oskuramos.proofs.oskuramos_room_later.Statement.{statement}
 use Rattle.oskuramos.proofs.oskuramos_room_later.Tie as tie
 
 returns : tie.Need-returns
-returns c = c.handed-room.ensures ∙ ap handed_room c.before.room-later.ensures
+returns c = c.handed_room.ensures ∙ ap handed_room c.room_later.ensures
 
-pub oskuramos-room-later-spec : {M : Type 1} → statement M
-oskuramos-room-later-spec = tie.close (tie.spec (λ c κs. search rules) (λ c κs. search rules) returns)
+pub oskuramos_room_later_spec : {M : Type 1} → statement M
+oskuramos_room_later_spec = tie.close (tie.spec (λ c κs. search rules) (λ c κs. search rules) returns)

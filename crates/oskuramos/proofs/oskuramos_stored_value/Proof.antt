@@ -5,8 +5,8 @@ use Rattle.oskuramos.proofs.oskuramos_stored_value.Statement.{statement}
 use Rattle.oskuramos.proofs.oskuramos_stored_value.Tie as tie
 
 returns : tie.Need-returns
-returns c = c.handed-value.ensures ∙ ap handed_value c.before.stored-value.ensures
+returns c = c.handed_value.ensures ∙ ap handed_value c.stored_value.ensures
 
-pub oskuramos-stored-value-spec : {M : Type 1} → statement M
-oskuramos-stored-value-spec =
+pub oskuramos_stored_value_spec : {M : Type 1} → statement M
+oskuramos_stored_value_spec =
     tie.close (tie.spec (λ c κs. search rules) (λ c κs. search rules) returns)

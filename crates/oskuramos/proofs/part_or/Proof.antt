@@ -7,13 +7,13 @@ use borrow.Author.Rules.{rules}
 use Rattle.oskuramos.proofs.part_or.Statement.{statement}
 use Rattle.oskuramos.proofs.part_or.Tie as tie
 
-returns : tie.Need-returns
+returns : tie.Need-returns-then-size-start
 unfolding part_or
-returns c = let a = c.before.args in sym (rw (lt-leb (a.start + a.length) a.size (omega arith)))
+returns c = let a = c.args in sym (rw (lt-leb (a.start + a.length) a.size (omega arith)))
 
-returns-2 : tie.Need-returns-2
+returns-2 : tie.Need-returns
 unfolding part_or
-returns-2 c = let a = c.before.args in sym (rw (le-leb (a.start + a.length) a.size (omega arith)))
+returns-2 c = let a = c.args in sym (rw (le-leb (a.start + a.length) a.size (omega arith)))
 
-pub part-or-spec : {M : Type 1} → statement M
-part-or-spec = tie.close (tie.spec (λ c. search rules) returns returns-2)
+pub part_or_spec : {M : Type 1} → statement M
+part_or_spec = tie.close (tie.spec (λ c. search rules) returns returns-2)

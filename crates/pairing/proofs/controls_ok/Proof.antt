@@ -1,4 +1,3 @@
--- Invariant: the rows from `k` on decide.
 use Prim.Native.Nat.{◌-◌}
 use native.Mathlib.Omega.{arith}
 use borrow.Author.Rules.{rules}
@@ -9,29 +8,24 @@ use Rattle.rules.specs.Pairing.{control_ok}
 use Rattle.pairing.proofs.RowLaws.{Deciding, all_decide, judged-all, judged_bad, judged_good, control-ok}
 use Rattle.pairing.proofs.controls_ok.Statement.{statement}
 use Rattle.pairing.proofs.controls_ok.Tie as tie
+-- Invariant: the rows from `k` on decide.
 
-abbrev invariant-loop : tie.invariant-loop
+abbrev invariant-loop : tie.invariant-loop-k
 invariant-loop s controls control-count k₀ k = Deciding control_width control-count controls all (control_ok s) k
 
-abbrev decreases-loop : tie.decreases-loop
+abbrev decreases-loop : tie.decreases-loop-k
 decreases-loop s controls control-count k₀ k = control-count - k
 
-returns : tie.Need-returns invariant-loop decreases-loop
+returns : tie.Need-returns-then-not-control_ok invariant-loop decreases-loop
 returns c =
-    let start : tie.Start invariant-loop decreases-loop = search in
-    let loop : tie.At-loop invariant-loop decreases-loop = search in
-    let row : tie.After-get-control invariant-loop decreases-loop = search in
-    judged_bad loop.loop.inv (omega arith) (c.before.control-ok.ensures ∙ control-ok row.get-control.ensures start.args.s.now) c.if1.true
+    judged_bad c.loop-k.invariant (omega arith) (c.control_ok.ensures ∙ control-ok c.get_control.ensures c.args.s.now) c.if-not-control_ok.true-raw
 
-loop-again : tie.Need-loop-preserved invariant-loop decreases-loop
+loop-again : tie.Need-loop-k-preserved invariant-loop decreases-loop
 loop-again c =
-    let start : tie.Start invariant-loop decreases-loop = search in
-    let loop : tie.At-loop invariant-loop decreases-loop = search in
-    let row : tie.After-get-control invariant-loop decreases-loop = search in
-    judged_good loop.loop.inv (omega arith) (c.before.control-ok.ensures ∙ control-ok row.get-control.ensures start.args.s.now) c.if1.false
+    judged_good c.loop-k.invariant (omega arith) (c.control_ok.ensures ∙ control-ok c.get_control.ensures c.args.s.now) c.if-not-control_ok.false-raw
 
-pub controls-ok-spec : {M : Type 1} → statement M
-controls-ok-spec =
+pub controls_ok_spec : {M : Type 1} → statement M
+controls_ok_spec =
     tie.close
     (tie.spec
     invariant-loop
@@ -41,4 +35,4 @@ controls-ok-spec =
     returns
     (λ c. omega arith) (λ c. omega arith)
     loop-again
-    (λ c. judged-all c.before.loop.invariant (omega arith)))
+    (λ c. judged-all c.loop-k.invariant (omega arith)))

@@ -1,4 +1,3 @@
--- Invariant: the rows from `j` on decide.
 use Prim.Native.Nat.{◌-◌}
 use native.Mathlib.Omega.{arith}
 use borrow.Author.Rules.{rules}
@@ -9,29 +8,24 @@ use Rattle.rules.specs.Pairing.{is_named}
 use Rattle.pairing.proofs.RowLaws.{Deciding, all_decide, judged-all, judged_bad, judged_good, info_named}
 use Rattle.pairing.proofs.infos_ok.Statement.{statement}
 use Rattle.pairing.proofs.infos_ok.Tie as tie
+-- Invariant: the rows from `j` on decide.
 
-abbrev invariant-loop : tie.invariant-loop
+abbrev invariant-loop : tie.invariant-loop-j
 invariant-loop t infos info_count j₀ j = Deciding type_info_width info_count infos all (is_named t) j
 
-abbrev decreases-loop : tie.decreases-loop
+abbrev decreases-loop : tie.decreases-loop-j
 decreases-loop t infos info_count j₀ j = info_count - j
 
-returns : tie.Need-returns invariant-loop decreases-loop
+returns : tie.Need-returns-then-not-is_named invariant-loop decreases-loop
 returns c =
-    let start : tie.Start invariant-loop decreases-loop = search in
-    let loop : tie.At-loop invariant-loop decreases-loop = search in
-    let row : tie.After-get-info invariant-loop decreases-loop = search in
-    judged_bad loop.loop.inv (omega arith) (c.before.is-named.ensures ∙ info_named row.get-info.ensures start.args.t.now) c.if1.true
+    judged_bad c.loop-j.invariant (omega arith) (c.is_named.ensures ∙ info_named c.get_info-info.ensures c.args.t.now) c.if-not-is_named.true-raw
 
-loop-again : tie.Need-loop-preserved invariant-loop decreases-loop
+loop-again : tie.Need-loop-j-preserved invariant-loop decreases-loop
 loop-again c =
-    let start : tie.Start invariant-loop decreases-loop = search in
-    let loop : tie.At-loop invariant-loop decreases-loop = search in
-    let row : tie.After-get-info invariant-loop decreases-loop = search in
-    judged_good loop.loop.inv (omega arith) (c.before.is-named.ensures ∙ info_named row.get-info.ensures start.args.t.now) c.if1.false
+    judged_good c.loop-j.invariant (omega arith) (c.is_named.ensures ∙ info_named c.get_info-info.ensures c.args.t.now) c.if-not-is_named.false-raw
 
-pub infos-ok-spec : {M : Type 1} → statement M
-infos-ok-spec =
+pub infos_ok_spec : {M : Type 1} → statement M
+infos_ok_spec =
     tie.close
     (tie.spec
     invariant-loop
@@ -41,4 +35,4 @@ infos-ok-spec =
     returns
     (λ c. omega arith) (λ c. omega arith)
     loop-again
-    (λ c. judged-all c.before.loop.invariant (omega arith)))
+    (λ c. judged-all c.loop-j.invariant (omega arith)))

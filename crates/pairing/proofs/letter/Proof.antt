@@ -4,60 +4,50 @@ use Rattle.pairing.proofs.NameLaws.{wide_inside, narrow_inside, wide_other, wide
 use Rattle.pairing.proofs.letter.Statement.{statement}
 use Rattle.pairing.proofs.letter.Tie as tie
 
-mul_at : tie.Need-overflow-mul-at
+mul_at : tie.Need-overflow_mul-at
 mul_at c =
-    let start : tie.Start = search in
-    omega (arith, start.pre.one, wide_inside start.args.s.now start.args.name 0 start.pre.inside (search))
+    omega (arith, c.requires.one, wide_inside c.args.s.now c.args.name 0 c.requires.inside (search))
 
-add_at : tie.Need-overflow-add-at
+add_at : tie.Need-overflow_add-at
 add_at c =
-    let start : tie.Start = search in
-    omega (arith, start.pre.one, wide_inside start.args.s.now start.args.name 0 start.pre.inside (search))
+    omega (arith, c.requires.one, wide_inside c.args.s.now c.args.name 0 c.requires.inside (search))
 
-add-if2 : tie.Need-overflow-add-if2
+add-if2 : tie.Need-overflow_add-at-then-name
 add-if2 c =
-    let start : tie.Start = search in
-    omega (arith, start.pre.one, wide_inside start.args.s.now start.args.name 0 start.pre.inside (search))
+    omega (arith, c.requires.one, wide_inside c.args.s.now c.args.name 0 c.requires.inside (search))
 
-shared-slice-read-if2 : tie.Need-shared-slice-read-if2
+shared-slice-read-if2 : tie.Need-bounds-s-at
 shared-slice-read-if2 c =
-    let start : tie.Start = search in
-    omega (arith, start.pre.one, wide_inside start.args.s.now start.args.name 0 start.pre.inside (search))
+    omega (arith, c.requires.one, wide_inside c.args.s.now c.args.name 0 c.requires.inside (search))
 
-returns : tie.Need-returns
+returns : tie.Need-returns-then-s-at-ne0
 returns c =
-    let start : tie.Start = search in
-    wide_other start.args.s.now start.args.name start.args.i (search) c.if2.true
+    wide_other c.args.s.now c.args.name c.args.i (search) c.if-s-at-ne0.true
 
-shared-slice-read-result : tie.Need-shared-slice-read-result
+shared-slice-read-result : tie.Need-bounds-s-at-then-name
 shared-slice-read-result c =
-    let start : tie.Start = search in
-    omega (arith, start.pre.one, wide_inside start.args.s.now start.args.name 0 start.pre.inside (search))
+    omega (arith, c.requires.one, wide_inside c.args.s.now c.args.name 0 c.requires.inside (search))
 
-returns-2 : tie.Need-returns-2
+returns-2 : tie.Need-returns-then-name
 returns-2 c =
-    let start : tie.Start = search in
-    wide_same start.args.s.now start.args.name start.args.i (search) (omega arith)
-    (omega (arith, c.shared-slice-known2.given (start.args.name.start + 2 * start.args.i)))
+    wide_same c.args.s.now c.args.name c.args.i (search) (omega arith)
+    (omega (arith, c.shared_slice_known-then-name-1.given (c.args.name.start + 2 * c.args.i)))
 
-add-result : tie.Need-overflow-add-result
+add-result : tie.Need-overflow_add-result
 add-result c =
-    let start : tie.Start = search in
-    omega (arith, start.pre.one, narrow_inside start.args.s.now start.args.name 0 start.pre.inside (search))
+    omega (arith, c.requires.one, narrow_inside c.args.s.now c.args.name 0 c.requires.inside (search))
 
-shared-slice-read-result-2 : tie.Need-shared-slice-read-result-2
+shared-slice-read-result-2 : tie.Need-bounds-s-start
 shared-slice-read-result-2 c =
-    let start : tie.Start = search in
-    omega (arith, start.pre.one, narrow_inside start.args.s.now start.args.name 0 start.pre.inside (search))
+    omega (arith, c.requires.one, narrow_inside c.args.s.now c.args.name 0 c.requires.inside (search))
 
-returns-3 : tie.Need-returns-3
+returns-3 : tie.Need-returns
 returns-3 c =
-    let start : tie.Start = search in
-    narrow_same start.args.s.now start.args.name start.args.i (search)
-    (omega (arith, c.shared-slice-known3.given (start.args.name.start + start.args.i)))
+    narrow_same c.args.s.now c.args.name c.args.i (search)
+    (omega (arith, c.shared_slice_known-2-1.given (c.args.name.start + c.args.i)))
 
-pub letter-spec : {M : Type 1} → statement M
-letter-spec =
+pub letter_spec : {M : Type 1} → statement M
+letter_spec =
     tie.close
     (tie.spec
     mul_at

@@ -5,28 +5,21 @@ use Rattle.pairing.proofs.ExitLaws.{refused-exit, paired-exit}
 use Rattle.pairing.proofs.pair.Statement.{statement}
 use Rattle.pairing.proofs.pair.Tie as tie
 
-returns : tie.Need-returns
+returns : tie.Need-returns-then-not-may_pair
 returns c =
-    let start : tie.Start = search in
-    let judged : tie.After-may-pair = search in
-    let a = start.args in
-    refused-exit a.stream.now a.controls.now a.control-count a.info_stream_lem.now a.infos.now a.info_count _
-    (sym judged.may_pair_lem.ensures ∙ not-true _ c.before.if1.true) c.refused.ensures
+    let a = c.args in
+    refused-exit a.stream.now a.controls.now a.control_count a.info_stream.now a.infos.now a.info_count _
+    (sym c.may_pair.ensures ∙ not-true _ c.if-not-may_pair.true-raw) c.refused.ensures
 
-set-types-requires : tie.Need-set-types-requires
+set-types-requires : tie.Need-set_types-requires
 set-types-requires c κs =
-    let judged : tie.After-may-pair = search in
-    sym judged.may_pair_lem.ensures ∙ not-false _ c.before.if1.false
+    sym c.may_pair.ensures ∙ not-false _ c.if-not-may_pair.false-raw
 
-returns-2 : tie.Need-returns-2
+returns-2 : tie.Need-returns
 returns-2 c =
-    let start : tie.Start = search in
-    let judged : tie.After-may-pair = search in
-    let else1 : tie.Else1 = search in
-    let call : tie.After-set-types = search in
-    let a = start.args in
-    paired-exit a.stream.now a.controls.now a.control-count a.info_stream_lem.now a.infos.now a.info_count _ _
-    (sym judged.may_pair_lem.ensures ∙ not-false _ else1.if1.left) c.wrote.ensures call.set-types.ensures
+    let a = c.args in
+    paired-exit a.stream.now a.controls.now a.control_count a.info_stream.now a.infos.now a.info_count _ _
+    (sym c.may_pair.ensures ∙ not-false _ c.if-not-may_pair.false-raw) c.wrote.ensures c.set_types.ensures
 
 pub pair_spec : {M : Type 1} → statement M
 pair_spec =

@@ -7,17 +7,17 @@ use lib.Seq.{take_all}
 use Rattle.pairlines.proofs.behind.Statement.{statement}
 use Rattle.pairlines.proofs.behind.Tie as tie
 
-returns : tie.Need-returns
+returns : tie.Need-returns-then-s-start
 returns c =
-    let a = c.before.before.args in
+    let a = c.args in
     let h : length a.s.now ≤ a.start = omega arith in
     sym (drop_of_length-le a.s.now h)
 
-returns-2 : tie.Need-returns-2
-returns-2 c = let a = c.before.before.args in take_all (length a.s.now - a.start) (drop a.start a.s.now) (simp length-drop (omega arith))
+returns-2 : tie.Need-returns-else-s-start
+returns-2 c = let a = c.args in take_all (length a.s.now - a.start) (drop a.start a.s.now) (simp length-drop (omega arith))
 
-pub behind-spec : {M : Type 1} → statement M
-behind-spec =
+pub behind_spec : {M : Type 1} → statement M
+behind_spec =
     tie.close
     (tie.spec
     (λ c. search rules) (λ c. search rules) (λ c. search rules) (λ c. search rules)

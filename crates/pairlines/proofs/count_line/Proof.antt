@@ -6,15 +6,12 @@ use Rattle.pairlines.proofs.count_line.Tie as tie
 
 returns : tie.Need-returns
 returns c =
-    let number : tie.After-put-decimal = search in
-    let word : tie.After-put-text = search in
-    let start : tie.Start = search in
-    count-wrote start.args.n word.put-text.ensures number.put-decimal.ensures c.before.before.put-end.ensures
+    count-wrote c.args.n c.put_text-p.ensures c.put_decimal-p.ensures c.put_end.ensures
 
-pub count-line-spec : {M : Type 1} → statement M
-count-line-spec =
+pub count_line_spec : {M : Type 1} → statement M
+count_line_spec =
     tie.close
     (tie.spec
-    (λ c. search rules) (λ c κs. search rules) (λ c κs. search rules) (λ c κs. search rules)
+    (λ c κs. search rules) (λ c κs. search rules) (λ c κs. search rules)
     (λ c. same (returns c))
     returns)

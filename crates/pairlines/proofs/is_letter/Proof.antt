@@ -4,11 +4,11 @@ use Rattle.pairlines.proofs.NameLaws.{high_byte, low_byte}
 use Rattle.pairlines.proofs.is_letter.Statement.{statement}
 use Rattle.pairlines.proofs.is_letter.Tie as tie
 
-returns : tie.Need-returns
+returns : tie.Need-returns-then-high-ne0
 returns c = high_byte _ _ (λ e. omega arith)
 
-returns-2 : tie.Need-returns-2
-returns-2 c = low_byte _ _ _ (omega arith) c.is-shown.ensures
+returns-2 : tie.Need-returns
+returns-2 c = low_byte _ _ _ (omega arith) c.is_shown.ensures
 
-pub is-letter-spec : {M : Type 1} → statement M
-is-letter-spec = tie.close (tie.spec returns (λ c κs. search rules) returns-2)
+pub is_letter_spec : {M : Type 1} → statement M
+is_letter_spec = tie.close (tie.spec returns (λ c κs. search rules) returns-2)

@@ -5,25 +5,19 @@ use Rattle.pairlines.proofs.NameLaws.{a_letter, no-letter}
 use Rattle.pairlines.proofs.put_unit.Statement.{statement}
 use Rattle.pairlines.proofs.put_unit.Tie as tie
 
-returns : tie.Need-returns
+returns : tie.Need-returns-then-is_letter
 returns c =
-    let taken : tie.Then1 = search in
-    let asked : tie.After-is-letter = search in
-    rw (a_letter _ _ (sym asked.is-letter.ensures ∙ taken.if1.taken)) c.before.before.put_byte.ensures
+    rw (a_letter _ _ (sym c.is_letter.ensures ∙ c.if-is_letter.true)) c.put_byte.ensures
 
-returns-2 : tie.Need-returns-2
+returns-2 : tie.Need-returns
 returns-2 c =
-    let high : tie.After-put-hex = search in
-    let word : tie.After-put-text = search in
-    let left : tie.Else1 = search in
-    let asked : tie.After-is-letter = search in
-    rw (no-letter _ _ (sym asked.is-letter.ensures ∙ left.if1.left)) (word.put-text.ensures ⨟ high.put-hex.ensures ⨟ c.before.before.put-hex2.ensures)
+    rw (no-letter _ _ (sym c.is_letter.ensures ∙ c.if-is_letter.false)) (c.put_text-p.ensures ⨟ c.put_hex-p.ensures ⨟ c.put_hex.ensures)
 
-pub put-unit-spec : {M : Type 1} → statement M
-put-unit-spec =
+pub put_unit_spec : {M : Type 1} → statement M
+put_unit_spec =
     tie.close
     (tie.spec
     (λ c κs. search rules) (λ c κs. search rules) (λ c. search rules)
     returns
-    (λ c. search rules) (λ c κs. search rules) (λ c κs. search rules) (λ c κs. search rules) (λ c. search rules)
+    (λ c κs. search rules) (λ c κs. search rules) (λ c κs. search rules) (λ c. search rules)
     returns-2)

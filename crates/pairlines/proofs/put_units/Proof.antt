@@ -4,37 +4,34 @@ use Rattle.pairlines.proofs.NameLaws.{Spelled, spelled_none, spelled-more, spell
 use Rattle.pairlines.proofs.put_units.Statement.{statement}
 use Rattle.pairlines.proofs.put_units.Tie as tie
 
-abbrev invariant-loop : tie.invariant-loop
+abbrev invariant-loop : tie.invariant-loop-left
 invariant-loop out₀ at s p₀ left₀ out p left = Spelled s out₀ at out p left
 
-abbrev decreases-loop : tie.decreases-loop
+abbrev decreases-loop : tie.decreases-loop-left
 decreases-loop out₀ at s p₀ left₀ out p left = left
 
-loop-again : tie.Need-loop-preserved invariant-loop decreases-loop
+loop-again : tie.Need-loop-left-preserved invariant-loop decreases-loop
 loop-again c =
-    let l : tie.At-loop invariant-loop decreases-loop = search in
-    let test : tie.In-loop invariant-loop decreases-loop = search in
-    let put : tie.After-put-unit invariant-loop decreases-loop = search in
-    spelled-more l.loop.inv test.loop-test.taken put.put-unit.ensures
+    spelled-more c.loop-left.invariant c.loop-left-test.true c.put_unit-p.ensures
 
-same_length : tie.Need-same-length invariant-loop decreases-loop
-same_length c = c.before.loop.invariant.long
+same_length : tie.Need-shape_of-out invariant-loop decreases-loop
+same_length c = c.loop-left.invariant.long
 
 returns : tie.Need-returns invariant-loop decreases-loop
-returns c = spelled-all c.before.loop.invariant c.loop-test.false
+returns c = spelled-all c.loop-left.invariant c.loop-left-test.false
 
 -- the place of a turn's unit is in the bytes
-pub put-units-spec : {M : Type 1} → statement M
-put-units-spec =
+pub put_units_spec : {M : Type 1} → statement M
+put_units_spec =
     tie.close
     (tie.spec
     invariant-loop
     decreases-loop
     (λ c. spelled_none)
-    (λ c. let l : tie.At-loop invariant-loop decreases-loop = search in omega (arith, l.loop.inv.few))
-    (λ c. let l : tie.At-loop invariant-loop decreases-loop = search in omega (arith, l.loop.inv.few))
-    (λ c. let l : tie.At-loop invariant-loop decreases-loop = search in omega (arith, l.loop.inv.few))
-    (λ c. let l : tie.At-loop invariant-loop decreases-loop = search in omega (arith, l.loop.inv.few))
+    (λ c. let l : tie.At-loop-left invariant-loop decreases-loop = search in omega (arith, l.loop-left.invariant.few))
+    (λ c. let l : tie.At-loop-left invariant-loop decreases-loop = search in omega (arith, l.loop-left.invariant.few))
+    (λ c. let l : tie.At-loop-left invariant-loop decreases-loop = search in omega (arith, l.loop-left.invariant.few))
+    (λ c. let l : tie.At-loop-left invariant-loop decreases-loop = search in omega (arith, l.loop-left.invariant.few))
     (λ c κs. search rules)
     (λ c. omega arith) (λ c. omega arith)
     loop-again

@@ -9,45 +9,36 @@ use Rattle.pairlines.proofs.tell.Statement.{statement}
 use Rattle.pairlines.proofs.tell.Tie as tie
 
 -- the places that are too far from the end to be found from there
-asked_of : tie.After-put-byte → tie.After-is-unpaired
+asked_of : tie.After-put_byte-p → tie.After-is_unpaired
 asked_of c = search
 
-start_of : tie.After-is-unpaired → tie.Start
+start_of : tie.After-is_unpaired → tie.Start
 start_of c = search
 
-returns : tie.Need-returns
+returns : tie.Need-returns-then-not-is_unpaired
 returns c =
-    let asked : tie.After-is-unpaired = search in
-    let taken : tie.Then1 = search in
-    let start : tie.Start = search in
-    let a = start.args in
-    found-one a.stream.now a.info_stream_lem.now (infos_in a.info_count a.infos.now) a.n (control_words a.row) (sym asked.is-unpaired.ensures ∙ not-true _ taken.if1.taken)
+    let a = c.args in
+    found-one a.stream.now a.info_stream.now (infos_in a.info_count a.infos.now) a.n (control_words a.row) (sym c.is_unpaired.ensures ∙ not-true _ c.if-not-is_unpaired.true-raw)
 
-add-t29 : tie.Need-overflow-add-t29
+add-t29 : tie.Need-overflow_add-result
 unfolding asked_of start_of
 add-t29 c =
-    let letter : tie.After-put-byte = search in
+    let letter : tie.After-put_byte-p = search in
     let start = start_of (asked_of letter) in
-    omega (arith, start.pre.1.1)
+    omega (arith, start.requires.1.1)
 
-returns-2 : tie.Need-returns-2
+returns-2 : tie.Need-returns
 unfolding asked_of start_of
 returns-2 c =
-    let ended : tie.After-put-end = search in
-    let name : tie.After-put-shown-name = search in
-    let blank-2 : tie.After-put-byte3 = search in
-    let number : tie.After-put-decimal = search in
-    let blank : tie.After-put-byte2 = search in
-    let letter : tie.After-put-byte = search in
-    let left : tie.Else1 = search in
+    let letter : tie.After-put_byte-p = search in
     let asked = asked_of letter in
     let start = start_of asked in
     let a = start.args in
-    found_none a.stream.now a.info_stream_lem.now (infos_in a.info_count a.infos.now) a.n (control_words a.row) (sym asked.is-unpaired.ensures ∙ not-false _ left.if1.left)
-    letter.put_byte.ensures blank.put-byte2.ensures number.put-decimal.ensures blank-2.put-byte3.ensures name.put-shown-name.ensures ended.put-end.ensures refl
+    found_none a.stream.now a.info_stream.now (infos_in a.info_count a.infos.now) a.n (control_words a.row) (sym asked.is_unpaired.ensures ∙ not-false _ c.if-not-is_unpaired.false-raw)
+    letter.put_byte-p.ensures c.put_byte-p-2.ensures c.put_decimal-p.ensures c.put_byte-p-3.ensures c.put_shown_name-p.ensures c.put_end-at.ensures refl
 
-pub tell-spec : {M : Type 1} → statement M
-tell-spec =
+pub tell_spec : {M : Type 1} → statement M
+tell_spec =
     tie.close
     (tie.spec
     (λ c κs. search rules)

@@ -11,40 +11,30 @@ use Rattle.pairlines.proofs.UnpairedLaws.{Telling, telling_none, telling_more, t
 use Rattle.pairlines.proofs.unpaired_lines.Statement.{statement}
 use Rattle.pairlines.proofs.unpaired_lines.Tie as tie
 
-abbrev invariant-loop : tie.invariant-loop
+abbrev invariant-loop : tie.invariant-loop-n
 invariant-loop out₀ at stream controls control-count info_stream_lem infos info_count told₀ n₀ out told n =
     Telling stream info_stream_lem controls (infos_in info_count infos) control-count out₀ at out told n
 
-abbrev decreases-loop : tie.decreases-loop
+abbrev decreases-loop : tie.decreases-loop-n
 decreases-loop out₀ at stream controls control-count info_stream_lem infos info_count told₀ n₀ out told n = control-count - n
 
-tell-requires : tie.Need-tell-requires invariant-loop decreases-loop
+tell-requires : tie.Need-tell-told-requires invariant-loop decreases-loop
 tell-requires c κs =
-    let start : tie.Start invariant-loop decreases-loop = search in
-    let loop : tie.At-loop invariant-loop decreases-loop = search in
-    let read : tie.After-get-control invariant-loop decreases-loop = search in
-    let test : tie.In-loop invariant-loop decreases-loop = search in
-    let a = start.args in
-    let judged = fair a.stream.now a.controls.now a.control-count a.info_stream_lem.now a.infos.now a.info_count start.pre in
-    let ok = each_row (control_ok a.stream.now) control_width a.control-count a.controls.now judged.controls-ok loop.loop.n test.loop-test.taken in
-    (control-ok read.get-control.ensures a.stream.now ∙ ok, (judged.infos-ok, omega (arith, loop.loop.inv.within, test.loop-test.taken)))
+    let a = c.args in
+    let judged = fair a.stream.now a.controls.now a.control_count a.info_stream.now a.infos.now a.info_count c.requires in
+    let ok = each_row (control_ok a.stream.now) control_width a.control_count a.controls.now judged.controls-ok c.loop-n.n c.loop-n-test.true in
+    (control-ok c.get_control-row.ensures a.stream.now ∙ ok, (judged.infos-ok, omega (arith, c.loop-n.invariant.within, c.loop-n-test.true)))
 
-loop-again : tie.Need-loop-preserved invariant-loop decreases-loop
+loop-again : tie.Need-loop-n-preserved invariant-loop decreases-loop
 loop-again c =
-    let loop : tie.At-loop invariant-loop decreases-loop = search in
-    let test : tie.In-loop invariant-loop decreases-loop = search in
-    let read : tie.After-get-control invariant-loop decreases-loop = search in
-    let told : tie.After-tell invariant-loop decreases-loop = search in
-    telling_more loop.loop.inv test.loop-test.taken read.get-control.ensures told.tell.ensures
+    telling_more c.loop-n.invariant c.loop-n-test.true c.get_control-row.ensures c.tell-told.ensures
 
 returns : tie.Need-returns invariant-loop decreases-loop
 returns c =
-    let loop : tie.At-loop invariant-loop decreases-loop = search in
-    let left : tie.After-loop invariant-loop decreases-loop = search in
-    telling_all loop.loop.inv left.loop-test.left c.before.before.count-line.ensures
+    telling_all c.loop-n.invariant c.loop-n-test.false c.count_line.ensures
 
-pub unpaired-lines-spec : {M : Type 1} → statement M
-unpaired-lines-spec =
+pub unpaired_lines_spec : {M : Type 1} → statement M
+unpaired_lines_spec =
     tie.close
     (tie.spec
     invariant-loop

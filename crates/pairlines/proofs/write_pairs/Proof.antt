@@ -4,25 +4,22 @@ use Rattle.pairlines.proofs.write_pairs.Statement.{statement}
 use Rattle.pairlines.proofs.write_pairs.Tie as tie
 
 -- the places that are too far from the end to be found from there
-layout_of : tie.After-value-bytes → tie.After-u32-at
+layout_of : tie.After-value_bytes-info_stream → tie.After-u32_at-layout
 layout_of c = search
 
-start_of : tie.After-u32-at → tie.Start
+start_of : tie.After-u32_at-layout → tie.Start
 start_of c = search
 
 returns : tie.Need-returns
 unfolding layout_of start_of
 returns c =
-    let written : tie.After-pair-lines = search in
-    let stream : tie.After-behind = search in
-    let info : tie.After-value-bytes = search in
-    let size : tie.After-u32-at2 = search in
+    let info : tie.After-value_bytes-info_stream = search in
     let layout = layout_of info in
     let a = (start_of layout).args in
-    input_written a.input.now a.infos.now a.controls.now a.properties.now layout.u32-at.ensures size.u32-at2.ensures info.value-bytes.ensures stream.behind.ensures written.pair-lines.ensures
+    input_written a.input.now a.infos-1.now a.controls-1.now a.properties-1.now layout.u32_at-layout.ensures c.u32_at-size.ensures info.value_bytes-info_stream.ensures c.behind-stream.ensures c.pair_lines.ensures
 
-pub write-pairs-spec : {M : Type 1} → statement M
-write-pairs-spec =
+pub write_pairs_spec : {M : Type 1} → statement M
+write_pairs_spec =
     tie.close
     (tie.spec
     (λ c κs. search rules) (λ c κs. search rules) (λ c κs. search rules) (λ c. search rules) (λ c. search rules) (λ c κs. search rules)

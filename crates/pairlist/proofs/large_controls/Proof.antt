@@ -9,5 +9,5 @@ use Rattle.pairlist.proofs.large_controls.Tie as tie
 returns : tie.Need-returns
 returns c = sym (length-replicate {A = ℕ} (control_room * control_width) 0)
 
-pub large-controls-spec : {M : Type 1} → statement M
-large-controls-spec = tie.close (tie.spec returns)
+pub large_controls_spec : {M : Type 1} → statement M
+large_controls_spec = tie.close (tie.spec returns)

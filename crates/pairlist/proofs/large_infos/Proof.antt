@@ -9,5 +9,5 @@ use Rattle.pairlist.proofs.large_infos.Tie as tie
 returns : tie.Need-returns
 returns c = sym (length-replicate {A = ℕ} (info_room * type_info_width) 0)
 
-pub large-infos-spec : {M : Type 1} → statement M
-large-infos-spec = tie.close (tie.spec returns)
+pub large_infos_spec : {M : Type 1} → statement M
+large_infos_spec = tie.close (tie.spec returns)

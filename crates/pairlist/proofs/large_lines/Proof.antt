@@ -7,5 +7,5 @@ use Rattle.pairlist.proofs.large_lines.Tie as tie
 returns : tie.Need-returns
 returns c = sym (length-replicate {A = ℕ} 26787962 0)
 
-pub large-lines-spec : {M : Type 1} → statement M
-large-lines-spec = tie.close (tie.spec returns)
+pub large_lines_spec : {M : Type 1} → statement M
+large_lines_spec = tie.close (tie.spec returns)

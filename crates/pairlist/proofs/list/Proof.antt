@@ -8,23 +8,20 @@ use Rattle.pairlist.proofs.Printing.{all_listed}
 use Rattle.pairlist.proofs.list.Statement.{statement}
 use Rattle.pairlist.proofs.list.Tie as tie
 
-slice-reshare-prefix-print : tie.Need-slice-reshare-prefix-print
-slice-reshare-prefix-print c = let written : tie.After-write = search in within written.write.ensures.wrote
+slice-reshare-prefix-print : tie.Need-slice_bounds-print-end
+slice-reshare-prefix-print c = within c.write-end.ensures.wrote
 
-slice-aggregate-print : tie.Need-slice-aggregate-print
+slice-aggregate-print : tie.Need-slice_bounds-print-end-2
 slice-aggregate-print c =
-    let written : tie.After-write = search in
-    let w = written.write in
+    let w = c.write-end in
     sym (length-take-le w.result _ (within w.ensures.wrote))
 
 print-requires : tie.Need-print-requires
 print-requires c κs =
-    let written : tie.After-write = search in
-    let start : tie.Start = search in
-    all-printed pair_listing written.write.ensures start.pre.for_lines (all_listed start.pre)
+    all-printed pair_listing c.write-end.ensures c.requires.for_lines (all_listed c.requires)
 
-pub list-spec : {M : Type 1} → statement M
-list-spec =
+pub list_spec : {M : Type 1} → statement M
+list_spec =
     tie.close
     (tie.spec
     (λ c κs. search rules)

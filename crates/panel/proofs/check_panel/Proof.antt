@@ -5,41 +5,38 @@ use Rattle.panel.proofs.check_panel.Statement.{statement}
 use Rattle.panel.proofs.check_panel.Tie as tie
 
 -- ---- the places that both ends share
-read_of : tie.After-struct-known → tie.After-read-blob
+read_of : tie.After-struct_known-1 → tie.After-read_blob-a
 read_of c = search
 
-start_of : tie.After-read-blob → tie.Start
+start_of : tie.After-read_blob-a → tie.Start
 start_of c = search
 
-returns : tie.Need-returns
+returns : tie.Need-returns-then-a-ne0
 unfolding read_of start_of
 returns c =
     let r = read_of c.before in
     let a = (start_of r).args in
-    handed-on a.table.now a.stream.now a.controls.now a.properties.now _ _ _ r.read-blob.ensures (λ e. omega (arith, e))
+    handed-on a.table.now a.stream.now a.controls-1.now a.properties-1.now _ _ _ r.read_blob-a.ensures (λ e. omega (arith, e))
 
 judge-requires : tie.Need-judge-requires
 unfolding read_of start_of
 judge-requires c κs =
-    let known : tie.After-struct-known = search in
-    let named : tie.After-index = search in
-    let spelled : tie.After-letters = search in
+    let known : tie.After-struct_known-1 = search in
     let r = read_of known in
     let a = (start_of r).args in (
-      rows_asked a.table.now a.stream.now a.controls.now a.properties.now _ _ _ r.read-blob.ensures (omega arith) (omega (arith, known.struct_known.given)),
-      record { index_is = named.index.ensures; letters-are = spelled.letters.ensures },
+      rows_asked a.table.now a.stream.now a.controls-1.now a.properties-1.now _ _ _ r.read_blob-a.ensures (omega arith) (omega (arith, known.struct_known-1.given)),
+      record { index_is = c.index-index.ensures; letters-are = c.letters-letters.ensures },
     )
 
-returns-2 : tie.Need-returns-2
+returns-2 : tie.Need-returns
 unfolding read_of start_of
 returns-2 c =
-    let kept : tie.Else1 = search in
-    let r = read_of kept.before in
+    let r = read_of c.before in
     let a = (start_of r).args in
-    judged-on a.table.now a.stream.now a.controls.now a.properties.now _ _ _ r.read-blob.ensures (omega (arith, kept.if1.left)) _ c.judge.ensures
+    judged-on a.table.now a.stream.now a.controls-1.now a.properties-1.now _ _ _ r.read_blob-a.ensures (omega (arith, c.if-a-ne0.false)) _ c.judge.ensures
 
-pub check-panel-spec : {M : Type 1} → statement M
-check-panel-spec =
+pub check_panel_spec : {M : Type 1} → statement M
+check_panel_spec =
     tie.close
     (tie.spec
     (λ c κs. search rules)

@@ -6,19 +6,15 @@ use Rattle.panel.proofs.PropertyLaws.{no_box_filled, box_filled}
 use Rattle.panel.proofs.is_filled.Statement.{statement}
 use Rattle.panel.proofs.is_filled.Tie as tie
 
-returns : tie.Need-returns
+returns : tie.Need-returns-then-not-is_box
 returns c =
-    let start : tie.Start = search in
-    let asked : tie.After-is-box = search in
-    let a = start.args in
-    no_box_filled a.type-code (between a.properties.now a.from a.to) (sym asked.is_box_lem.ensures ∙ not-true _ c.if1.true)
+    let a = c.args in
+    no_box_filled a.type_code (between a.properties.now a.from a.to) (sym c.is_box.ensures ∙ not-true _ c.if-not-is_box.true-raw)
 
-returns-2 : tie.Need-returns-2
+returns-2 : tie.Need-returns
 returns-2 c =
-    let start : tie.Start = search in
-    let asked : tie.After-is-box = search in
-    let a = start.args in
-    box_filled a.type-code (between a.properties.now a.from a.to) _ (sym asked.is_box_lem.ensures ∙ not-false _ c.before.if1.false) c.is-one-text.ensures
+    let a = c.args in
+    box_filled a.type_code (between a.properties.now a.from a.to) _ (sym c.is_box.ensures ∙ not-false _ c.if-not-is_box.false-raw) c.is_one_text.ensures
 
-pub is-filled-spec : {M : Type 1} → statement M
-is-filled-spec = tie.close (tie.spec (λ c κs. search rules) returns (λ c κs. search rules) returns-2)
+pub is_filled_spec : {M : Type 1} → statement M
+is_filled_spec = tie.close (tie.spec (λ c κs. search rules) returns (λ c κs. search rules) returns-2)

@@ -1,4 +1,3 @@
--- Invariant: the rows from `i` on decide; those before it name bytes of the stream, and are marked.
 use Prim.Native.Nat.{ℕ, ◌-◌}
 use native.Mathlib.Omega.{arith}
 use borrow.Author.Rules.{rules}
@@ -8,55 +7,43 @@ use Rattle.panel.proofs.MarkLaws.{Marking, none-marked}
 use Rattle.panel.proofs.RuleLaws.{judging_start, row-broken, row_kept, all-kept}
 use Rattle.panel.proofs.judge.Statement.{statement}
 use Rattle.panel.proofs.judge.Tie as tie
+-- Invariant: the rows from `i` on decide; those before it name bytes of the stream, and are marked.
 
-abbrev invariant-loop : tie.invariant-loop
+abbrev invariant-loop : tie.invariant-loop-i
 invariant-loop stream controls properties count index letters marks₀ i₀ marks i = Marking stream controls properties count i marks
 
-abbrev decreases-loop : tie.decreases-loop
+abbrev decreases-loop : tie.decreases-loop-i
 decreases-loop stream controls properties count index letters marks₀ i₀ marks i = count - i
 
-loop-holds : tie.Need-loop-init invariant-loop decreases-loop
+loop-holds : tie.Need-loop-i-init invariant-loop decreases-loop
 loop-holds c =
-    let start : tie.Start invariant-loop decreases-loop = search in
-    let a = start.args in
+    let a = c.args in
     record {
       judging = judging_start a.stream.now a.controls.now a.properties.now a.count;
       marked = none-marked a.stream.now a.controls.now _ (length-replicate {A = ℕ} 16384 0);
     }
 
-rule-of-requires : tie.Need-rule-of-requires invariant-loop decreases-loop
+rule-of-requires : tie.Need-rule_of-rule-requires invariant-loop decreases-loop
 rule-of-requires c κs =
-    let start : tie.Start invariant-loop decreases-loop = search in
-    let loop : tie.At-loop invariant-loop decreases-loop = search in
-    ((start.pre.0, omega arith), (loop.loop.inv.judging.before, (start.pre.1, loop.loop.inv.marked)))
+    ((c.requires.0, omega arith), (c.loop-i.invariant.judging.before, (c.requires.1, c.loop-i.invariant.marked)))
 
-returns : tie.Need-returns invariant-loop decreases-loop
+returns : tie.Need-returns-then-rule-ne0 invariant-loop decreases-loop
 returns c =
-    let start : tie.Start invariant-loop decreases-loop = search in
-    let loop : tie.At-loop invariant-loop decreases-loop = search in
-    let tried : tie.After-rule-of invariant-loop decreases-loop = search in
-    let told : tie.After-judged invariant-loop decreases-loop = search in
-    told.judged.ensures ∙ row-broken start.pre.0 loop.loop.inv.judging (omega arith) _ tried.rule-of.ensures.told (λ e. omega (arith, e))
+    c.judged.ensures ∙ row-broken c.requires.0 c.loop-i.invariant.judging (omega arith) _ c.rule_of-rule.ensures.told (λ e. omega (arith, e))
 
-loop-again : tie.Need-loop-preserved invariant-loop decreases-loop
+loop-again : tie.Need-loop-i-preserved invariant-loop decreases-loop
 loop-again c =
-    let start : tie.Start invariant-loop decreases-loop = search in
-    let loop : tie.At-loop invariant-loop decreases-loop = search in
-    let tried : tie.After-rule-of invariant-loop decreases-loop = search in
     record {
-      judging = row_kept start.pre.0 loop.loop.inv.judging (omega arith) (omega (arith, tried.rule-of.ensures.told));
-      marked = tried.rule-of.ensures.marked (omega arith);
+      judging = row_kept c.requires.0 c.loop-i.invariant.judging (omega arith) (omega (arith, c.rule_of-rule.ensures.told));
+      marked = c.rule_of-rule.ensures.marked (omega arith);
     }
 
-returns-2 : tie.Need-returns-2 invariant-loop decreases-loop
+returns-2 : tie.Need-returns invariant-loop decreases-loop
 returns-2 c =
-    let start : tie.Start invariant-loop decreases-loop = search in
-    let loop : tie.At-loop invariant-loop decreases-loop = search in
-    let told : tie.After-judged2 invariant-loop decreases-loop = search in
-    told.judged2.ensures ∙ all-kept start.pre.0 loop.loop.inv.judging (omega arith)
+    c.judged-2.ensures ∙ all-kept c.requires.0 c.loop-i.invariant.judging (omega arith)
 
-pub judge-spec : {M : Type 1} → statement M
-judge-spec =
+pub judge_spec : {M : Type 1} → statement M
+judge_spec =
     tie.close
     (tie.spec
     invariant-loop

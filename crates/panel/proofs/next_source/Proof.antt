@@ -1,4 +1,3 @@
--- Invariant: the sources from row `j` on are all.
 use Prim.Native.Nat.{ℕ, ◌-◌}
 use native.Mathlib.Omega.{arith}
 use borrow.Author.Rules.{rules}
@@ -6,33 +5,30 @@ use mathlib.Core.Path.{refl, sym, ◌∙◌}
 use Rattle.panel.proofs.PropertyLaws.{Seeking, source-here, source-later, no_source}
 use Rattle.panel.proofs.next_source.Statement.{statement}
 use Rattle.panel.proofs.next_source.Tie as tie
+-- Invariant: the sources from row `j` on are all.
 
-abbrev invariant-loop : tie.invariant-loop
+abbrev invariant-loop : tie.invariant-loop-j
 invariant-loop properties from to j₀ j = Seeking properties from to j
 
-abbrev decreases-loop : tie.decreases-loop
+abbrev decreases-loop : tie.decreases-loop-j
 decreases-loop properties from to j₀ j = to - j
 
-loop-holds : tie.Need-loop-init invariant-loop decreases-loop
-loop-holds c = let start : tie.Start invariant-loop decreases-loop = search in record { within = start.pre; left = refl }
+loop-holds : tie.Need-loop-j-init invariant-loop decreases-loop
+loop-holds c = record { within = c.requires; left = refl }
 
-returns : tie.Need-returns invariant-loop decreases-loop
+returns : tie.Need-returns-then-get_id-eq-CONTROL_SOURCE invariant-loop decreases-loop
 returns c =
-    let loop : tie.At-loop invariant-loop decreases-loop = search in
-    let got : tie.After-get-id invariant-loop decreases-loop = search in
-    source-here loop.loop.inv (omega arith) (sym got.get-id.ensures ∙ omega arith)
+    source-here c.loop-j.invariant (omega arith) (sym c.get_id.ensures ∙ omega arith)
 
-loop-again : tie.Need-loop-preserved invariant-loop decreases-loop
+loop-again : tie.Need-loop-j-preserved invariant-loop decreases-loop
 loop-again c =
-    let loop : tie.At-loop invariant-loop decreases-loop = search in
-    let got : tie.After-get-id invariant-loop decreases-loop = search in
-    source-later loop.loop.inv (omega arith) (λ e. omega (arith, got.get-id.ensures, e))
+    source-later c.loop-j.invariant (omega arith) (λ e. omega (arith, c.get_id.ensures, e))
 
-returns-2 : tie.Need-returns-2 invariant-loop decreases-loop
-returns-2 c = let loop : tie.At-loop invariant-loop decreases-loop = search in no_source loop.loop.inv (omega arith)
+returns-2 : tie.Need-returns invariant-loop decreases-loop
+returns-2 c = no_source c.loop-j.invariant (omega arith)
 
-pub next-source-spec : {M : Type 1} → statement M
-next-source-spec =
+pub next_source_spec : {M : Type 1} → statement M
+next_source_spec =
     tie.close
     (tie.spec
     invariant-loop

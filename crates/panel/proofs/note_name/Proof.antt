@@ -7,42 +7,32 @@ use Rattle.panel.proofs.MarkLaws.{place-small, told_new, noted}
 use Rattle.panel.proofs.note_name.Statement.{statement}
 use Rattle.panel.proofs.note_name.Tie as tie
 
-returns : tie.Need-returns
+returns : tie.Need-returns-then-mark-next
 returns c =
-    let start : tie.Start = search in
-    let number : tie.After-spread-of = search in
-    let place : tie.After-place-of = search in
-    let tag : tie.After-tag-of = search in
-    let next : tie.After-changed = search in
-    let a = start.args in
-    let n = number.spread-of.ensures in
-    noted start.pre.1.1 (part a.s.now a.start a.size) (place.place_of.ensures ∙ ap place_by n) (tag.tag_of.ensures ∙ ap (λ x. tag_by x) n) (omega (arith, next.changed.ensures)) _
+    let a = c.args in
+    let n = c.spread_of-number.ensures in
+    noted c.requires.1.1 (part a.s.now a.start a.size) (c.place_of-place.ensures ∙ ap place_by n) (c.tag_of.ensures ∙ ap (λ x. tag_by x) n) (omega (arith, c.changed-next.ensures)) _
     c.is_new.ensures
 
-returns-2 : tie.Need-returns-2
+returns-2 : tie.Need-returns
 returns-2 c =
-    let start : tie.Start = search in
-    let number : tie.After-spread-of = search in
-    let place : tie.After-place-of = search in
-    let tag : tie.After-tag-of = search in
-    let next : tie.After-changed = search in
-    let a = start.args in
-    let n = number.spread-of.ensures in
-    let is = place.place_of.ensures ∙ ap place_by n in
-    let tagged = tag.tag_of.ensures ∙ ap (λ x. tag_by x) n in
-    noted start.pre.1.1 (part a.s.now a.start a.size) is tagged (omega (arith, next.changed.ensures)) _
-    (told_new start.pre.1.1 (part a.s.now a.start a.size) is tagged next.changed.ensures (λ e. omega (arith, e)))
+    let a = c.args in
+    let n = c.spread_of-number.ensures in
+    let is = c.place_of-place.ensures ∙ ap place_by n in
+    let tagged = c.tag_of.ensures ∙ ap (λ x. tag_by x) n in
+    noted c.requires.1.1 (part a.s.now a.start a.size) is tagged (omega (arith, c.changed-next.ensures)) _
+    (told_new c.requires.1.1 (part a.s.now a.start a.size) is tagged c.changed-next.ensures (λ e. omega (arith, e)))
 
-pub note-name-spec : {M : Type 1} → statement M
-note-name-spec =
+pub note_name_spec : {M : Type 1} → statement M
+note_name_spec =
     tie.close
     (tie.spec
     (λ c κs. search rules)
     (λ c κs. search rules)
-    (λ c. let number : tie.After-spread-of = search in omega (arith, place-small number.spread-of.result, c.place_of.ensures))
+    (λ c. let number : tie.After-spread_of-number = search in omega (arith, place-small number.spread_of-number.result, c.place_of-place.ensures))
     (λ c κs. search rules)
     (λ c κs. search rules)
-    (λ c. let number : tie.After-spread-of = search in let place : tie.After-place-of = search in omega (arith, place-small number.spread-of.result, place.place_of.ensures))
+    (λ c. let number : tie.After-spread_of-number = search in let place : tie.After-place_of-place = search in omega (arith, place-small number.spread_of-number.result, place.place_of-place.ensures))
     (λ c κs. search rules)
     returns
     returns-2)

@@ -1,4 +1,3 @@
--- Invariant: the first `k` bytes decide.
 use Prim.Native.Nat.{ℕ}
 use native.Mathlib.Omega.{arith}
 use mathlib.Core.Path.{refl}
@@ -6,46 +5,41 @@ use borrow.Author.Rules.{rules}
 use Rattle.panel.proofs.NameLaws.{Comparing, bytes-other, bytes_same, bytes-all}
 use Rattle.panel.proofs.same_bytes.Statement.{statement}
 use Rattle.panel.proofs.same_bytes.Tie as tie
+-- Invariant: the first `k` bytes decide.
 
-abbrev invariant-loop : tie.invariant-loop
+abbrev invariant-loop : tie.invariant-loop-k
 invariant-loop s one other size k₀ k = Comparing s one other size k
 
-abbrev decreases-loop : tie.decreases-loop
+abbrev decreases-loop : tie.decreases-loop-k
 decreases-loop s one other size k₀ k = k
 
-loop-holds : tie.Need-loop-init invariant-loop decreases-loop
+loop-holds : tie.Need-loop-k-init invariant-loop decreases-loop
 loop-holds c = record { within = omega arith; decides = refl }
 
-returns : tie.Need-returns invariant-loop decreases-loop
+returns : tie.Need-returns-then-s-one invariant-loop decreases-loop
 returns c =
-    let start : tie.Start invariant-loop decreases-loop = search in
-    let loop : tie.At-loop invariant-loop decreases-loop = search in
-    bytes-other loop.loop.inv start.pre.0 start.pre.1 (omega arith) (λ e. omega arith)
+    bytes-other c.loop-k.invariant c.requires.0 c.requires.1 (omega arith) (λ e. omega arith)
 
-loop-again : tie.Need-loop-preserved invariant-loop decreases-loop
+loop-again : tie.Need-loop-k-preserved invariant-loop decreases-loop
 loop-again c =
-    let start : tie.Start invariant-loop decreases-loop = search in
-    let loop : tie.At-loop invariant-loop decreases-loop = search in
-    bytes_same loop.loop.inv start.pre.0 start.pre.1 (omega arith) (omega arith)
+    bytes_same c.loop-k.invariant c.requires.0 c.requires.1 (omega arith) (omega arith)
 
-returns-2 : tie.Need-returns-2 invariant-loop decreases-loop
+returns-2 : tie.Need-returns invariant-loop decreases-loop
 returns-2 c =
-    let start : tie.Start invariant-loop decreases-loop = search in
-    let loop : tie.At-loop invariant-loop decreases-loop = search in
-    bytes-all loop.loop.inv start.pre.0 start.pre.1 (omega arith)
+    bytes-all c.loop-k.invariant c.requires.0 c.requires.1 (omega arith)
 
-pub same-bytes-spec : {M : Type 1} → statement M
-same-bytes-spec =
+pub same_bytes_spec : {M : Type 1} → statement M
+same_bytes_spec =
     tie.close
     (tie.spec
     invariant-loop
     decreases-loop
     loop-holds
     (λ c. omega arith)
-    (λ c. let loop : tie.At-loop invariant-loop decreases-loop = search in let w = loop.loop.inv.within in omega arith)
-    (λ c. let loop : tie.At-loop invariant-loop decreases-loop = search in let w = loop.loop.inv.within in omega arith)
-    (λ c. let loop : tie.At-loop invariant-loop decreases-loop = search in let w = loop.loop.inv.within in omega arith)
-    (λ c. let loop : tie.At-loop invariant-loop decreases-loop = search in let w = loop.loop.inv.within in omega arith)
+    (λ c. let loop : tie.At-loop-k invariant-loop decreases-loop = search in let w = loop.loop-k.invariant.within in omega arith)
+    (λ c. let loop : tie.At-loop-k invariant-loop decreases-loop = search in let w = loop.loop-k.invariant.within in omega arith)
+    (λ c. let loop : tie.At-loop-k invariant-loop decreases-loop = search in let w = loop.loop-k.invariant.within in omega arith)
+    (λ c. let loop : tie.At-loop-k invariant-loop decreases-loop = search in let w = loop.loop-k.invariant.within in omega arith)
     returns
     (λ c. omega arith)
     loop-again

@@ -47,34 +47,34 @@ judge-large-calls t = (
 module _ (t : ℕ) where
   judge-requires : judge-large-lts.Need-judge-requires (judge-large-calls t) (judge-large-at t) judge-large.Post
   judge-requires c κs =
-      let properties : judge-large-lts.After-large-properties (judge-large-calls t) (judge-large-at t) judge-large.Post = search in
-      let controls : judge-large-lts.After-large-controls (judge-large-calls t) (judge-large-at t) judge-large.Post = search in
+      let properties : judge-large-lts.After-large_properties-properties (judge-large-calls t) (judge-large-at t) judge-large.Post = search in
+      let controls : judge-large-lts.After-large_controls-controls (judge-large-calls t) (judge-large-at t) judge-large.Post = search in
       let start : judge-large-lts.Start (judge-large-calls t) (judge-large-at t) judge-large.Post = search in
-      large_ready start.pre.1.0 start.pre.1.1 controls.large-controls.ensures properties.large-properties.ensures
+      large_ready start.requires.1.0 start.requires.1.1 controls.large_controls-controls.ensures properties.large_properties-properties.ensures
 
-  array-share-prefix-space : judge-large-lts.Need-array-share-prefix-space (judge-large-calls t) (judge-large-at t) judge-large.Post
+  array-share-prefix-space : judge-large-lts.Need-slice_bounds-space-end (judge-large-calls t) (judge-large-at t) judge-large.Post
   array-share-prefix-space c =
-      let filled : judge-large-lts.After-fill (judge-large-calls t) (judge-large-at t) judge-large.Post = search in
-      inside filled.fill.ensures filled.fill.kept.0
+      let filled : judge-large-lts.After-fill-size (judge-large-calls t) (judge-large-at t) judge-large.Post = search in
+      inside filled.fill-size.ensures filled.fill-size.auto.0
 
-  slice-aggregate-again : judge-large-lts.Need-slice-aggregate-judge-large (judge-large-calls t) (judge-large-at t) judge-large.Post
+  slice-aggregate-again : judge-large-lts.Need-slice_bounds-judge_large-end (judge-large-calls t) (judge-large-at t) judge-large.Post
   slice-aggregate-again c =
-      let filled : judge-large-lts.After-fill (judge-large-calls t) (judge-large-at t) judge-large.Post = search in
-      part-size filled.fill.ensures filled.fill.kept.0
+      let filled : judge-large-lts.After-fill-size (judge-large-calls t) (judge-large-at t) judge-large.Post = search in
+      part-size filled.fill-size.ensures filled.fill-size.auto.0
 
-  again-requires : judge-large-lts.Need-judge-large-requires (judge-large-calls t) (judge-large-at t) judge-large.Post
+  again-requires : judge-large-lts.Need-judge_large-requires (judge-large-calls t) (judge-large-at t) judge-large.Post
   again-requires c κs =
-      let filled : judge-large-lts.After-fill (judge-large-calls t) (judge-large-at t) judge-large.Post = search in
-      let space : judge-large-lts.After-large-input (judge-large-calls t) (judge-large-at t) judge-large.Post = search in
-      let first : judge-large-lts.Else1 (judge-large-calls t) (judge-large-at t) judge-large.Post = search in
+      let filled : judge-large-lts.After-fill-size (judge-large-calls t) (judge-large-at t) judge-large.Post = search in
+      let space : judge-large-lts.After-large_input-space (judge-large-calls t) (judge-large-at t) judge-large.Post = search in
+      let first : judge-large-lts.Else-whole (judge-large-calls t) (judge-large-at t) judge-large.Post = search in
       let start : judge-large-lts.Start (judge-large-calls t) (judge-large-at t) judge-large.Post = search in
-      let f = filled.fill in (
-        once start.args.whole start.pre.0 first.if1.left,
-        (omega (arith, part-size f.ensures f.kept.0, f.ensures.after (omega (arith, space.large-input.ensures, start.pre.1.1)), start.pre.1.0), part-short f.ensures f.kept.0 space.large-input.ensures),
+      let f = filled.fill-size in (
+        once start.args.whole start.requires.0 first.if-whole.false,
+        (omega (arith, part-size f.ensures f.kept.0, f.ensures.after (omega (arith, space.large_input-space.ensures, start.requires.1.1)), start.requires.1.0), part-short f.ensures f.kept.0 space.large_input-space.ensures),
       )
 
-pub +judge-large-spec : {M : Type 1} → statement M
-+judge-large-spec = close μ-judge-large λ t. judge-large-lts.spec (judge-large-calls t)
+pub +judge_large_spec : {M : Type 1} → statement M
++judge_large_spec = close μ-judge-large λ t. judge-large-lts.spec (judge-large-calls t)
     (judge-large-at t)
     judge-large.Post
     (λ c κs. search rules) (λ c κs. search rules) (λ c. search rules) (λ c. search rules)

@@ -9,25 +9,21 @@ use Rattle.panelsay.proofs.Printing.{all-printed}
 use Rattle.panelsay.proofs.judge.Statement.{statement}
 use Rattle.panelsay.proofs.judge.Tie as tie
 
-array-share-prefix-out : tie.Need-array-share-prefix-out
+array-share-prefix-out : tie.Need-slice_bounds-out-end
 array-share-prefix-out c =
-    let written : tie.After-write-judged = search in
-    let w = written.write-judged in
+    let w = c.write_judged-end in
     omega (arith, within w.ensures.wrote, w.kept.1.0, length-replicate {A = ℕ} 128 0)
 
-slice-aggregate-print : tie.Need-slice-aggregate-print
+slice-aggregate-print : tie.Need-slice_bounds-print-end
 slice-aggregate-print c =
-    let written : tie.After-write-judged = search in
-    sym (length-take-le _ _ (within written.write-judged.ensures.wrote))
+    sym (length-take-le _ _ (within c.write_judged-end.ensures.wrote))
 
 print-requires : tie.Need-print-requires
 print-requires c κs =
-    let written : tie.After-write-judged = search in
-    let start : tie.Start = search in
-    all-printed written.write-judged.ensures (simp length-replicate (omega arith)) start.pre
+    all-printed c.write_judged-end.ensures (simp length-replicate (omega arith)) c.requires
 
-pub judge-spec : {M : Type 1} → statement M
-judge-spec =
+pub judge_spec : {M : Type 1} → statement M
+judge_spec =
     tie.close
     (tie.spec
     (λ c. search rules) (λ c κs. search rules)

@@ -5,13 +5,10 @@ use Rattle.panelsay.proofs.judge_small.Tie as tie
 
 judge-requires : tie.Need-judge-requires
 judge-requires c κs =
-    let properties : tie.After-small-properties = search in
-    let controls : tie.After-small-controls = search in
-    let start : tie.Start = search in
-    small-ready start.pre controls.small-controls.ensures properties.small-properties.ensures
+    small-ready c.requires c.small_controls-controls.ensures c.small_properties-properties.ensures
 
-pub judge-small-spec : {M : Type 1} → statement M
-judge-small-spec =
+pub judge_small_spec : {M : Type 1} → statement M
+judge_small_spec =
     tie.close
     (tie.spec
     (λ c κs. search rules) (λ c κs. search rules) (λ c. search rules) (λ c. search rules)

@@ -5,11 +5,10 @@ use lib.ListN.{length-take, length-replicate}
 use Rattle.panelsay.proofs.main.Statement.{statement}
 use Rattle.panelsay.proofs.main.Tie as tie
 
-judge-large-requires : tie.Need-judge-large-requires
+judge-large-requires : tie.Need-judge_large-requires
 judge-large-requires c κs =
-    let came : tie.After-read-full = search in
     let l = length-replicate {A = ℕ} 16384 0 in
-    (omega (arith, came.read-full.kept.1.0, l), omega (arith, came.read-full.kept.1.0, l))
+    (omega (arith, c.read_full-size.auto.1.0, l), omega (arith, c.read_full-size.auto.1.0, l))
 
 pub main_spec : {M : Type 1} → statement M
 main_spec =

@@ -8,23 +8,21 @@ use Rattle.panelsay.proofs.Printing.{said-written, row-short}
 use Rattle.panelsay.proofs.write_said.Statement.{statement}
 use Rattle.panelsay.proofs.write_said.Tie as tie
 
-line-short : (c : tie.After-check-panel) → length (answer_line c.check_panel_lem.result) ≤ 51
-line-short c = answer-short c.check_panel_lem.result (search rules) (search rules) (search rules) (search rules)
+line-short : (c : tie.After-check_panel-a) → length (answer_line c.check_panel-a.result) ≤ 51
+line-short c = answer-short c.check_panel-a.result (search rules) (search rules) (search rules) (search rules)
 
-row_fits : (c : tie.After-get-control) → length (row_line c.get-control.result.type_code c.get-control.result.mark c.get-control.result.start c.get-control.result.size) ≤ 52
+row_fits : (c : tie.After-get_control-row) → length (row_line c.get_control-row.result.type_code c.get_control-row.result.mark c.get_control-row.result.start c.get_control-row.result.size) ≤ 52
 row_fits c = row-short _ _ _ _ (search rules) (search rules) (search rules) (search rules)
 
 returns : tie.Need-returns
 returns c =
-    let put : tie.After-row-line = search in
-    let row : tie.After-get-control = search in
-    let line : tie.After-answer-line = search in
-    let a : tie.After-check-panel = search in
-    said-written a.check_panel_lem.ensures row.get-control.ensures line.answer-line.ensures put.row_Line.ensures
+    let row : tie.After-get_control-row = search in
+    let a : tie.After-check_panel-a = search in
+    said-written a.check_panel-a.ensures row.get_control-row.ensures c.answer_line-p.ensures c.row_line.ensures
     (line-short a) (row_fits row)
 
-pub write-said-spec : {M : Type 1} → statement M
-write-said-spec =
+pub write_said_spec : {M : Type 1} → statement M
+write_said_spec =
     tie.close
     (tie.spec
     (λ c κs. search rules) (λ c κs. search rules) (λ c κs. search rules) (λ c κs. search rules)

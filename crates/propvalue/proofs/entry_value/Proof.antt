@@ -9,51 +9,51 @@ use Rattle.propvalue.proofs.entry_value.Statement.{statement}
 use Rattle.propvalue.proofs.entry_value.Tie as tie
 
 -- the value at a type that a pattern names
-typed : (c : tie.Start) {t : ℕ} → c.args.type-code ≡ t → entry_value_lem c.args.type-code c.args.bytes.now ≡ entry_value_lem t c.args.bytes.now
+typed : (c : tie.Start) {t : ℕ} → c.args.type_code ≡ t → entry_value_lem c.args.type_code c.args.bytes.now ≡ entry_value_lem t c.args.bytes.now
 typed c e = ap (λ (t : ℕ). entry_value_lem t c.args.bytes.now) e
 
-returns : tie.Need-returns
+returns : tie.Need-returns-in-1
 unfolding entry_value_lem
-returns c = c.yes-no-value.ensures ∙ sym (typed c.before.before.before c.before.match.keys1)
+returns c = c.yes_no_value.ensures ∙ sym (typed c.before.before.before c.in-1.is)
 
-returns-2 : tie.Need-returns-2
+returns-2 : tie.Need-returns-in-2
 unfolding entry_value_lem
-returns-2 c = c.short-value.ensures ∙ sym (typed c.before.before.before c.before.match.keys2)
+returns-2 c = c.short_value.ensures ∙ sym (typed c.before.before.before c.in-2.is)
 
-returns-3 : tie.Need-returns-3
+returns-3 : tie.Need-returns-in-3
 unfolding entry_value_lem
-returns-3 c = c.long-value.ensures ∙ sym (typed c.before.before.before c.before.match.keys3)
+returns-3 c = c.long_value.ensures ∙ sym (typed c.before.before.before c.in-3.is)
 
-returns-4 : tie.Need-returns-4
+returns-4 : tie.Need-returns-in-4
 unfolding entry_value_lem
-returns-4 c = c.long-value2.ensures ∙ sym (typed c.before.before.before c.before.match.keys4)
+returns-4 c = c.long_value-in-4.ensures ∙ sym (typed c.before.before.before c.in-4.is)
 
-returns-5 : tie.Need-returns-5
+returns-5 : tie.Need-returns-in-6
 unfolding entry_value_lem single_or_binary
-returns-5 c = c.single-value.ensures ∙ sym (typed c.before.before.before c.before.match.keys5)
+returns-5 c = c.single_value.ensures ∙ sym (typed c.before.before.before c.in-6.is)
 
-returns-6 : tie.Need-returns-6
+returns-6 : tie.Need-returns-in-8
 unfolding entry_value_lem double_or_binary
-returns-6 c = c.double-value.ensures ∙ sym (typed c.before.before.before c.before.match.keys6)
+returns-6 c = c.double_value.ensures ∙ sym (typed c.before.before.before c.in-8.is)
 
-returns-7 : tie.Need-returns-7
+returns-7 : tie.Need-returns-in-9
 unfolding entry_value_lem guid_or_binary
-returns-7 c = c.guid-value.ensures ∙ sym (typed c.before.before.before c.before.match.keys7)
+returns-7 c = c.guid_value.ensures ∙ sym (typed c.before.before.before c.in-9.is)
 
-returns-8 : tie.Need-returns-8
+returns-8 : tie.Need-returns-in-10
 unfolding entry_value_lem
 returns-8 c =
-    c.text-or.ensures
-    ∙ sym (⊎_elim (λ e. typed c.before.before.before e) (λ e. typed c.before.before.before e) c.before.match.keys8)
+    c.text_or.ensures
+    ∙ sym (⊎_elim (λ e. typed c.before.before.before e) (λ e. typed c.before.before.before e) c.in-10.is)
 
-returns-9 : tie.Need-returns-9
+returns-9 : tie.Need-returns-in_default
 returns-9 c =
-    let ((((((((_, n1), n2), n3), n4), n6), n8), n9), nac) = c.before.match.rest in
-    let a = c.before.before.before.args in
-    c.valued.ensures ∙ other-type a.type-code a.bytes.now n1 n2 n3 n4 n6 n8 n9 (λ e. nac (inl e)) (λ e. nac (inr e))
+    let ((((((((_, n1), n2), n3), n4), n6), n8), n9), nac) = c.in_default.in_default-own.rest in
+    let a = c.args in
+    c.valued.ensures ∙ other-type a.type_code a.bytes.now n1 n2 n3 n4 n6 n8 n9 (λ e. nac (inl e)) (λ e. nac (inr e))
 
-pub entry-value-spec : {M : Type 1} → statement M
-entry-value-spec =
+pub entry_value_spec : {M : Type 1} → statement M
+entry_value_spec =
     tie.close
     (tie.spec
     (λ c κs. search rules) (λ c κs. search rules) (λ c κs. search rules) (λ c κs. search rules) (λ c κs. search rules)

@@ -10,25 +10,22 @@ use Rattle.propvalue.proofs.long_value.Statement.{statement}
 use Rattle.propvalue.proofs.long_value.Tie as tie
 
 -- v is a number of 32 bits, so it is read back as it is
-v-is : (c : tie.After-known-told) → to_z w32 (of_z w32 c.before.v.given.0.0) ≡ c.before.v.given.0.0
+v-is : (c : tie.In-Of) → to_z w32 (of_z w32 c.in-Of.v) ≡ c.in-Of.v
 v-is c = to_z-of_z {w = w32} (search rules)
 
-returns : tie.Need-returns
+returns : tie.Need-returns-in_default
 returns c =
-    let start : tie.Start = search in
-    c.valued.ensures ∙ missing_long (integer_value_lem start.args.bytes.now) (sym c.before.before.before.integer-value.ensures ∙ c.before.enum_told.given.1)
+    c.valued.ensures ∙ missing_long (integer_value_lem c.args.bytes.now) (sym c.integer_value.ensures ∙ c.in_default.is)
 
-returns-2 : tie.Need-returns-2
+returns-2 : tie.Need-returns
 returns-2 c =
-    let after-integer-value : tie.After-integer-value = search in
-    let start : tie.Start = search in
-    let z = c.before.before.before.v.given.0.0 in
-    c.valued2.ensures
-    ∙ ap (λ (n : ℕ). value 3 n 0) (c.before.word_of.ensures ∙ ap word32 (v-is c.before.before))
-    ∙ long-is (integer_value_lem start.args.bytes.now) z (sym after-integer-value.integer-value.ensures ∙ c.before.before.before.v.given.1)
+    let z = c.in-Of.v in
+    c.valued-2.ensures
+    ∙ ap (λ (n : ℕ). value 3 n 0) (c.word_of.ensures ∙ ap word32 (v-is c.before.before))
+    ∙ long-is (integer_value_lem c.args.bytes.now) z (sym c.integer_value.ensures ∙ c.in-Of.is)
 
-pub long-value-spec : {M : Type 1} → statement M
-long-value-spec =
+pub long_value_spec : {M : Type 1} → statement M
+long_value_spec =
     tie.close
     (tie.spec
     (λ c κs. search rules) (λ c. search rules) (λ c. search rules) (λ c κs. search rules)

@@ -9,17 +9,16 @@ use Rattle.numbers.specs.declared.Wide.{Wide}
 use Rattle.propvalue.proofs.single_value.Statement.{statement}
 use Rattle.propvalue.proofs.single_value.Tie as tie
 
-returns : tie.Need-returns
+returns : tie.Need-returns-then-bytes-eq-SINGLE
 returns c =
-    let start : tie.Start = search in
     c.valued.ensures
-    ∙ ap (λ (w : Wide). value 4 w.low w.high) (c.before.widen.ensures.0 ∙ ap (λ (n : ℕ). words_of (widened n)) c.before.before.u32-at.ensures)
-    ∙ a_single start.args.bytes.now (omega arith)
+    ∙ ap (λ (w : Wide). value 4 w.low w.high) (c.widen-w.ensures.0 ∙ ap (λ (n : ℕ). words_of (widened n)) c.u32_at.ensures)
+    ∙ a_single c.args.bytes.now (omega arith)
 
-returns-2 : tie.Need-returns-2
-returns-2 c = c.valued2.ensures ∙ no-single c.before.before.before.args.bytes.now (λ e. omega arith)
+returns-2 : tie.Need-returns-else-bytes-eq-SINGLE
+returns-2 c = c.valued-else-bytes-eq-SINGLE.ensures ∙ no-single c.args.bytes.now (λ e. omega arith)
 
-pub single-value-spec : {M : Type 1} → statement M
-single-value-spec =
+pub single_value_spec : {M : Type 1} → statement M
+single_value_spec =
     tie.close
     (tie.spec (λ c κs. search rules) (λ c κs. search rules) (λ c κs. search rules) (λ c κs. search rules) returns returns-2)

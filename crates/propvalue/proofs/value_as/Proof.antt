@@ -13,36 +13,35 @@ use Rattle.propvalue.proofs.value_as.Tie as tie
 kinded : (c : tie.Start) {k : ℕ} → c.args.kind ≡ k → value_as_lem c.args.kind c.args.id c.args.bytes.now ≡ value_as_lem k c.args.id c.args.bytes.now
 kinded c e = ap (λ (k : ℕ). value_as_lem k c.args.id c.args.bytes.now) e
 
-returns : tie.Need-returns
-returns c = let a = c.before.before.before.args in c.stored-value.ensures ∙ sym (by-id a.id a.bytes.now a.kind (omega arith))
+returns : tie.Need-returns-then-id-le-LAST_SIZED_ID
+returns c = let a = c.args in c.stored_value.ensures ∙ sym (by-id a.id a.bytes.now a.kind (omega arith))
 
-returns-2 : tie.Need-returns-2
+returns-2 : tie.Need-returns-in-1
 returns-2 c =
     let start : tie.Start = search in
-    let a = start.args in c.text-or.ensures ∙ sym (kinded start c.before.match.keys1 ∙ by_kind a.id a.bytes.now _ (omega arith))
+    let a = start.args in c.text_or.ensures ∙ sym (kinded start c.in-1.is ∙ by_kind a.id a.bytes.now _ (omega arith))
 
-returns-3 : tie.Need-returns-3
+returns-3 : tie.Need-returns-in-2
 unfolding guid_or_binary
 returns-3 c =
     let start : tie.Start = search in
-    let a = start.args in c.guid-value.ensures ∙ sym (kinded start c.before.match.keys2 ∙ by_kind a.id a.bytes.now _ (omega arith))
+    let a = start.args in c.guid_value.ensures ∙ sym (kinded start c.in-2.is ∙ by_kind a.id a.bytes.now _ (omega arith))
 
-returns-4 : tie.Need-returns-4
+returns-4 : tie.Need-returns-in-3
 unfolding double_or_binary
 returns-4 c =
     let start : tie.Start = search in
-    let a = start.args in c.double-value.ensures ∙ sym (kinded start c.before.match.keys3 ∙ by_kind a.id a.bytes.now _ (omega arith))
+    let a = start.args in c.double_value.ensures ∙ sym (kinded start c.in-3.is ∙ by_kind a.id a.bytes.now _ (omega arith))
 
-returns-5 : tie.Need-returns-5
+returns-5 : tie.Need-returns-in_default
 returns-5 c =
-    let start : tie.Start = search in
-    let a = start.args in
-    let (((_, not_text), not-guid), not-double) = c.before.match.rest in
+    let a = c.args in
+    let (((_, not_text), not-guid), not-double) = c.in_default.in_default-own.rest in
     c.valued.ensures
     ∙ sym (by_kind a.id a.bytes.now a.kind (omega arith) ∙ simp (ne_eqb a.kind 1 not_text, ne_eqb a.kind 2 not-guid, ne_eqb a.kind 3 not-double))
 
-pub value-as-spec : {M : Type 1} → statement M
-value-as-spec =
+pub value_as_spec : {M : Type 1} → statement M
+value_as_spec =
     tie.close
     (tie.spec
     (λ c κs. search rules)

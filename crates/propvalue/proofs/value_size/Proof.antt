@@ -4,8 +4,8 @@ use Rattle.propvalue.proofs.Sizes.{tells_none, tells-one, tells-two, tells-four,
 use Rattle.propvalue.proofs.value_size.Statement.{statement}
 use Rattle.propvalue.proofs.value_size.Tie as tie
 
-pub value-size-spec : {M : Type 1} → statement M
-value-size-spec =
+pub value_size_spec : {M : Type 1} → statement M
+value_size_spec =
     tie.close
     (tie.spec
     (λ c. sym (tells-length _ (omega arith)))

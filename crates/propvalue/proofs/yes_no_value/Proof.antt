@@ -6,21 +6,19 @@ use Rattle.propvalue.proofs.Values.{yes-empty, yes-byte, yes-longer}
 use Rattle.propvalue.proofs.yes_no_value.Statement.{statement}
 use Rattle.propvalue.proofs.yes_no_value.Tie as tie
 
-returns : tie.Need-returns
-returns c = c.valued.ensures ∙ yes-empty c.before.before.before.args.bytes.now (omega arith)
+returns : tie.Need-returns-then-bytes-eq0
+returns c = c.valued.ensures ∙ yes-empty c.args.bytes.now (omega arith)
 
-returns-2 : tie.Need-returns-2
+returns-2 : tie.Need-returns-then-bytes-eq1
 returns-2 c =
-    let start : tie.Start = search in
-    c.bool-value.ensures ∙ ap bool_value c.before.byte-at.ensures ∙ yes-byte start.args.bytes.now (omega arith)
+    c.bool_value.ensures ∙ ap bool_value c.byte_at.ensures ∙ yes-byte c.args.bytes.now (omega arith)
 
-returns-3 : tie.Need-returns-3
+returns-3 : tie.Need-returns
 returns-3 c =
-    let start : tie.Start = search in
-    c.long-value.ensures ∙ yes-longer start.args.bytes.now (λ e. omega arith) (λ e. omega arith)
+    c.long_value.ensures ∙ yes-longer c.args.bytes.now (λ e. omega arith) (λ e. omega arith)
 
-pub yes-no-value-spec : {M : Type 1} → statement M
-yes-no-value-spec =
+pub yes_no_value_spec : {M : Type 1} → statement M
+yes_no_value_spec =
     tie.close
     (tie.spec
     (λ c κs. search rules)

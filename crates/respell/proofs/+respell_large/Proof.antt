@@ -46,39 +46,39 @@ respell-large-calls t = (
 
 module _ (t : ℕ) where
   refuse-requires : respell-large-lts.Need-refuse-requires (respell-large-calls t) (respell-large-at t) respell-large.Post
-  refuse-requires c κs = c.before.before.requires.1 c.if1.true
+  refuse-requires c κs = c.before.before.requires.1 c.if-more.true
 
-  slice-aggregate-again : respell-large-lts.Need-slice-aggregate-respell-large (respell-large-calls t) (respell-large-at t) respell-large.Post
+  slice-aggregate-again : respell-large-lts.Need-slice_bounds-respell_large-end (respell-large-calls t) (respell-large-at t) respell-large.Post
   slice-aggregate-again c =
-      let filled : respell-large-lts.After-fill (respell-large-calls t) (respell-large-at t) respell-large.Post = search in
-      let space : respell-large-lts.After-large-stream (respell-large-calls t) (respell-large-at t) respell-large.Post = search in
-      space.large-stream.ensures ∙ sym filled.fill.kept.0
+      let filled : respell-large-lts.After-fill-size (respell-large-calls t) (respell-large-at t) respell-large.Post = search in
+      let space : respell-large-lts.After-large_stream-space (respell-large-calls t) (respell-large-at t) respell-large.Post = search in
+      space.large_stream-space.ensures ∙ sym filled.fill-size.auto.0
 
-  again-requires : respell-large-lts.Need-respell-large-requires (respell-large-calls t) (respell-large-at t) respell-large.Post
+  again-requires : respell-large-lts.Need-respell_large-requires (respell-large-calls t) (respell-large-at t) respell-large.Post
   again-requires c κs =
-      let filled : respell-large-lts.After-fill (respell-large-calls t) (respell-large-at t) respell-large.Post = search in
-      let space : respell-large-lts.After-large-stream (respell-large-calls t) (respell-large-at t) respell-large.Post = search in
-      let first : respell-large-lts.Else1 (respell-large-calls t) (respell-large-at t) respell-large.Post = search in
+      let filled : respell-large-lts.After-fill-size (respell-large-calls t) (respell-large-at t) respell-large.Post = search in
+      let space : respell-large-lts.After-large_stream-space (respell-large-calls t) (respell-large-at t) respell-large.Post = search in
+      let first : respell-large-lts.Else-more (respell-large-calls t) (respell-large-at t) respell-large.Post = search in
       let start : respell-large-lts.Start (respell-large-calls t) (respell-large-at t) respell-large.Post = search in
-      (once start.args.more start.pre.0 first.if1.left, λ _. omega (arith, space.large-stream.ensures, filled.fill.kept.0))
+      (once start.args.more start.requires.0 first.if-more.false, λ _. omega (arith, space.large_stream-space.ensures, filled.fill-size.auto.0))
 
-  array-share-prefix-space : respell-large-lts.Need-array-share-prefix-space (respell-large-calls t) (respell-large-at t) respell-large.Post
-  array-share-prefix-space c = let f = c.before.before.before.fill in inside f.ensures f.auto.0
+  array-share-prefix-space : respell-large-lts.Need-slice_bounds-space-end (respell-large-calls t) (respell-large-at t) respell-large.Post
+  array-share-prefix-space c = let f = c.fill-size in inside f.ensures f.auto.0
 
-  slice-aggregate-respell : respell-large-lts.Need-slice-aggregate-respell (respell-large-calls t) (respell-large-at t) respell-large.Post
+  slice-aggregate-respell : respell-large-lts.Need-slice_bounds-respell-end (respell-large-calls t) (respell-large-at t) respell-large.Post
   slice-aggregate-respell c =
-      let filled : respell-large-lts.After-fill (respell-large-calls t) (respell-large-at t) respell-large.Post = search in
-      part-size filled.fill.ensures filled.fill.kept.0
+      let filled : respell-large-lts.After-fill-size (respell-large-calls t) (respell-large-at t) respell-large.Post = search in
+      part-size filled.fill-size.ensures filled.fill-size.auto.0
 
   respell-requires : respell-large-lts.Need-respell-requires (respell-large-calls t) (respell-large-at t) respell-large.Post
   respell-requires c κs =
-      let filled : respell-large-lts.After-fill (respell-large-calls t) (respell-large-at t) respell-large.Post = search in
-      let out : respell-large-lts.After-large-stream2 (respell-large-calls t) (respell-large-at t) respell-large.Post = search in
-      let space : respell-large-lts.After-large-stream (respell-large-calls t) (respell-large-at t) respell-large.Post = search in
-      omega (arith, out.large-stream2.ensures, part-short filled.fill.ensures filled.fill.kept.0 space.large-stream.ensures)
+      let filled : respell-large-lts.After-fill-size (respell-large-calls t) (respell-large-at t) respell-large.Post = search in
+      let out : respell-large-lts.After-large_stream-out (respell-large-calls t) (respell-large-at t) respell-large.Post = search in
+      let space : respell-large-lts.After-large_stream-space (respell-large-calls t) (respell-large-at t) respell-large.Post = search in
+      omega (arith, out.large_stream-out.ensures, part-short filled.fill-size.ensures filled.fill-size.auto.0 space.large_stream-space.ensures)
 
-pub +respell-large-spec : {M : Type 1} → statement M
-+respell-large-spec = close μ-respell-large λ t. respell-large-lts.spec (respell-large-calls t)
+pub +respell_large_spec : {M : Type 1} → statement M
++respell_large_spec = close μ-respell-large λ t. respell-large-lts.spec (respell-large-calls t)
     (respell-large-at t)
     respell-large.Post
     (refuse-requires t)

@@ -8,5 +8,5 @@ use Rattle.respell.proofs.large_stream.Tie as tie
 returns : tie.Need-returns
 returns c = sym (length-replicate {A = ℕ} longest 0)
 
-pub large-stream-spec : {M : Type 1} → statement M
-large-stream-spec = tie.close (tie.spec returns)
+pub large_stream_spec : {M : Type 1} → statement M
+large_stream_spec = tie.close (tie.spec returns)

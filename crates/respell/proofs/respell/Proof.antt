@@ -10,40 +10,32 @@ use Rattle.respell.proofs.Printing.{all-printed, first_fits}
 use Rattle.respell.proofs.respell.Statement.{statement}
 use Rattle.respell.proofs.respell.Tie as tie
 
-array-share-prefix-line : tie.Need-array-share-prefix-line
+array-share-prefix-line : tie.Need-slice_bounds-line-end
 array-share-prefix-line c =
-    let said : tie.After-answer-line = search in
-    let w = said.answer-line in
+    let w = c.answer_line-end in
     omega (arith, within w.ensures, w.kept.0, length-replicate {A = ℕ} 64 0)
 
-slice-aggregate-print : tie.Need-slice-aggregate-print
+slice-aggregate-print : tie.Need-slice_bounds-print-end
 slice-aggregate-print c =
-    let said : tie.After-answer-line = search in
-    sym (length-take-le _ _ (within said.answer-line.ensures))
+    sym (length-take-le _ _ (within c.answer_line-end.ensures))
 
-slice-reshare-prefix-print : tie.Need-slice-reshare-prefix-print
+slice-reshare-prefix-print : tie.Need-slice_bounds-print-end-2
 slice-reshare-prefix-print c =
-    let written : tie.After-rewrite = search in
-    let w = written.rewrite in
+    let w = c.rewrite-a in
     omega (arith, first_fits _ _ w.ensures.0, w.kept)
 
-slice-aggregate-print-2 : tie.Need-slice-aggregate-print-2
+slice-aggregate-print-2 : tie.Need-slice_bounds-print-end-3
 slice-aggregate-print-2 c = sym (length-take-le _ _ (slice-reshare-prefix-print c.before))
 
 print-requires : tie.Need-print-requires
 print-requires c κs =
-    let said : tie.After-answer-line = search in
-    let written : tie.After-rewrite = search in
-    let start : tie.Start = search in
-    let known : tie.After-shared-slice-known = search in
-    let words : tie.After-struct-known = search in
-    let fit = words.struct_known.given in
-    let w = written.rewrite in
+    let fit = c.struct_known-1.given in
+    let w = c.rewrite-a in
     let short = answer-short w.result (omega (arith, fit)) (omega (arith, fit)) (omega (arith, fit)) (omega (arith, fit)) in
-    all-printed _ _ w.ensures.0 w.ensures.1 said.answer-line.ensures (omega (arith, short)) (λ i. omega (arith, known.shared-slice-known.given i)) start.pre
+    all-printed _ _ w.ensures.0 w.ensures.1 c.answer_line-end.ensures (omega (arith, short)) (λ i. omega (arith, c.shared_slice_known-1.given i)) c.requires
 
-pub respell-spec : {M : Type 1} → statement M
-respell-spec =
+pub respell_spec : {M : Type 1} → statement M
+respell_spec =
     tie.close
     (tie.spec
     (λ c κs. search rules) (λ c. search rules) (λ c κs. search rules) (λ c. search rules)

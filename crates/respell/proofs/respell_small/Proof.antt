@@ -7,5 +7,5 @@ use Rattle.respell.proofs.respell_small.Tie as tie
 respell-requires : tie.Need-respell-requires
 respell-requires c κs = simp length-replicate (omega arith)
 
-pub respell-small-spec : {M : Type 1} → statement M
-respell-small-spec = tie.close (tie.spec (λ c. search rules) respell-requires (λ c. search rules))
+pub respell_small_spec : {M : Type 1} → statement M
+respell_small_spec = tie.close (tie.spec (λ c. search rules) respell-requires (λ c. search rules))

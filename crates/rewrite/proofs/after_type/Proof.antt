@@ -5,21 +5,19 @@ use Rattle.rewrite.proofs.Walks.{type-there, type-none}
 use Rattle.rewrite.proofs.after_type.Statement.{statement}
 use Rattle.rewrite.proofs.after_type.Tie as tie
 
-add-result : tie.Need-overflow-add-result
-add-result c = omega (arith, inside-room _ _ _ _ c.before.before.u16-if-inside.ensures c.enum_told.given.1)
+add-result : tie.Need-overflow_add-result
+add-result c = omega (arith, inside-room _ _ _ _ c.u16_if_inside.ensures c.in-Of.is)
 
-returns : tie.Need-returns
+returns : tie.Need-returns-in-Of
 returns c =
-    let after-u16-if-inside : tie.After-u16-if-inside = search in
-    type-there _ _ after-u16-if-inside.u16-if-inside.ensures c.enum_told.given.1
+    type-there _ _ c.u16_if_inside.ensures c.in-Of.is
 
-returns-2 : tie.Need-returns-2
+returns-2 : tie.Need-returns-in-Outside
 returns-2 c =
-    let after-u16-if-inside : tie.After-u16-if-inside = search in
-    type-none _ _ after-u16-if-inside.u16-if-inside.ensures c.enum-told2.given.1
+    type-none _ _ c.u16_if_inside.ensures c.in-Outside.is
 
-pub after-type-spec : {M : Type 1} → statement M
-after-type-spec =
+pub after_type_spec : {M : Type 1} → statement M
+after_type_spec =
     tie.close
     (tie.spec
     (λ c κs. search rules) (λ c. search rules)

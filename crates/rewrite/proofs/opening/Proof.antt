@@ -5,42 +5,24 @@ use Rattle.rewrite.proofs.OpeningLaws.{bad_spells, plain_spells, one_spells, man
 use Rattle.rewrite.proofs.opening.Statement.{statement}
 use Rattle.rewrite.proofs.opening.Tie as tie
 
-returns : tie.Need-returns
+returns : tie.Need-returns-then-count-eq1
 returns c =
-    let after-type : tie.After-after-type2 = search in
-    let after-count : tie.After-count = search in
-    let after-head : tie.After-head = search in
-    let known : tie.After-shared-slice-known = search in
-    let start : tie.Start = search in
-    one_spells _ (λ i. (known.shared-slice-known.given i).fits) _ start.pre.1 (opens_listed _ _ _ _ after-head.head.ensures after-count.count.given.1) after-type.after-type2.ensures (omega (arith, c.if1.true))
+    one_spells _ (λ i. (c.shared_slice_known-1.given i).fits) _ c.requires.1 (opens_listed _ _ _ _ c.head.ensures c.in-Listed.is) c.after_type-end.ensures (omega (arith, c.if-count-eq1.true))
 
-returns-2 : tie.Need-returns-2
+returns-2 : tie.Need-returns-in-Bad
 returns-2 c =
-    let after-enum-told : tie.After-enum-told = search in
-    let after-head : tie.After-head = search in
-    let known : tie.After-shared-slice-known = search in
-    let start : tie.Start = search in
-    bad_spells _ (λ i. (known.shared-slice-known.given i).fits) _ start.pre.1 (opens_bad _ _ after-head.head.ensures after-enum-told.enum_told.given.1)
+    bad_spells _ (λ i. (c.shared_slice_known-1.given i).fits) _ c.requires.1 (opens_bad _ _ c.head.ensures c.in-Bad.is)
 
-returns-3 : tie.Need-returns-3
+returns-3 : tie.Need-returns-in-Plain
 returns-3 c =
-    let after_next : tie.After-next = search in
-    let after-head : tie.After-head = search in
-    let known : tie.After-shared-slice-known = search in
-    let start : tie.Start = search in
-    plain_spells _ (λ i. (known.shared-slice-known.given i).fits) _ start.pre.1 (opens_plain _ _ _ after-head.head.ensures after_next.next.given.1) c.after-type.ensures
+    plain_spells _ (λ i. (c.shared_slice_known-1.given i).fits) _ c.requires.1 (opens_plain _ _ _ c.head.ensures c.in-Plain.is) c.after_type.ensures
 
-returns-4 : tie.Need-returns-4
+returns-4 : tie.Need-returns-else-count-eq1
 returns-4 c =
-    let after-type : tie.After-after-type2 = search in
-    let after-count : tie.After-count = search in
-    let after-head : tie.After-head = search in
-    let known : tie.After-shared-slice-known = search in
-    let start : tie.Start = search in
-    many_spells _ (λ i. (known.shared-slice-known.given i).fits) _ start.pre.1 (opens_listed _ _ _ _ after-head.head.ensures after-count.count.given.1) after-type.after-type2.ensures λ e. omega (arith, c.if1.false, e)
+    many_spells _ (λ i. (c.shared_slice_known-1.given i).fits) _ c.requires.1 (opens_listed _ _ _ _ c.head.ensures c.in-Listed.is) c.after_type-end.ensures λ e. omega (arith, c.if-count-eq1.false, e)
 
-pub opening-spec : {M : Type 1} → statement M
-opening-spec =
+pub opening_spec : {M : Type 1} → statement M
+opening_spec =
     tie.close
     (tie.spec
     (λ c κs. search rules) (λ c. search rules) (λ c κs. search rules) (λ c. search rules) (λ c κs. search rules) (λ c. search rules) (λ c κs. search rules)

@@ -5,16 +5,14 @@ use Rattle.rewrite.proofs.piece_at.Tie as tie
 
 property-requires : tie.Need-property-requires
 property-requires c κs =
-    let start : tie.Start = search in
-    (start.pre, goes _ _ start.pre c.if1.true)
+    (c.requires, goes _ _ c.requires c.if-s-at-lt-ENTRY_END.true)
 
 opening-requires : tie.Need-opening-requires
 opening-requires c κs =
-    let start : tie.Start = search in
-    (start.pre, stops _ _ start.pre c.if1.false)
+    (c.requires, stops _ _ c.requires c.if-s-at-lt-ENTRY_END.false)
 
-pub piece-at-spec : {M : Type 1} → statement M
-piece-at-spec =
+pub piece_at_spec : {M : Type 1} → statement M
+piece_at_spec =
     tie.close
     (tie.spec
     (λ c. search rules)

@@ -6,57 +6,44 @@ use Rattle.rewrite.proofs.Walks.{Writing, write-start, turn, goes_forth, write-n
 use Rattle.rewrite.proofs.put_pieces.Statement.{statement}
 use Rattle.rewrite.proofs.put_pieces.Tie as tie
 
-abbrev invariant-loop : tie.invariant-loop
+abbrev invariant-loop : tie.invariant-loop-p
 invariant-loop out₀ at s o₀ p₀ out o p = Writing s out₀ at out o p
 
-abbrev decreases-loop : tie.decreases-loop
+abbrev decreases-loop : tie.decreases-loop-p
 decreases-loop out₀ at s o₀ p₀ out o p = length s - p
 
-loop-holds : tie.Need-loop-init invariant-loop decreases-loop
+loop-holds : tie.Need-loop-p-init invariant-loop decreases-loop
 loop-holds c =
-    let known : tie.After-shared-slice-known invariant-loop decreases-loop = search in
-    let start : tie.Start invariant-loop decreases-loop = search in
-    write-start (λ i. (known.shared-slice-known.given i).fits) start.pre
+    write-start (λ i. (c.shared_slice_known-1.given i).fits) c.requires
 
-put-piece-requires : tie.Need-put-piece-requires invariant-loop decreases-loop
+put-piece-requires : tie.Need-put_piece-o-requires invariant-loop decreases-loop
 put-piece-requires c κs =
-    let after-piece-at : tie.After-piece-at invariant-loop decreases-loop = search in
-    let in-loop : tie.In-loop invariant-loop decreases-loop = search in
-    let at-loop : tie.At-loop invariant-loop decreases-loop = search in
-    let g = turn at-loop.loop.inv.rest in-loop.loop-test.taken after-piece-at.piece-at.ensures in
+    let g = turn c.loop-p.invariant.rest c.loop-p-test.true c.piece_at-x.ensures in
     (g.order, g.inside)
 
-loop-less : tie.Need-loop-smaller invariant-loop decreases-loop
+loop-less : tie.Need-loop-p-smaller invariant-loop decreases-loop
 loop-less c =
-    let after-piece-at : tie.After-piece-at invariant-loop decreases-loop = search in
-    let in-loop : tie.In-loop invariant-loop decreases-loop = search in
-    let at-loop : tie.At-loop invariant-loop decreases-loop = search in
-    omega (arith, goes_forth (turn at-loop.loop.inv.rest in-loop.loop-test.taken after-piece-at.piece-at.ensures))
+    omega (arith, goes_forth (turn c.loop-p.invariant.rest c.loop-p-test.true c.piece_at-x.ensures))
 
-loop-again : tie.Need-loop-preserved invariant-loop decreases-loop
+loop-again : tie.Need-loop-p-preserved invariant-loop decreases-loop
 loop-again c =
-    let after-put-piece : tie.After-put-piece invariant-loop decreases-loop = search in
-    let after-piece-at : tie.After-piece-at invariant-loop decreases-loop = search in
-    let in-loop : tie.In-loop invariant-loop decreases-loop = search in
-    let at-loop : tie.At-loop invariant-loop decreases-loop = search in
-    write-next at-loop.loop.inv (turn at-loop.loop.inv.rest in-loop.loop-test.taken after-piece-at.piece-at.ensures) after-put-piece.put-piece.ensures
+    write-next c.loop-p.invariant (turn c.loop-p.invariant.rest c.loop-p-test.true c.piece_at-x.ensures) c.put_piece-o.ensures
 
 returns : tie.Need-returns invariant-loop decreases-loop
 returns c =
-    let known : tie.After-shared-slice-known invariant-loop decreases-loop = search in
-    write-end c.before.loop.invariant (λ i. (known.shared-slice-known.given i).fits) c.loop-test.false
+    write-end c.loop-p.invariant (λ i. (c.shared_slice_known-1.given i).fits) c.loop-p-test.false
 
-same_length : tie.Need-same-length invariant-loop decreases-loop
+same_length : tie.Need-shape_of-out invariant-loop decreases-loop
 same_length c = same (returns c)
 
-pub put-pieces-spec : {M : Type 1} → statement M
-put-pieces-spec =
+pub put_pieces_spec : {M : Type 1} → statement M
+put_pieces_spec =
     tie.close
     (tie.spec
     invariant-loop
     decreases-loop
     loop-holds
-    (λ c κs. c.loop-test.true)
+    (λ c κs. c.loop-p-test.true)
     put-piece-requires
     loop-less
     loop-again

@@ -5,63 +5,46 @@ use Rattle.rewrite.proofs.Walks.{Counting, count-start, count_goes, count-few, c
 use Rattle.rewrite.proofs.size_of.Statement.{statement}
 use Rattle.rewrite.proofs.size_of.Tie as tie
 
-abbrev invariant-loop : tie.invariant-loop
+abbrev invariant-loop : tie.invariant-loop-p
 invariant-loop s n₀ p₀ n p = Counting s n p
 
-abbrev decreases-loop : tie.decreases-loop
+abbrev decreases-loop : tie.decreases-loop-p
 decreases-loop s n₀ p₀ n p = length s - p
 
-loop-holds : tie.Need-loop-init invariant-loop decreases-loop
+loop-holds : tie.Need-loop-p-init invariant-loop decreases-loop
 loop-holds c =
-    let known : tie.After-shared-slice-known invariant-loop decreases-loop = search in
-    let start : tie.Start invariant-loop decreases-loop = search in
-    count-start (λ i. (known.shared-slice-known.given i).fits) start.pre
+    count-start (λ i. (c.shared_slice_known-1.given i).fits) c.requires
 
-piece-size-requires : tie.Need-piece-size-requires invariant-loop decreases-loop
+piece-size-requires : tie.Need-piece_size-n-requires invariant-loop decreases-loop
 piece-size-requires c κs =
-    let after-piece-at : tie.After-piece-at invariant-loop decreases-loop = search in
-    let in-loop : tie.In-loop invariant-loop decreases-loop = search in
-    let at-loop : tie.At-loop invariant-loop decreases-loop = search in
-    (count_goes at-loop.loop.inv in-loop.loop-test.taken after-piece-at.piece-at.ensures).order
+    (count_goes c.loop-p.invariant c.loop-p-test.true c.piece_at-x.ensures).order
 
-add-n : tie.Need-overflow-add-n invariant-loop decreases-loop
+add-n : tie.Need-overflow_add-n invariant-loop decreases-loop
 add-n c =
-    let after-piece-size : tie.After-piece-size invariant-loop decreases-loop = search in
-    let after-piece-at : tie.After-piece-at invariant-loop decreases-loop = search in
-    let in-loop : tie.In-loop invariant-loop decreases-loop = search in
-    let at-loop : tie.At-loop invariant-loop decreases-loop = search in
-    let few = count-few at-loop.loop.inv in-loop.loop-test.taken after-piece-at.piece-at.ensures in
-    let goes = count_goes at-loop.loop.inv in-loop.loop-test.taken after-piece-at.piece-at.ensures in
-    omega (arith, few, goes.inside, after-piece-size.piece-size.ensures)
+    let few = count-few c.loop-p.invariant c.loop-p-test.true c.piece_at-x.ensures in
+    let goes = count_goes c.loop-p.invariant c.loop-p-test.true c.piece_at-x.ensures in
+    omega (arith, few, goes.inside, c.piece_size-n.ensures)
 
-loop-less : tie.Need-loop-smaller invariant-loop decreases-loop
+loop-less : tie.Need-loop-p-smaller invariant-loop decreases-loop
 loop-less c =
-    let after-piece-at : tie.After-piece-at invariant-loop decreases-loop = search in
-    let in-loop : tie.In-loop invariant-loop decreases-loop = search in
-    let at-loop : tie.At-loop invariant-loop decreases-loop = search in
-    omega (arith, goes_forth (count_goes at-loop.loop.inv in-loop.loop-test.taken after-piece-at.piece-at.ensures))
+    omega (arith, goes_forth (count_goes c.loop-p.invariant c.loop-p-test.true c.piece_at-x.ensures))
 
-loop-again : tie.Need-loop-preserved invariant-loop decreases-loop
+loop-again : tie.Need-loop-p-preserved invariant-loop decreases-loop
 loop-again c =
-    let after-piece-size : tie.After-piece-size invariant-loop decreases-loop = search in
-    let after-piece-at : tie.After-piece-at invariant-loop decreases-loop = search in
-    let in-loop : tie.In-loop invariant-loop decreases-loop = search in
-    let at-loop : tie.At-loop invariant-loop decreases-loop = search in
-    rw after-piece-size.piece-size.ensures (count_next at-loop.loop.inv in-loop.loop-test.taken after-piece-at.piece-at.ensures)
+    rw c.piece_size-n.ensures (count_next c.loop-p.invariant c.loop-p-test.true c.piece_at-x.ensures)
 
 returns : tie.Need-returns invariant-loop decreases-loop
 returns c =
-    let known : tie.After-shared-slice-known invariant-loop decreases-loop = search in
-    count-end c.before.loop.invariant (λ i. (known.shared-slice-known.given i).fits) c.loop-test.false
+    count-end c.loop-p.invariant (λ i. (c.shared_slice_known-1.given i).fits) c.loop-p-test.false
 
-pub size-of-spec : {M : Type 1} → statement M
-size-of-spec =
+pub size_of_spec : {M : Type 1} → statement M
+size_of_spec =
     tie.close
     (tie.spec
     invariant-loop
     decreases-loop
     loop-holds
-    (λ c κs. c.loop-test.true)
+    (λ c κs. c.loop-p-test.true)
     piece-size-requires
     add-n
     loop-less

@@ -5,7 +5,7 @@ use Rattle.room.proofs.room_2000.Statement.{statement}
 use Rattle.room.proofs.room_2000.Tie as tie
 
 returns : tie.Need-returns
-returns c = by_2000 _ _ (omega (arith, c.after-head.ensures))
+returns c = by_2000 _ _ (omega (arith, c.after_head-n.ensures))
 
-pub room-2000-spec : {M : Type 1} → statement M
-room-2000-spec = tie.close (tie.spec (λ c κs. search rules) returns)
+pub room_2000_spec : {M : Type 1} → statement M
+room_2000_spec = tie.close (tie.spec (λ c κs. search rules) returns)

@@ -5,7 +5,7 @@ use Rattle.room.proofs.room_for.Statement.{statement}
 use Rattle.room.proofs.room_for.Tie as tie
 
 returns : tie.Need-returns
-returns c = c.room_2000_lem.ensures ∙ larger _
+returns c = c.room_2000.ensures ∙ larger _
 
-pub room-for-spec : {M : Type 1} → statement M
-room-for-spec = tie.close (tie.spec (λ c κs. search rules) returns)
+pub room_for_spec : {M : Type 1} → statement M
+room_for_spec = tie.close (tie.spec (λ c κs. search rules) returns)

@@ -5,7 +5,7 @@ use Rattle.room.proofs.room_later.Statement.{statement}
 use Rattle.room.proofs.room_later.Tie as tie
 
 returns : tie.Need-returns
-returns c = by-later _ _ (omega (arith, c.after-head.ensures))
+returns c = by-later _ _ (omega (arith, c.after_head-n.ensures))
 
-pub room-later-spec : {M : Type 1} → statement M
-room-later-spec = tie.close (tie.spec (λ c κs. search rules) returns)
+pub room_later_spec : {M : Type 1} → statement M
+room_later_spec = tie.close (tie.spec (λ c κs. search rules) returns)

@@ -5,7 +5,7 @@ use Rattle.room.proofs.type_info_room.Statement.{statement}
 use Rattle.room.proofs.type_info_room.Tie as tie
 
 returns : tie.Need-returns
-returns c = by_info _ _ (omega (arith, c.after-head.ensures))
+returns c = by_info _ _ (omega (arith, c.after_head.ensures))
 
-pub type-info-room-spec : {M : Type 1} → statement M
-type-info-room-spec = tie.close (tie.spec (λ c κs. search rules) returns)
+pub type_info_room_spec : {M : Type 1} → statement M
+type_info_room_spec = tie.close (tie.spec (λ c κs. search rules) returns)

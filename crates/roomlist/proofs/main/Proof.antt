@@ -8,17 +8,16 @@ use Rattle.roomlist.proofs.Longest.{lines_short}
 use Rattle.roomlist.proofs.main.Statement.{statement}
 use Rattle.roomlist.proofs.main.Tie as tie
 
-array-share-prefix-out : tie.Need-array-share-prefix-out
-array-share-prefix-out c = within c.before.put-rooms.ensures
+array-share-prefix-out : tie.Need-slice_bounds-out-end
+array-share-prefix-out c = within c.put_rooms-end.ensures
 
-slice-aggregate-print : tie.Need-slice-aggregate-print
-slice-aggregate-print c = let w = c.before.before.put-rooms in sym (length-take-le w.result _ (within w.ensures))
+slice-aggregate-print : tie.Need-slice_bounds-print-end
+slice-aggregate-print c = let w = c.put_rooms-end in sym (length-take-le w.result _ (within w.ensures))
 
 print-requires : tie.Need-print-requires
 print-requires c κs =
-    let after-u32-at : tie.After-u32-at = search in
-    let w = c.before.before.put-rooms in
-    held w.ensures (simp length-replicate (omega (arith, lines_short after-u32-at.u32-at.result (omega arith))))
+    let w = c.put_rooms-end in
+    held w.ensures (simp length-replicate (omega (arith, lines_short c.u32_at-length.result (omega arith))))
 
 pub main_spec : {M : Type 1} → statement M
 main_spec =

@@ -6,20 +6,15 @@ use Rattle.roomlist.proofs.put_info.Tie as tie
 
 returns : tie.Need-returns
 returns c =
-    let after-put-decimal2 : tie.After-put-decimal2 = search in
-    let after-info-bytes : tie.After-info-bytes = search in
-    let after-put-text2 : tie.After-put-text2 = search in
-    let after-put-decimal : tie.After-put-decimal = search in
-    let after-put-text : tie.After-put-text = search in
-    info_wrote _ after-info-bytes.info-bytes.ensures
-    after-put-text.put-text.ensures after-put-decimal.put-decimal.ensures after-put-text2.put-text2.ensures after-put-decimal2.put-decimal2.ensures
-    c.before.before.put-text3.ensures
+    info_wrote _ c.info_bytes.ensures
+    c.put_text-p.ensures c.put_decimal-p.ensures c.put_text-p-2.ensures c.put_decimal-p-2.ensures
+    c.put_text.ensures
 
-pub put-info-spec : {M : Type 1} → statement M
-put-info-spec =
+pub put_info_spec : {M : Type 1} → statement M
+put_info_spec =
     tie.close
     (tie.spec
-    (λ c. search rules) (λ c κs. search rules) (λ c κs. search rules) (λ c. search rules) (λ c κs. search rules) (λ c κs. search rules)
-    (λ c κs. search rules) (λ c. search rules) (λ c κs. search rules)
+    (λ c κs. search rules) (λ c κs. search rules) (λ c κs. search rules) (λ c κs. search rules)
+    (λ c κs. search rules) (λ c κs. search rules)
     (λ c. same (returns c))
     returns)

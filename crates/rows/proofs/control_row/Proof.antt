@@ -15,14 +15,14 @@ words-by code n ws e = ap (λ x. code ∷ name_words n x ++ ws) (sym e)
 words-numbered : (code n : ℕ) (ws : List ℕ) {size : ℕ} {m : Name} → m ≡ Name.Numbered → size ≡ length (label n) → code ∷ 1 ∷ n ∷ size ∷ ws ≡ code ∷ name_words n m ++ ws
 words-numbered code n ws e z = ap (λ k. code ∷ 1 ∷ n ∷ k ∷ ws) z ∙ words-by code n ws e
 
-pub control-row-spec : {M : Type 1} → statement M
-control-row-spec =
+pub control_row_spec : {M : Type 1} → statement M
+control_row_spec =
     tie.close
     (tie.spec
     (λ c. search rules)
     (λ c. search rules)
     (λ c κs. search rules)
     (λ c. search rules)
-    (λ c. words-by _ _ _ c.before.name.given.1)
-    (λ c. words-numbered _ _ _ c.before.enum_told.given.1 c.label-length.ensures)
-    (λ c. words-by _ _ _ c.before.name2.given.1))
+    (λ c. words-by _ _ _ c.in-Text.is)
+    (λ c. words-numbered _ _ _ c.in-Numbered.is c.label_length.ensures)
+    (λ c. words-by _ _ _ c.in-Loose.is))

@@ -6,8 +6,8 @@ use Rattle.rows.proofs.put_control.Statement.{statement}
 use Rattle.rows.proofs.put_control.Tie as tie
 
 -- the row's place, a line for each store, then the end
-pub put-control-spec : {M : Type 1} → statement M
-put-control-spec =
+pub put_control_spec : {M : Type 1} → statement M
+put_control_spec =
     tie.close
     (tie.spec
     (λ c. search rules)

@@ -6,8 +6,8 @@ use Rattle.rows.proofs.put_info.Statement.{statement}
 use Rattle.rows.proofs.put_info.Tie as tie
 
 -- the row's place, a line for each store, then the end
-pub put-info-spec : {M : Type 1} → statement M
-put-info-spec =
+pub put_info_spec : {M : Type 1} → statement M
+put_info_spec =
     tie.close
     (tie.spec
     (λ c. search rules)

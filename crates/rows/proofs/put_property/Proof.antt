@@ -6,8 +6,8 @@ use Rattle.rows.proofs.put_property.Statement.{statement}
 use Rattle.rows.proofs.put_property.Tie as tie
 
 -- the row's place, a line for each store, then the end
-pub put-property-spec : {M : Type 1} → statement M
-put-property-spec =
+pub put_property_spec : {M : Type 1} → statement M
+put_property_spec =
     tie.close
     (tie.spec
     (λ c. search rules)

@@ -10,16 +10,15 @@ use Rattle.run2000.proofs.next_name.Tie as tie
 abbrev found : Name → Naming
 found x = record { name = x; wanted = 255 }
 
-returns : tie.Need-returns
+returns : tie.Need-returns-then-id-so_far
 returns c =
-    let start : tie.Start = search in
-    let a = start.args in
-    rw (eq-eqb a.id a.so_far.wanted c.before.if1.true) (ap found c.name-at.ensures)
+    let a = c.args in
+    rw (eq-eqb a.id a.so_far.wanted c.if-id-so_far.true) (ap found c.name_at.ensures)
 
-returns-2 : tie.Need-returns-2
+returns-2 : tie.Need-returns
 returns-2 c =
-    let a = c.before.before.before.args in
-    rw (ne_eqb a.id a.so_far.wanted c.if1.false)
+    let a = c.args in
+    rw (ne_eqb a.id a.so_far.wanted c.if-id-so_far.false)
 
-pub next-name-spec : {M : Type 1} → statement M
-next-name-spec = tie.close (tie.spec (λ c κs. search rules) returns returns-2)
+pub next_name_spec : {M : Type 1} → statement M
+next_name_spec = tie.close (tie.spec (λ c κs. search rules) returns returns-2)

@@ -5,32 +5,27 @@ use Rattle.run2000.proofs.Shows.{shown-tied, shown-untied}
 use Rattle.run2000.proofs.property.Statement.{statement}
 use Rattle.run2000.proofs.property.Tie as tie
 
-value-by-kind-requires : tie.Need-value-by-kind-requires
+value-by-kind-requires : tie.Need-value_by_kind-requires
 value-by-kind-requires c κs =
-    let start : tie.Start = search in
-    let p = start.pre in
+    let p = c.requires in
     record { inside = p.inside; sized = p.sized }
 
-returns : tie.Need-returns
+returns : tie.Need-returns-in-Tied
 returns c =
-    let after-find-row : tie.After-find-row = search in
-    let start : tie.Start = search in
-    shown-tied _ _ _ _ _ (after-find-row.find-row.ensures start.pre.sorted) refl c.before.before.target.given.1 c.value-by-kind.ensures
+    shown-tied _ _ _ _ _ (c.find_row.ensures c.requires.sorted) refl c.in-Tied.is c.value_by_kind.ensures
 
-returns-2 : tie.Need-returns-2
+returns-2 : tie.Need-returns-in-Untied
 returns-2 c =
-    let after-find-row : tie.After-find-row = search in
-    let start : tie.Start = search in
-    shown-untied _ _ _ _ _ (after-find-row.find-row.ensures start.pre.sorted) c.before.part.ensures c.before.before.before.enum_told.given.1 c.before.before.bit_or.ensures c.stored-value.ensures
+    shown-untied _ _ _ _ _ (c.find_row.ensures c.requires.sorted) c.part.ensures c.in-Untied.is c.bit_or.ensures c.stored_value.ensures
 
-pub property-spec : {M : Type 1} → statement M
-property-spec =
+pub property_spec : {M : Type 1} → statement M
+property_spec =
     tie.close
     (tie.spec
     (λ c κs. search rules) (λ c. search rules) (λ c. search rules)
     value-by-kind-requires
-    (λ c. let start : tie.Start = search in omega (arith, start.pre.small, start.pre.inside)) (λ c. let start : tie.Start = search in omega (arith, start.pre.small, start.pre.inside))
-    (λ c. search rules) (λ c κs. search rules) (λ c κs. let start : tie.Start = search in start.pre.inside) (λ c κs. search rules)
-    (λ c. let start : tie.Start = search in omega (arith, start.pre.small, start.pre.inside)) (λ c. let start : tie.Start = search in omega (arith, start.pre.small, start.pre.inside))
+    (λ c. let start : tie.Start = search in omega (arith, start.requires.small, start.requires.inside)) (λ c. let start : tie.Start = search in omega (arith, start.requires.small, start.requires.inside))
+    (λ c. search rules) (λ c κs. search rules) (λ c κs. let start : tie.Start = search in start.requires.inside) (λ c κs. search rules)
+    (λ c. let start : tie.Start = search in omega (arith, start.requires.small, start.requires.inside)) (λ c. let start : tie.Start = search in omega (arith, start.requires.small, start.requires.inside))
     returns
     returns-2)

@@ -8,28 +8,26 @@ use Rattle.run2000.proofs.Shows.{plain-text}
 use Rattle.run2000.proofs.value_by_kind.Statement.{statement}
 use Rattle.run2000.proofs.value_by_kind.Tie as tie
 
-sized-stored-value-requires : tie.Need-sized-stored-value-requires
+sized-stored-value-requires : tie.Need-sized_stored_value-requires
 sized-stored-value-requires c κs =
     record { tells = omega arith; sized = bytes-sized c.part.ensures c.before.before.before.requires }
 
-returns : tie.Need-returns
+returns : tie.Need-returns-then-id-le-LAST_SIZED_ID
 returns c =
-    let start : tie.Start = search in
-    let a = start.args in
-    c.sized-stored-value.ensures ∙ sym (by-id a.id _ a.kind (omega arith)) ∙ ap (value_as_lem a.kind a.id) c.before.part.ensures
+    let a = c.args in
+    c.sized_stored_value.ensures ∙ sym (by-id a.id _ a.kind (omega arith)) ∙ ap (value_as_lem a.kind a.id) c.part.ensures
 
-returns-2 : tie.Need-returns-2
+returns-2 : tie.Need-returns-then-is_plain
 returns-2 c =
-    plain-text _ _ _ _ c.before.before.part2.ensures (omega arith) c.before.before.before.if2.true (c.before.is_plain.ensures c.if3.true)
+    plain-text _ _ _ _ c.part-then-kind-eq-KIND_TEXT.ensures (omega arith) c.if-kind-eq-KIND_TEXT.true (c.is_plain.ensures c.if-is_plain.true)
 
-returns-3 : tie.Need-returns-3
+returns-3 : tie.Need-returns
 returns-3 c =
-    let start : tie.Start = search in
-    let a = start.args in
-    c.value-as.ensures ∙ ap (value_as_lem a.kind a.id) c.before.part3.ensures
+    let a = c.args in
+    c.value_as.ensures ∙ ap (value_as_lem a.kind a.id) c.part-2.ensures
 
-pub value-by-kind-spec : {M : Type 1} → statement M
-value-by-kind-spec =
+pub value_by_kind_spec : {M : Type 1} → statement M
+value_by_kind_spec =
     tie.close
     (tie.spec
     (λ c κs. search rules)

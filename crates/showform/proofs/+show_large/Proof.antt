@@ -41,34 +41,34 @@ show-large-calls t = (
 )
 
 module _ (t : ℕ) where
-  show-short-requires : show-large-lts.Need-show-short-requires (show-large-calls t) (show-large-at t) show-large.Post
+  show-short-requires : show-large-lts.Need-show_short-requires (show-large-calls t) (show-large-at t) show-large.Post
   show-short-requires c κs = omega arith
 
-  show-long-requires : show-large-lts.Need-show-long-requires (show-large-calls t) (show-large-at t) show-large.Post
+  show-long-requires : show-large-lts.Need-show_long-requires (show-large-calls t) (show-large-at t) show-large.Post
   show-long-requires c κs =
       let start : show-large-lts.Start (show-large-calls t) (show-large-at t) show-large.Post = search in
-      (omega arith, start.pre.1)
+      (omega arith, start.requires.1)
 
-  array-share-prefix-space : show-large-lts.Need-array-share-prefix-space (show-large-calls t) (show-large-at t) show-large.Post
+  array-share-prefix-space : show-large-lts.Need-slice_bounds-space-end (show-large-calls t) (show-large-at t) show-large.Post
   array-share-prefix-space c =
-      let filled : show-large-lts.After-fill (show-large-calls t) (show-large-at t) show-large.Post = search in
-      inside filled.fill.ensures filled.fill.kept.0
+      let filled : show-large-lts.After-fill-size (show-large-calls t) (show-large-at t) show-large.Post = search in
+      inside filled.fill-size.ensures filled.fill-size.auto.0
 
-  slice-aggregate-again : show-large-lts.Need-slice-aggregate-show-large (show-large-calls t) (show-large-at t) show-large.Post
+  slice-aggregate-again : show-large-lts.Need-slice_bounds-show_large-end (show-large-calls t) (show-large-at t) show-large.Post
   slice-aggregate-again c =
-      let filled : show-large-lts.After-fill (show-large-calls t) (show-large-at t) show-large.Post = search in
-      part-size filled.fill.ensures filled.fill.kept.0
+      let filled : show-large-lts.After-fill-size (show-large-calls t) (show-large-at t) show-large.Post = search in
+      part-size filled.fill-size.ensures filled.fill-size.auto.0
 
-  again-requires : show-large-lts.Need-show-large-requires (show-large-calls t) (show-large-at t) show-large.Post
+  again-requires : show-large-lts.Need-show_large-requires (show-large-calls t) (show-large-at t) show-large.Post
   again-requires c κs =
-      let filled : show-large-lts.After-fill (show-large-calls t) (show-large-at t) show-large.Post = search in
-      let space : show-large-lts.After-large-input (show-large-calls t) (show-large-at t) show-large.Post = search in
-      let first : show-large-lts.Else1 (show-large-calls t) (show-large-at t) show-large.Post = search in
+      let filled : show-large-lts.After-fill-size (show-large-calls t) (show-large-at t) show-large.Post = search in
+      let space : show-large-lts.After-large_input-space (show-large-calls t) (show-large-at t) show-large.Post = search in
+      let first : show-large-lts.Else-whole (show-large-calls t) (show-large-at t) show-large.Post = search in
       let start : show-large-lts.Start (show-large-calls t) (show-large-at t) show-large.Post = search in
-      (once start.args.whole start.pre.0 first.if1.left, part-short filled.fill.ensures filled.fill.kept.0 space.large-input.ensures)
+      (once start.args.whole start.requires.0 first.if-whole.false, part-short filled.fill-size.ensures filled.fill-size.auto.0 space.large_input-space.ensures)
 
-pub +show-large-spec : {M : Type 1} → statement M
-+show-large-spec = close μ-show-large λ t. show-large-lts.spec (show-large-calls t)
+pub +show_large_spec : {M : Type 1} → statement M
++show_large_spec = close μ-show-large λ t. show-large-lts.spec (show-large-calls t)
     (show-large-at t)
     show-large.Post
     (show-short-requires t)

@@ -7,5 +7,5 @@ returns : tie.Need-returns
 unfolding zeros
 returns c = refl
 
-pub large-infos-spec : {M : Type 1} → statement M
-large-infos-spec = tie.close (tie.spec returns)
+pub large_infos_spec : {M : Type 1} → statement M
+large_infos_spec = tie.close (tie.spec returns)

@@ -9,25 +9,21 @@ use Rattle.showform.proofs.Printing.{refusal-printed}
 use Rattle.showform.proofs.refuse.Statement.{statement}
 use Rattle.showform.proofs.refuse.Tie as tie
 
-array-share-prefix-line : tie.Need-array-share-prefix-line
+array-share-prefix-line : tie.Need-slice_bounds-line-end
 array-share-prefix-line c =
-    let said : tie.After-refusal-line = search in
-    let w = said.refusal-line in
+    let w = c.refusal_line-end in
     omega (arith, within w.ensures, w.kept.0, length-replicate {A = ℕ} 64 0)
 
-slice-aggregate-print : tie.Need-slice-aggregate-print
+slice-aggregate-print : tie.Need-slice_bounds-print-end
 slice-aggregate-print c =
-    let said : tie.After-refusal-line = search in
-    sym (length-take-le _ _ (within said.refusal-line.ensures))
+    sym (length-take-le _ _ (within c.refusal_line-end.ensures))
 
 print-requires : tie.Need-print-requires
 print-requires c κs =
-    let said : tie.After-refusal-line = search in
-    let start : tie.Start = search in
-    refusal-printed said.refusal-line.ensures (simp length-replicate (omega arith)) start.pre
+    refusal-printed c.refusal_line-end.ensures (simp length-replicate (omega arith)) c.requires
 
-pub refuse-spec : {M : Type 1} → statement M
-refuse-spec =
+pub refuse_spec : {M : Type 1} → statement M
+refuse_spec =
     tie.close
     (tie.spec
     (λ c. search rules) (λ c κs. search rules)

@@ -9,25 +9,18 @@ use Rattle.showform.proofs.show.Tie as tie
 
 refuse-requires : tie.Need-refuse-requires
 refuse-requires c κs =
-    let start : tie.Start = search in
-    let room : tie.After-large-text = search in
-    let put : tie.After-write-shown = search in
-    none-printed put.write-shown.ensures start.pre (sym room.large-text.ensures) (omega arith)
+    none-printed c.write_shown-end.ensures c.requires (sym c.large_text-out.ensures) (omega arith)
 
-slice-aggregate-print : tie.Need-slice-aggregate-print
+slice-aggregate-print : tie.Need-slice_bounds-print-end
 slice-aggregate-print c =
-    let put : tie.After-write-shown = search in
-    sym (length-take-le _ _ (within put.write-shown.ensures))
+    sym (length-take-le _ _ (within c.write_shown-end.ensures))
 
 print-requires : tie.Need-print-requires
 print-requires c κs =
-    let start : tie.Start = search in
-    let room : tie.After-large-text = search in
-    let put : tie.After-write-shown = search in
-    all-printed put.write-shown.ensures start.pre (omega (arith, room.large-text.ensures)) (omega (arith, room.large-text.ensures))
+    all-printed c.write_shown-end.ensures c.requires (omega (arith, c.large_text-out.ensures)) (omega (arith, c.large_text-out.ensures))
 
-pub show-spec : {M : Type 1} → statement M
-show-spec =
+pub show_spec : {M : Type 1} → statement M
+show_spec =
     tie.close
     (tie.spec
     (λ c κs. search rules) (λ c. search rules) (λ c κs. search rules)

@@ -5,14 +5,10 @@ use Rattle.showform.proofs.show_short.Tie as tie
 
 show-requires : tie.Need-show-requires
 show-requires c κs =
-    let properties : tie.After-small-properties = search in
-    let controls : tie.After-small-controls = search in
-    let infos : tie.After-small-infos = search in
-    let start : tie.Start = search in
-    small-ready start.pre infos.small-infos.ensures controls.small-controls.ensures properties.small-properties.ensures
+    small-ready c.requires c.small_infos-infos.ensures c.small_controls-controls.ensures c.small_properties-properties.ensures
 
-pub show-short-spec : {M : Type 1} → statement M
-show-short-spec =
+pub show_short_spec : {M : Type 1} → statement M
+show_short_spec =
     tie.close
     (tie.spec
     (λ c κs. search rules) (λ c κs. search rules) (λ c κs. search rules) (λ c. search rules) (λ c. search rules) (λ c. search rules)

@@ -7,5 +7,5 @@ returns : tie.Need-returns
 unfolding zeros
 returns c = refl
 
-pub small-infos-spec : {M : Type 1} → statement M
-small-infos-spec = tie.close (tie.spec returns)
+pub small_infos_spec : {M : Type 1} → statement M
+small_infos_spec = tie.close (tie.spec returns)

@@ -7,5 +7,5 @@ returns : tie.Need-returns
 unfolding zeros
 returns c = refl
 
-pub small-properties-spec : {M : Type 1} → statement M
-small-properties-spec = tie.close (tie.spec returns)
+pub small_properties_spec : {M : Type 1} → statement M
+small_properties_spec = tie.close (tie.spec returns)

@@ -7,5 +7,5 @@ use Rattle.showform.proofs.small_text.Tie as tie
 returns : tie.Need-returns
 returns c = sym (length-replicate {A = ℕ} 1048576 0)
 
-pub small-text-spec : {M : Type 1} → statement M
-small-text-spec = tie.close (tie.spec returns)
+pub small_text_spec : {M : Type 1} → statement M
+small_text_spec = tie.close (tie.spec returns)

@@ -5,56 +5,49 @@ use Rattle.showform.proofs.Printing.{info_long, blob-long, alone, paired}
 use Rattle.showform.proofs.write_parts.Statement.{statement}
 use Rattle.showform.proofs.write_parts.Tie as tie
 
-returns : tie.Need-returns
+returns : tie.Need-returns-then-info-gt-LONGEST_STREAM
 returns c =
-    let start : tie.Start = search in
-    let put : tie.After-refusal-line = search in
-    let a = start.args in
-    wrote_as put.refusal-line.ensures (info_long a.table.now a.info.now a.stream.now a.infos.now a.controls.now a.properties.now (omega arith))
+    let a = c.args in
+    wrote_as c.refusal_line.ensures (info_long a.table.now a.info.now a.stream.now a.infos.now a.controls.now a.properties.now (omega arith))
 
-returns-2 : tie.Need-returns-2
+returns-2 : tie.Need-returns-then-stream-gt-LONGEST_STREAM
 returns-2 c =
-    let start : tie.Start = search in
-    let put : tie.After-refusal-line2 = search in
-    let a = start.args in
-    wrote_as put.refusal-line2.ensures
+    let a = c.args in
+    wrote_as c.refusal_line-then-stream-gt-LONGEST_STREAM.ensures
     (blob-long a.table.now a.info.now a.stream.now a.infos.now a.controls.now a.properties.now (omega arith) (omega arith))
 
-returns-3 : tie.Need-returns-3
+returns-3 : tie.Need-returns-then-info-eq0
 returns-3 c =
-    let start : tie.Start = search in
-    let put : tie.After-show-blob = search in
-    let a = start.args in
-    wrote_as put.show-blob.ensures
+    let a = c.args in
+    wrote_as c.show_blob.ensures
     (alone a.table.now a.info.now a.stream.now a.infos.now a.controls.now a.properties.now (omega arith) (omega arith) (omega arith))
 
 -- the tests that are too far from the end
-index_of : tie.Else3 → tie.After-index
+index_of : tie.Else-info-eq0 → tie.After-index-index
 index_of c = search
 
-else2-of : tie.After-index → tie.Else2
+else2-of : tie.After-index-index → tie.Else-stream-gt-LONGEST_STREAM
 else2-of c = search
 
-else1-of : tie.Else2 → tie.Else1
+else1-of : tie.Else-stream-gt-LONGEST_STREAM → tie.Else-info-gt-LONGEST_STREAM
 else1-of c = search
 
-start_of : tie.Else1 → tie.Start
+start_of : tie.Else-info-gt-LONGEST_STREAM → tie.Start
 start_of c = search
 
-returns-4 : tie.Need-returns-4
+returns-4 : tie.Need-returns
 unfolding index_of else2-of else1-of start_of
 returns-4 c =
-    let put : tie.After-show-paired = search in
-    let third : tie.Else3 = search in
+    let third : tie.Else-info-eq0 = search in
     let second = else2-of (index_of third) in
     let first = else1-of second in
     let a = (start_of first).args in
-    wrote_as put.show-paired.ensures
-    (paired a.table.now a.info.now a.stream.now a.infos.now a.controls.now a.properties.now (omega (arith, first.if1.left)) (omega (arith, second.if2.left))
-    (λ e. third.if3.left e))
+    wrote_as c.show_paired.ensures
+    (paired a.table.now a.info.now a.stream.now a.infos-1.now a.controls-1.now a.properties-1.now (omega (arith, first.if-info-gt-LONGEST_STREAM.false)) (omega (arith, second.if-stream-gt-LONGEST_STREAM.false))
+    (λ e. third.if-info-eq0.false e))
 
-pub write-parts-spec : {M : Type 1} → statement M
-write-parts-spec =
+pub write_parts_spec : {M : Type 1} → statement M
+write_parts_spec =
     tie.close
     (tie.spec
     (λ c κs. search rules) (λ c. search rules)

@@ -3,11 +3,11 @@ use Rattle.showlines.proofs.LineLaws.{mark_report, mark_form}
 use Rattle.showlines.proofs.header_mark.Statement.{statement}
 use Rattle.showlines.proofs.header_mark.Tie as tie
 
-returns : tie.Need-returns
+returns : tie.Need-returns-then-kind-eq-REPORT
 returns c = mark_report _ (omega arith)
 
-returns-2 : tie.Need-returns-2
+returns-2 : tie.Need-returns-else-kind-eq-REPORT
 returns-2 c = mark_form _ (λ e. omega arith)
 
-pub header-mark-spec : {M : Type 1} → statement M
-header-mark-spec = tie.close (tie.spec returns returns-2)
+pub header_mark_spec : {M : Type 1} → statement M
+header_mark_spec = tie.close (tie.spec returns returns-2)

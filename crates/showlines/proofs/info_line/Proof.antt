@@ -5,43 +5,37 @@ use Rattle.showlines.proofs.info_line.Statement.{statement}
 use Rattle.showlines.proofs.info_line.Tie as tie
 
 -- the places that are too far from the end to be found from there
-blank_of : tie.After-put-decimal → tie.After-put-byte
+blank_of : tie.After-put_decimal-p → tie.After-put_byte-p
 blank_of c = search
 
-word_of : tie.After-put-byte → tie.After-put-text
+word_of : tie.After-put_byte-p → tie.After-put_text-p
 word_of c = search
 
 returns : tie.Need-returns
 unfolding info_line blank_of word_of
 returns c =
-    let third : tie.After-put-decimal4 = search in
-    let blank-4 : tie.After-put-byte4 = search in
-    let second : tie.After-put-decimal3 = search in
-    let blank-3 : tie.After-put-byte3 = search in
-    let first : tie.After-put-decimal2 = search in
-    let blank-2 : tie.After-put-byte2 = search in
-    let number : tie.After-put-decimal = search in
+    let number : tie.After-put_decimal-p = search in
     let blank = blank_of number in
     let word = word_of blank in
-    word.put-text.ensures
-    ⨟ blank.put_byte.ensures
-    ⨟ number.put-decimal.ensures
-    ⨟ blank-2.put-byte2.ensures
-    ⨟ first.put-decimal2.ensures
-    ⨟ blank-3.put-byte3.ensures
-    ⨟ second.put-decimal3.ensures
-    ⨟ blank-4.put-byte4.ensures
-    ⨟ third.put-decimal4.ensures
-    ⨟ c.before.before.put-end.ensures
+    word.put_text-p.ensures
+    ⨟ blank.put_byte-p.ensures
+    ⨟ number.put_decimal-p.ensures
+    ⨟ c.put_byte-p-2.ensures
+    ⨟ c.put_decimal-p-2.ensures
+    ⨟ c.put_byte-p-3.ensures
+    ⨟ c.put_decimal-p-3.ensures
+    ⨟ c.put_byte-p-4.ensures
+    ⨟ c.put_decimal-p-4.ensures
+    ⨟ c.put_end.ensures
 
-same_length : tie.Need-same-length
+same_length : tie.Need-shape_of-out
 same_length c = same (returns c)
 
-pub info-line-spec : {M : Type 1} → statement M
-info-line-spec =
+pub info_line_spec : {M : Type 1} → statement M
+info_line_spec =
     tie.close
     (tie.spec
-    (λ c. search rules) (λ c κs. search rules) (λ c κs. search rules) (λ c κs. search rules) (λ c κs. search rules)
+    (λ c κs. search rules) (λ c κs. search rules) (λ c κs. search rules) (λ c κs. search rules)
     (λ c κs. search rules) (λ c κs. search rules) (λ c κs. search rules) (λ c κs. search rules) (λ c κs. search rules)
     (λ c κs. search rules)
     same_length

@@ -5,20 +5,16 @@ use Rattle.showlines.proofs.LineLaws.{kind-short, kind-tree, kind-scan}
 use Rattle.showlines.proofs.later_kind.Statement.{statement}
 use Rattle.showlines.proofs.later_kind.Tie as tie
 
-returns : tie.Need-returns
+returns : tie.Need-returns-then-stream-lt-OBJECT_AT
 returns c = kind-short _ (omega arith)
 
-returns-2 : tie.Need-returns-2
+returns-2 : tie.Need-returns-then-counts
 returns-2 c =
-    let counted : tie.After-count = search in
-    let is : tie.Then2 = search in
-    kind-tree _ (omega arith) (sym counted.count.ensures.tree ∙ is.if2.taken)
+    kind-tree _ (omega arith) (sym c.count-counts.ensures.tree ∙ c.if-counts.true)
 
-returns-3 : tie.Need-returns-3
+returns-3 : tie.Need-returns-else-counts
 returns-3 c =
-    let counted : tie.After-count = search in
-    let isnt : tie.Else2 = search in
-    kind-scan _ (omega arith) (sym counted.count.ensures.tree ∙ isnt.if2.left)
+    kind-scan _ (omega arith) (sym c.count-counts.ensures.tree ∙ c.if-counts.false)
 
-pub later-kind-spec : {M : Type 1} → statement M
-later-kind-spec = tie.close (tie.spec returns (λ c κs. search rules) returns-2 returns-3)
+pub later_kind_spec : {M : Type 1} → statement M
+later_kind_spec = tie.close (tie.spec returns (λ c κs. search rules) returns-2 returns-3)

@@ -4,56 +4,42 @@ use Rattle.showlines.proofs.Steps.{MarkedLeft, marked_start, marked-few, marked_
 use Rattle.showlines.proofs.marked.Statement.{statement}
 use Rattle.showlines.proofs.marked.Tie as tie
 
-abbrev invariant-loop : tie.invariant-loop
+abbrev invariant-loop : tie.invariant-loop-left
 invariant-loop rows count found₀ i₀ left₀ found i left = MarkedLeft rows count found i left
 
-abbrev decreases-loop : tie.decreases-loop
+abbrev decreases-loop : tie.decreases-loop-left
 decreases-loop rows count found₀ i₀ left₀ found i left = left
 
-loop-holds : tie.Need-loop-init invariant-loop decreases-loop
+loop-holds : tie.Need-loop-left-init invariant-loop decreases-loop
 loop-holds c =
-    let start : tie.Start invariant-loop decreases-loop = search in
-    marked_start start.args.rows.now start.args.count (omega (arith, start.good))
+    marked_start c.args.rows.now c.args.count (omega (arith, c.well_formed))
 
-add-found : tie.Need-overflow-add-found invariant-loop decreases-loop
+add-found : tie.Need-overflow_add-found invariant-loop decreases-loop
 add-found c =
-    let turn : tie.At-loop invariant-loop decreases-loop = search in
-    let test : tie.In-loop invariant-loop decreases-loop = search in
-    let read : tie.After-get-id invariant-loop decreases-loop = search in
-    let told : tie.After-one-if-unmapped invariant-loop decreases-loop = search in
-    omega (arith, marked-few turn.loop.inv test.loop-test.taken read.get-id.ensures told.one-if-unmapped.ensures)
+    omega (arith, marked-few c.loop-left.invariant c.loop-left-test.true c.get_id.ensures c.one_if_unmapped-found.ensures)
 
-add-i : tie.Need-overflow-add-i invariant-loop decreases-loop
+add-i : tie.Need-overflow_add-i invariant-loop decreases-loop
 add-i c =
-    let turn : tie.At-loop invariant-loop decreases-loop = search in
-    let test : tie.In-loop invariant-loop decreases-loop = search in
-    omega (arith, turn.loop.inv.few, test.loop-test.taken)
+    omega (arith, c.loop-left.invariant.few, c.loop-left-test.true)
 
-sub-left : tie.Need-overflow-sub-left invariant-loop decreases-loop
+sub-left : tie.Need-overflow_sub-left invariant-loop decreases-loop
 sub-left c =
-    let test : tie.In-loop invariant-loop decreases-loop = search in
-    omega (arith, test.loop-test.taken)
+    omega (arith, c.loop-left-test.true)
 
-loop-less : tie.Need-loop-smaller invariant-loop decreases-loop
+loop-less : tie.Need-loop-left-smaller invariant-loop decreases-loop
 loop-less c =
-    let test : tie.In-loop invariant-loop decreases-loop = search in
-    omega (arith, test.loop-test.taken)
+    omega (arith, c.loop-left-test.true)
 
-loop-again : tie.Need-loop-preserved invariant-loop decreases-loop
+loop-again : tie.Need-loop-left-preserved invariant-loop decreases-loop
 loop-again c =
-    let turn : tie.At-loop invariant-loop decreases-loop = search in
-    let test : tie.In-loop invariant-loop decreases-loop = search in
-    let read : tie.After-get-id invariant-loop decreases-loop = search in
-    let told : tie.After-one-if-unmapped invariant-loop decreases-loop = search in
-    marked_more turn.loop.inv test.loop-test.taken read.get-id.ensures told.one-if-unmapped.ensures
+    marked_more c.loop-left.invariant c.loop-left-test.true c.get_id.ensures c.one_if_unmapped-found.ensures
 
 returns : tie.Need-returns invariant-loop decreases-loop
 returns c =
-    let turn : tie.At-loop invariant-loop decreases-loop = search in
-    marked-done turn.loop.inv (omega arith)
+    marked-done c.loop-left.invariant (omega arith)
 
-pub marked-spec : {M : Type 1} → statement M
-marked-spec =
+pub marked_spec : {M : Type 1} → statement M
+marked_spec =
     tie.close
     (tie.spec
     invariant-loop

@@ -6,18 +6,16 @@ use Rattle.showlines.proofs.LineLaws.{an_object}
 use Rattle.showlines.proofs.object_line.Statement.{statement}
 use Rattle.showlines.proofs.object_line.Tie as tie
 
-returns-3 : tie.Need-returns-3
+returns-3 : tie.Need-returns-in_default
 unfolding object_line
 returns-3 c =
-    let others : tie.At-match-rest = search in
-    let start : tie.Start = search in
-    last_arm start.args.kind objects (text "object\n") (past 2 _ others.match.rest) c.before.before.put-text3.ensures
+    last_arm c.args.kind objects (text "object\n") (past 2 _ c.in_default.in_default-own.rest) c.put_text-in_default.ensures
 
-pub object-line-spec : {M : Type 1} → statement M
-object-line-spec =
+pub object_line_spec : {M : Type 1} → statement M
+object_line_spec =
     tie.close
     (tie.spec
-    (λ c. search rules) (λ c κs. search rules) (λ c. search rules) (λ c κs. search rules) (λ c. search rules) (λ c κs. search rules)
-    (λ c. search rules) (λ c. an_object 0 (search) c.before.before.put-text.ensures)
-    (λ c. search rules) (λ c. an_object 1 (search) c.before.before.put-text2.ensures)
+    (λ c κs. search rules) (λ c κs. search rules) (λ c κs. search rules)
+    (λ c. search rules) (λ c. an_object 0 (search) c.put_text.ensures)
+    (λ c. search rules) (λ c. an_object 1 (search) c.put_text-in-1.ensures)
     (λ c. search rules) returns-3)

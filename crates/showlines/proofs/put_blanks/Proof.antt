@@ -7,32 +7,28 @@ use Rattle.showlines.proofs.LineLaws.{deeper, deep_enough}
 use Rattle.showlines.proofs.put_blanks.Statement.{statement}
 use Rattle.showlines.proofs.put_blanks.Tie as tie
 
-abbrev invariant-loop : tie.invariant-loop
+abbrev invariant-loop : tie.invariant-loop-left
 invariant-loop out₀ at depth p₀ left₀ out p left = Remains out₀ at (blanks depth) out p (blanks left)
 
-abbrev decreases-loop : tie.decreases-loop
+abbrev decreases-loop : tie.decreases-loop-left
 decreases-loop out₀ at depth p₀ left₀ out p left = left
 
-loop-holds : tie.Need-loop-init invariant-loop decreases-loop
+loop-holds : tie.Need-loop-left-init invariant-loop decreases-loop
 loop-holds c = all_remains
 
-loop-again : tie.Need-loop-preserved invariant-loop decreases-loop
+loop-again : tie.Need-loop-left-preserved invariant-loop decreases-loop
 loop-again c =
-    let turn : tie.At-loop invariant-loop decreases-loop = search in
-    let first : tie.After-put-byte invariant-loop decreases-loop = search in
-    let second : tie.After-put-byte2 invariant-loop decreases-loop = search in
-    on turn.loop.inv (deeper turn.loop.left (omega arith)) (first.put_byte.ensures ⨟ second.put-byte2.ensures)
+    on c.loop-left.invariant (deeper c.loop-left.left (omega arith)) (c.put_byte-p.ensures ⨟ c.put_byte-p-in-loop-left.ensures)
 
 returns : tie.Need-returns invariant-loop decreases-loop
 returns c =
-    let turn : tie.At-loop invariant-loop decreases-loop = search in
-    done turn.loop.inv (deep_enough turn.loop.left (omega arith))
+    done c.loop-left.invariant (deep_enough c.loop-left.left (omega arith))
 
-same_length : tie.Need-same-length invariant-loop decreases-loop
+same_length : tie.Need-shape_of-out invariant-loop decreases-loop
 same_length c = same (returns c)
 
-pub put-blanks-spec : {M : Type 1} → statement M
-put-blanks-spec =
+pub put_blanks_spec : {M : Type 1} → statement M
+put_blanks_spec =
     tie.close
     (tie.spec
     invariant-loop

@@ -7,56 +7,42 @@ use Rattle.showlines.proofs.Steps.{part_as}
 use Rattle.showlines.proofs.put_controls.Statement.{statement}
 use Rattle.showlines.proofs.put_controls.Tie as tie
 
-abbrev invariant-loop : tie.invariant-loop
+abbrev invariant-loop : tie.invariant-loop-left
 invariant-loop out₀ at index letters table stream controls rows counts p₀ n₀ left₀ next₀ out p n left next = ControlsLeft (control_text table stream counts.kind rows) controls counts.controls counts.own out₀ at out p n left next
 
-abbrev decreases-loop : tie.decreases-loop
+abbrev decreases-loop : tie.decreases-loop-left
 decreases-loop out₀ at index letters table stream controls rows counts p₀ n₀ left₀ next₀ out p n left next = left
 
-loop-holds : tie.Need-loop-init invariant-loop decreases-loop
+loop-holds : tie.Need-loop-left-init invariant-loop decreases-loop
 loop-holds c =
-    let start : tie.Start invariant-loop decreases-loop = search in
-    controls-start start.pre.some_left start.pre.few
+    controls-start c.requires.some_left c.requires.few
 
-put-rows-requires : tie.Need-put-rows-requires invariant-loop decreases-loop
+put-rows-requires : tie.Need-put_rows-p-requires invariant-loop decreases-loop
 put-rows-requires c κs =
-    let start : tie.Start invariant-loop decreases-loop = search in
-    let turn : tie.At-loop invariant-loop decreases-loop = search in
-    let test : tie.In-loop invariant-loop decreases-loop = search in
-    let read : tie.After-get-control invariant-loop decreases-loop = search in
-    record { lent = start.pre.lent; few = controls-few turn.loop.inv test.loop-test.taken read.get-control.ensures }
+    record { lent = c.requires.lent; few = controls-few c.loop-left.invariant c.loop-left-test.true c.get_control-control.ensures }
 
-add-next : tie.Need-overflow-add-next invariant-loop decreases-loop
+add-next : tie.Need-overflow_add-next invariant-loop decreases-loop
 add-next c =
-    let turn : tie.At-loop invariant-loop decreases-loop = search in
-    let test : tie.In-loop invariant-loop decreases-loop = search in
-    let read : tie.After-get-control invariant-loop decreases-loop = search in
-    omega (arith, controls-few turn.loop.inv test.loop-test.taken read.get-control.ensures)
+    omega (arith, controls-few c.loop-left.invariant c.loop-left-test.true c.get_control-control.ensures)
 
 -- too far from the end to be found from there
-start_of : tie.At-loop invariant-loop decreases-loop → tie.Start invariant-loop decreases-loop
+start_of : tie.At-loop-left invariant-loop decreases-loop → tie.Start invariant-loop decreases-loop
 start_of c = search
 
-loop-again : tie.Need-loop-preserved invariant-loop decreases-loop
+loop-again : tie.Need-loop-left-preserved invariant-loop decreases-loop
 unfolding start_of
 loop-again c =
-    let turn : tie.At-loop invariant-loop decreases-loop = search in
-    let test : tie.In-loop invariant-loop decreases-loop = search in
-    let read : tie.After-get-control invariant-loop decreases-loop = search in
-    let whose : tie.After-control-owner invariant-loop decreases-loop = search in
-    let line : tie.After-control-line invariant-loop decreases-loop = search in
-    let put : tie.After-put-rows invariant-loop decreases-loop = search in
+    let turn : tie.At-loop-left invariant-loop decreases-loop = search in
     let a = (start_of turn).args in
-    controls-more turn.loop.inv test.loop-test.taken read.get-control.ensures (line.control-line.ensures ⨟ put.put-rows.ensures)
-    (part_as read.get-control.ensures a.table.now a.stream.now a.counts.kind a.rows.now _ _ whose.control-owner.ensures)
+    controls-more turn.loop-left.invariant c.loop-left-test.true c.get_control-control.ensures (c.control_line-p.ensures ⨟ c.put_rows-p.ensures)
+    (part_as c.get_control-control.ensures a.table.now a.stream.now a.counts.kind a.rows.now _ _ c.control_owner-owner.ensures)
 
 returns : tie.Need-returns invariant-loop decreases-loop
 returns c =
-    let turn : tie.At-loop invariant-loop decreases-loop = search in
-    controls-done turn.loop.inv (omega arith)
+    controls-done c.loop-left.invariant (omega arith)
 
-pub put-controls-spec : {M : Type 1} → statement M
-put-controls-spec =
+pub put_controls_spec : {M : Type 1} → statement M
+put_controls_spec =
     tie.close
     (tie.spec
     invariant-loop

@@ -9,22 +9,17 @@ use Rattle.csvrecord.proofs.RecordLaws.{id-alone}
 use Rattle.showlines.proofs.put_property.Statement.{statement}
 use Rattle.showlines.proofs.put_property.Tie as tie
 
-returns : tie.Need-returns
+returns : tie.Need-returns-then-id-gt-LAST_NAMED
 returns c =
-    let start : tie.Start = search in
-    let a = start.args in
-    let put : tie.After-put-hex = search in
-    wrote_as put.put-hex.ensures (sym (id-alone a.mark a.id (omega arith)))
+    let a = c.args in
+    wrote_as c.put_hex.ensures (sym (id-alone a.mark a.id (omega arith)))
 
-returns-2 : tie.Need-returns-2
+returns-2 : tie.Need-returns
 returns-2 c =
-    let start : tie.Start = search in
-    let named : tie.After-value-name-in = search in
-    let put : tie.After-put-name-or-id = search in
-    wrote_as put.put-name-or-id.ensures (ap (λ (l : List ℕ). or_id l start.args.id) named.value-name-in.ensures)
+    wrote_as c.put_name_or_id.ensures (ap (λ (l : List ℕ). or_id l c.args.id) c.value_name_in.ensures)
 
-pub put-property-spec : {M : Type 1} → statement M
-put-property-spec =
+pub put_property_spec : {M : Type 1} → statement M
+put_property_spec =
     tie.close
     (tie.spec
     (λ c κs. search rules)

@@ -10,30 +10,24 @@ use Rattle.showlines.proofs.ReadLaws.{shown-refused, shown_read}
 use Rattle.showlines.proofs.put_read.Statement.{statement}
 use Rattle.showlines.proofs.put_read.Tie as tie
 
-returns : tie.Need-returns
+returns : tie.Need-returns-then-a-ne-READ
 returns c =
-    let start : tie.Start = search in
-    let put : tie.After-answer-line = search in
-    let a = start.args in
-    wrote_as put.answer-line.ensures (sym (shown-refused a.table.now a.stream.now (exited a.a a.controls.now a.rows.now) (λ e. omega arith)))
+    let a = c.args in
+    wrote_as c.answer_line.ensures (sym (shown-refused a.table.now a.stream.now (exited a.a a.controls.now a.rows.now) (λ e. omega arith)))
 
-put-slices-requires : tie.Need-put-slices-requires
+put-slices-requires : tie.Need-put_slices-requires
 put-slices-requires c κs =
-    let start : tie.Start = search in
-    record { lent = start.pre.lent; some_left = omega (arith, start.good); few = start.pre.few (omega arith) }
+    record { lent = c.requires.lent; some_left = omega (arith, c.well_formed); few = c.requires.few (omega arith) }
 
-returns-2 : tie.Need-returns-2
+returns-2 : tie.Need-returns
 returns-2 c =
-    let start : tie.Start = search in
-    let kind : tie.After-reading-kind = search in
-    let put : tie.After-put-slices = search in
-    let a = start.args in
-    wrote_as put.put-slices.ensures
-    (ap (λ (k : ℕ). slices_text a.table.now a.stream.now a.controls.now a.rows.now (counts_of k a.a)) kind.reading-kind.ensures
+    let a = c.args in
+    wrote_as c.put_slices.ensures
+    (ap (λ (k : ℕ). slices_text a.table.now a.stream.now a.controls.now a.rows.now (counts_of k a.a)) c.reading_kind.ensures
     ∙ sym (shown_read a.table.now a.stream.now (exited a.a a.controls.now a.rows.now) (omega arith)))
 
-pub put-read-spec : {M : Type 1} → statement M
-put-read-spec =
+pub put_read_spec : {M : Type 1} → statement M
+put_read_spec =
     tie.close
     (tie.spec
     (λ c κs. search rules)

@@ -6,20 +6,18 @@ use Rattle.showlines.proofs.LineLaws.{a_reading}
 use Rattle.showlines.proofs.put_reading.Statement.{statement}
 use Rattle.showlines.proofs.put_reading.Tie as tie
 
-returns-5 : tie.Need-returns-5
+returns-5 : tie.Need-returns-in_default
 unfolding reading_text
 returns-5 c =
-    let others : tie.At-match-rest = search in
-    let start : tie.Start = search in
-    last_arm start.args.kind readings (text "too short") (past 4 _ others.match.rest) c.before.before.put-text5.ensures
+    last_arm c.args.kind readings (text "too short") (past 4 _ c.in_default.in_default-own.rest) c.put_text-in_default.ensures
 
-pub put-reading-spec : {M : Type 1} → statement M
-put-reading-spec =
+pub put_reading_spec : {M : Type 1} → statement M
+put_reading_spec =
     tie.close
     (tie.spec
-    (λ c. search rules) (λ c κs. search rules) (λ c. search rules) (λ c κs. search rules) (λ c. search rules) (λ c κs. search rules) (λ c. search rules) (λ c κs. search rules) (λ c. search rules) (λ c κs. search rules)
-    (λ c. search rules) (λ c. a_reading 0 (search) c.before.before.put-text.ensures)
-    (λ c. search rules) (λ c. a_reading 1 (search) c.before.before.put-text2.ensures)
-    (λ c. search rules) (λ c. a_reading 2 (search) c.before.before.put-text3.ensures)
-    (λ c. search rules) (λ c. a_reading 3 (search) c.before.before.put-text4.ensures)
+    (λ c κs. search rules) (λ c κs. search rules) (λ c κs. search rules) (λ c κs. search rules) (λ c κs. search rules)
+    (λ c. search rules) (λ c. a_reading 0 (search) c.put_text.ensures)
+    (λ c. search rules) (λ c. a_reading 1 (search) c.put_text-in-1.ensures)
+    (λ c. search rules) (λ c. a_reading 2 (search) c.put_text-in-2.ensures)
+    (λ c. search rules) (λ c. a_reading 3 (search) c.put_text-in-3.ensures)
     (λ c. search rules) returns-5)

@@ -9,37 +9,30 @@ use Rattle.showlines.specs.declared.Owner.{Owner}
 use Rattle.showlines.proofs.put_slices.Statement.{statement}
 use Rattle.showlines.proofs.put_slices.Tie as tie
 
-put-rows-requires : tie.Need-put-rows-requires
+put-rows-requires : tie.Need-put_rows-p-requires
 put-rows-requires c κs =
-    let start : tie.Start = search in
-    record { lent = start.pre.lent; few = omega (arith, start.pre.few) }
+    record { lent = c.requires.lent; few = omega (arith, c.requires.few) }
 
-put-controls-requires : tie.Need-put-controls-requires
+put-controls-requires : tie.Need-put_controls-requires
 put-controls-requires c κs =
-    let start : tie.Start = search in
-    start.pre
+    c.requires
 
 -- too far from the end to be found from there
-start_of : tie.After-unmapped → tie.Start
+start_of : tie.After-unmapped-lacking → tie.Start
 start_of c = search
 
 returns : tie.Need-returns
 unfolding slices_text start_of
 returns c =
-    let last : tie.After-put-controls = search in
-    let own : tie.After-put-rows = search in
-    let whose : tie.After-object-owner = search in
-    let object : tie.After-object-line = search in
-    let first : tie.After-first-line = search in
-    let lacking : tie.After-unmapped = search in
+    let lacking : tie.After-unmapped-lacking = search in
     let a = (start_of lacking).args in
-    wrote_as first.first-line.ensures (ap (λ (n : ℕ). first_line a.counts.kind a.counts.controls a.counts.properties n) lacking.unmapped.ensures)
-    ⨟ object.object-line.ensures
-    ⨟ wrote_as own.put-rows.ensures (ap (λ (o : Owner). rows_text a.stream.now o a.rows.now 0 a.counts.own) whose.object-owner.ensures)
-    ⨟ last.put-controls.ensures
+    wrote_as c.first_line-p.ensures (ap (λ (n : ℕ). first_line a.counts.kind a.counts.controls a.counts.properties n) lacking.unmapped-lacking.ensures)
+    ⨟ c.object_line-p.ensures
+    ⨟ wrote_as c.put_rows-p.ensures (ap (λ (o : Owner). rows_text a.stream.now o a.rows.now 0 a.counts.own) c.object_owner-owner.ensures)
+    ⨟ c.put_controls.ensures
 
-pub put-slices-spec : {M : Type 1} → statement M
-put-slices-spec =
+pub put_slices_spec : {M : Type 1} → statement M
+put_slices_spec =
     tie.close
     (tie.spec
     (λ c κs. search rules)

@@ -6,24 +6,19 @@ use Rattle.showlines.proofs.LineLaws.{no_name, a_name}
 use Rattle.showlines.proofs.put_type_or_code.Statement.{statement}
 use Rattle.showlines.proofs.put_type_or_code.Tie as tie
 
-returns : tie.Need-returns
+returns : tie.Need-returns-then-name-eq0
 returns c =
-    let start : tie.Start = search in
-    let told : tie.After-put-text = search in
-    let put : tie.After-put-hex = search in
-    wrote_as (told.put-text.ensures ⨟ put.put-hex.ensures) (sym (no_name start.args.name.now start.args.code (omega arith)))
+    wrote_as (c.put_text-p.ensures ⨟ c.put_hex.ensures) (sym (no_name c.args.name.now c.args.code (omega arith)))
 
-returns-2 : tie.Need-returns-2
+returns-2 : tie.Need-returns-else-name-eq0
 returns-2 c =
-    let start : tie.Start = search in
-    let put : tie.After-put-text2 = search in
-    wrote_as put.put-text2.ensures (sym (a_name start.args.name.now start.args.code (λ e. omega arith)))
+    wrote_as c.put_text.ensures (sym (a_name c.args.name.now c.args.code (λ e. omega arith)))
 
-pub put-type-or-code-spec : {M : Type 1} → statement M
-put-type-or-code-spec =
+pub put_type_or_code_spec : {M : Type 1} → statement M
+put_type_or_code_spec =
     tie.close
     (tie.spec
-    (λ c. search rules) (λ c κs. search rules) (λ c κs. search rules) (λ c κs. search rules) (λ c. search rules)
+    (λ c κs. search rules) (λ c κs. search rules) (λ c κs. search rules) (λ c. search rules)
     returns
     (λ c. search rules)
     returns-2)

@@ -7,15 +7,11 @@ use Rattle.showlines.proofs.put_unmapped.Tie as tie
 returns : tie.Need-returns
 unfolding unmapped_text
 returns c =
-    let scope : tie.After-put-scope = search in
-    let of : tie.After-put-text2 = search in
-    let code : tie.After-put-hex = search in
-    let told : tie.After-put-text = search in
-    told.put-text.ensures ⨟ code.put-hex.ensures ⨟ of.put-text2.ensures ⨟ scope.put-scope.ensures
+    c.put_text-p.ensures ⨟ c.put_hex-p.ensures ⨟ c.put_text-p-2.ensures ⨟ c.put_scope.ensures
 
-pub put-unmapped-spec : {M : Type 1} → statement M
-put-unmapped-spec =
+pub put_unmapped_spec : {M : Type 1} → statement M
+put_unmapped_spec =
     tie.close
     (tie.spec
-    (λ c. search rules) (λ c κs. search rules) (λ c κs. search rules) (λ c. search rules) (λ c κs. search rules) (λ c κs. search rules) (λ c. search rules)
+    (λ c κs. search rules) (λ c κs. search rules) (λ c κs. search rules) (λ c κs. search rules) (λ c. search rules)
     returns)

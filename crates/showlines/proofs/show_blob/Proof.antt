@@ -10,26 +10,22 @@ use Rattle.showlines.proofs.show_blob.Statement.{statement}
 use Rattle.showlines.proofs.show_blob.Tie as tie
 
 -- the counts are numbers of 32 bits
-word_of : (c : tie.After-read-blob) → c.read-blob.result.second < 4294967296
+word_of : (c : tie.After-read_blob-a) → c.read_blob-a.result.second < 4294967296
 word_of c = search rules
 
-put-read-requires : tie.Need-put-read-requires
+put-read-requires : tie.Need-put_read-requires
 put-read-requires c κs =
-    let start : tie.Start = search in
-    let read : tie.After-read-blob = search in
-    let a = start.args in
-    blob-ready a.controls.now a.properties.now start.pre a.table.now a.stream.now read.read-blob.ensures (omega (arith, word_of read))
+    let read : tie.After-read_blob-a = search in
+    let a = c.args in
+    blob-ready a.controls.now a.properties.now c.requires a.table.now a.stream.now read.read_blob-a.ensures (omega (arith, word_of read))
 
 returns : tie.Need-returns
 returns c =
-    let start : tie.Start = search in
-    let read : tie.After-read-blob = search in
-    let put : tie.After-put-read = search in
-    let a = start.args in
-    wrote_as put.put-read.ensures (ap (λ (e : Exit). shown_by_lem a.table.now a.stream.now e) read.read-blob.ensures)
+    let a = c.args in
+    wrote_as c.put_read.ensures (ap (λ (e : Exit). shown_by_lem a.table.now a.stream.now e) c.read_blob-a.ensures)
 
-pub show-blob-spec : {M : Type 1} → statement M
-show-blob-spec =
+pub show_blob_spec : {M : Type 1} → statement M
+show_blob_spec =
     tie.close
     (tie.spec
     (λ c κs. search rules)

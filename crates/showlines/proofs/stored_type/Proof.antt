@@ -14,55 +14,40 @@ record Left (t : List ℕ) (mark type at left : ℕ) : Type 0 where
   decide : stored_from t mark type at left ≡ stored_type (header t) mark type
   small : at + 2 * left < 2 ^ 32
 
-abbrev invariant-loop : tie.invariant-loop
+abbrev invariant-loop : tie.invariant-loop-left
 invariant-loop table mark type at₀ left₀ at left = Left table mark type at left
 
-abbrev decreases-loop : tie.decreases-loop
+abbrev decreases-loop : tie.decreases-loop-left
 decreases-loop table mark type at₀ left₀ at left = left
 
-loop-holds : tie.Need-loop-init invariant-loop decreases-loop
+loop-holds : tie.Need-loop-left-init invariant-loop decreases-loop
 loop-holds c =
-    let start : tie.Start invariant-loop decreases-loop = search in
-    let counted : tie.After-byte-at invariant-loop decreases-loop = search in
-    record { decide = stored-all start.args.table.now start.args.mark start.args.type-code _ counted.byte-at.ensures; small = omega arith }
+    record { decide = stored-all c.args.table.now c.args.mark c.args.type_code _ c.byte_at-left.ensures; small = omega arith }
 
-returns : tie.Need-returns invariant-loop decreases-loop
+returns : tie.Need-returns-then-bit_or-type_code invariant-loop decreases-loop
 returns c =
-    let turn : tie.At-loop invariant-loop decreases-loop = search in
-    let start : tie.Start invariant-loop decreases-loop = search in
-    let read : tie.After-u16-at invariant-loop decreases-loop = search in
-    let joined : tie.After-bit-or invariant-loop decreases-loop = search in
-    let is : tie.Then1 invariant-loop decreases-loop = search in
-    let l = turn.loop in
-    sym (stored_here start.args.table.now start.args.mark start.args.type-code l.at l.left (omega arith) _ read.u16-at.ensures (sym joined.bit_or.ensures ∙ is.if1.taken)) ∙ l.inv.decide
+    let l = c.loop-left in
+    sym (stored_here c.args.table.now c.args.mark c.args.type_code l.at l.left (omega arith) _ c.u16_at-code.ensures (sym c.bit_or.ensures ∙ c.if-bit_or-type_code.true)) ∙ l.invariant.decide
 
-loop-again : tie.Need-loop-preserved invariant-loop decreases-loop
+loop-again : tie.Need-loop-left-preserved invariant-loop decreases-loop
 loop-again c =
-    let turn : tie.At-loop invariant-loop decreases-loop = search in
-    let start : tie.Start invariant-loop decreases-loop = search in
-    let read : tie.After-u16-at invariant-loop decreases-loop = search in
-    let joined : tie.After-bit-or invariant-loop decreases-loop = search in
-    let isnt : tie.Else1 invariant-loop decreases-loop = search in
-    let l = turn.loop in
+    let l = c.loop-left in
     record {
-      decide = sym (stored-later start.args.table.now start.args.mark start.args.type-code l.at l.left (omega arith) _ read.u16-at.ensures (λ e. isnt.if1.left (joined.bit_or.ensures ∙ e))) ∙ l.inv.decide;
-      small = omega (arith, l.inv.small);
+      decide = sym (stored-later c.args.table.now c.args.mark c.args.type_code l.at l.left (omega arith) _ c.u16_at-code.ensures (λ e. c.if-bit_or-type_code.false (c.bit_or.ensures ∙ e))) ∙ l.invariant.decide;
+      small = omega (arith, l.invariant.small);
     }
 
-returns-2 : tie.Need-returns-2 invariant-loop decreases-loop
+returns-2 : tie.Need-returns invariant-loop decreases-loop
 returns-2 c =
-    let turn : tie.At-loop invariant-loop decreases-loop = search in
-    let start : tie.Start invariant-loop decreases-loop = search in
-    let l = turn.loop in
-    sym (stored-none start.args.table.now start.args.mark start.args.type-code l.at l.left (omega arith)) ∙ l.inv.decide
+    let l = c.loop-left in
+    sym (stored-none c.args.table.now c.args.mark c.args.type_code l.at l.left (omega arith)) ∙ l.invariant.decide
 
-add_at : tie.Need-overflow-add-at invariant-loop decreases-loop
+add_at : tie.Need-overflow_add-at invariant-loop decreases-loop
 add_at c =
-    let turn : tie.At-loop invariant-loop decreases-loop = search in
-    omega (arith, turn.loop.inv.small)
+    omega (arith, c.loop-left.invariant.small)
 
-pub stored-type-spec : {M : Type 1} → statement M
-stored-type-spec =
+pub stored_type_spec : {M : Type 1} → statement M
+stored_type_spec =
     tie.close
     (tie.spec
     invariant-loop

@@ -5,19 +5,16 @@ use Rattle.showlines.proofs.Steps.{unmapped_2000, unmapped-later}
 use Rattle.showlines.proofs.unmapped.Statement.{statement}
 use Rattle.showlines.proofs.unmapped.Tie as tie
 
-returns : tie.Need-returns
+returns : tie.Need-returns-then-kind-lt-TREE
 returns c =
-    let start : tie.Start = search in
-    let counted : tie.After-marked = search in
-    counted.marked.ensures ∙ unmapped_2000 start.args.kind start.args.rows.now start.args.count (omega arith)
+    c.marked.ensures ∙ unmapped_2000 c.args.kind c.args.rows.now c.args.count (omega arith)
 
-returns-2 : tie.Need-returns-2
+returns-2 : tie.Need-returns-else-kind-lt-TREE
 returns-2 c =
-    let start : tie.Start = search in
-    unmapped-later start.args.kind start.args.rows.now start.args.count (omega arith)
+    unmapped-later c.args.kind c.args.rows.now c.args.count (omega arith)
 
-pub unmapped-spec : {M : Type 1} → statement M
-unmapped-spec =
+pub unmapped_spec : {M : Type 1} → statement M
+unmapped_spec =
     tie.close
     (tie.spec
     (λ c κs. search rules)

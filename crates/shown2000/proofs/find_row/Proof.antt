@@ -7,11 +7,10 @@ use Rattle.shown2000.proofs.find_row.Tie as tie
 returns : tie.Need-returns
 unfolding body_rows
 returns c =
-    let sought : tie.After-seek-row = search in
-    λ sorted. sought.seek-row.ensures sorted
+    λ sorted. c.seek_row-sought.ensures sorted
 
-pub find-row-spec : {M : Type 1} → statement M
-find-row-spec =
+pub find_row_spec : {M : Type 1} → statement M
+find_row_spec =
     tie.close
     (tie.spec
     (λ c. search rules) (λ c. search rules) (λ c κs. omega arith)

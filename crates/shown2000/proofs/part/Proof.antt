@@ -6,7 +6,7 @@ use Rattle.shown2000.proofs.part.Statement.{statement}
 use Rattle.shown2000.proofs.part.Tie as tie
 
 returns : tie.Need-returns
-returns c = let a = c.before.args in let e : a.start + a.size - a.start ≡ a.size = omega arith in rw e
+returns c = let a = c.args in let e : a.start + a.size - a.start ≡ a.size = omega arith in rw e
 
-pub part-spec : {M : Type 1} → statement M
-part-spec = tie.close (tie.spec (λ c. search rules) (λ c. search rules) (λ c. search rules) (λ c. search rules) returns)
+pub part_spec : {M : Type 1} → statement M
+part_spec = tie.close (tie.spec (λ c. search rules) (λ c. search rules) (λ c. search rules) (λ c. search rules) returns)

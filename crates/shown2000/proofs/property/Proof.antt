@@ -4,27 +4,22 @@ use Rattle.run2000.proofs.Shows.{shown-tied, shown-untied}
 use Rattle.shown2000.proofs.property.Statement.{statement}
 use Rattle.shown2000.proofs.property.Tie as tie
 
-returns : tie.Need-returns
+returns : tie.Need-returns-in-Tied
 returns c =
-    let after-find-row : tie.After-find-row = search in
-    let taken : tie.After-part = search in
-    let start : tie.Start = search in
-    shown-tied _ _ _ _ _ (after-find-row.find-row.ensures start.pre.sorted) taken.part.ensures (search) c.value-as.ensures
+    shown-tied _ _ _ _ _ (c.find_row.ensures c.requires.sorted) c.part.ensures (search) c.value_as.ensures
 
-returns-2 : tie.Need-returns-2
+returns-2 : tie.Need-returns-in-Untied
 returns-2 c =
-    let after-find-row : tie.After-find-row = search in
-    let start : tie.Start = search in
-    shown-untied _ _ _ _ _ (after-find-row.find-row.ensures start.pre.sorted) c.before.part2.ensures (search) c.before.before.bit_or.ensures c.stored-value.ensures
+    shown-untied _ _ _ _ _ (c.find_row.ensures c.requires.sorted) c.part-in-Untied.ensures (search) c.bit_or.ensures c.stored_value.ensures
 
-pub property-spec : {M : Type 1} → statement M
-property-spec =
+pub property_spec : {M : Type 1} → statement M
+property_spec =
     tie.close
     (tie.spec
     (λ c κs. search rules) (λ c. search rules) (λ c. search rules)
-    (λ c κs. let start : tie.Start = search in start.pre.inside) (λ c κs. search rules)
-    (λ c. let start : tie.Start = search in omega (arith, start.pre.small, start.pre.inside)) (λ c. let start : tie.Start = search in omega (arith, start.pre.small, start.pre.inside))
-    (λ c. search rules) (λ c κs. search rules) (λ c κs. let start : tie.Start = search in start.pre.inside) (λ c κs. search rules)
-    (λ c. let start : tie.Start = search in omega (arith, start.pre.small, start.pre.inside)) (λ c. let start : tie.Start = search in omega (arith, start.pre.small, start.pre.inside))
+    (λ c κs. let start : tie.Start = search in start.requires.inside) (λ c κs. search rules)
+    (λ c. let start : tie.Start = search in omega (arith, start.requires.small, start.requires.inside)) (λ c. let start : tie.Start = search in omega (arith, start.requires.small, start.requires.inside))
+    (λ c. search rules) (λ c κs. search rules) (λ c κs. let start : tie.Start = search in start.requires.inside) (λ c κs. search rules)
+    (λ c. let start : tie.Start = search in omega (arith, start.requires.small, start.requires.inside)) (λ c. let start : tie.Start = search in omega (arith, start.requires.small, start.requires.inside))
     returns
     returns-2)

@@ -7,14 +7,11 @@ use Rattle.showtext.proofs.put_bytes.Tie as tie
 returns : tie.Need-returns
 unfolding bytes_text
 returns c =
-    let many : tie.After-put-decimal = search in
-    let told : tie.After-put-text = search in
-    let first : tie.After-put-first = search in
-    many.put-decimal.ensures ⨟ told.put-text.ensures ⨟ first.put_first.ensures
+    c.put_decimal-p.ensures ⨟ c.put_text-p.ensures ⨟ c.put_first.ensures
 
-pub put-bytes-spec : {M : Type 1} → statement M
-put-bytes-spec =
+pub put_bytes_spec : {M : Type 1} → statement M
+put_bytes_spec =
     tie.close
     (tie.spec
-    (λ c κs. search rules) (λ c. search rules) (λ c κs. search rules) (λ c κs. search rules) (λ c. search rules)
+    (λ c κs. search rules) (λ c κs. search rules) (λ c κs. search rules) (λ c. search rules)
     returns)

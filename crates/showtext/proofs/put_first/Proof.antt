@@ -12,27 +12,20 @@ use Rattle.showtext.proofs.ShownLaws.{no_bytes, some_bytes}
 use Rattle.showtext.proofs.put_first.Statement.{statement}
 use Rattle.showtext.proofs.put_first.Tie as tie
 
-returns : tie.Need-returns
+returns : tie.Need-returns-then-size-eq0
 returns c =
-    let start : tie.Start = search in
-    let a = start.args in
+    let a = c.args in
     wrote_as nothing (sym (no_bytes a.size a.stream.now a.start (omega arith)))
 
-returns-2 : tie.Need-returns-2
+returns-2 : tie.Need-returns
 returns-2 c =
-    let start : tie.Start = search in
-    let blank : tie.After-put-byte = search in
-    let most : tie.After-at-most = search in
-    let read : tie.After-value-bytes = search in
-    let digits : tie.After-put-hexes = search in
-    let cut : tie.After-put-cut = search in
-    let a = start.args in
-    wrote_as (blank.put_byte.ensures ⨟ digits.put-hexes.ensures ⨟ cut.put-cut.ensures)
-    (ap (λ (l : List ℕ). text " " ++ (hex_text l ++ cut_mark a.size)) (read.value-bytes.ensures ∙ ap (λ (n : ℕ). part a.stream.now a.start n) most.at_most.ensures)
+    let a = c.args in
+    wrote_as (c.put_byte-p.ensures ⨟ c.put_hexes-p.ensures ⨟ c.put_cut.ensures)
+    (ap (λ (l : List ℕ). text " " ++ (hex_text l ++ cut_mark a.size)) (c.value_bytes.ensures ∙ ap (λ (n : ℕ). part a.stream.now a.start n) c.at_most.ensures)
     ∙ sym (some_bytes a.size a.stream.now a.start (λ e. omega arith)))
 
-pub put-first-spec : {M : Type 1} → statement M
-put-first-spec =
+pub put_first_spec : {M : Type 1} → statement M
+put_first_spec =
     tie.close
     (tie.spec
     returns

@@ -9,26 +9,22 @@ use Rattle.showtext.proofs.ShownLaws.{letters-all}
 use Rattle.showtext.proofs.put_letters.Statement.{statement}
 use Rattle.showtext.proofs.put_letters.Tie as tie
 
-abbrev invariant-loop : tie.invariant-loop
+abbrev invariant-loop : tie.invariant-loop-i
 invariant-loop out₀ at bytes p₀ i₀ high₀ out p i high = SpellsLeft spelled bytes out₀ at out p i high
 
-abbrev decreases-loop : tie.decreases-loop
+abbrev decreases-loop : tie.decreases-loop-i
 decreases-loop out₀ at bytes p₀ i₀ high₀ out p i high = length bytes - i
 
-loop-again : tie.Need-loop-preserved invariant-loop decreases-loop
+loop-again : tie.Need-loop-i-preserved invariant-loop decreases-loop
 loop-again c =
-    let turn : tie.At-loop invariant-loop decreases-loop = search in
-    let unit : tie.After-u16-at invariant-loop decreases-loop = search in
-    let put : tie.After-put-unit invariant-loop decreases-loop = search in
-    spells_more turn.loop.inv (omega arith) unit.u16-at.ensures c.waiting.ensures put.put-unit.ensures
+    spells_more c.loop-i.invariant (omega arith) c.u16_at-u.ensures c.waiting-high.ensures c.put_unit-p.ensures
 
 returns : tie.Need-returns invariant-loop decreases-loop
 returns c =
-    let turn : tie.At-loop invariant-loop decreases-loop = search in
-    wrote_as (spells_done turn.loop.inv (omega arith)) (letters-all _)
+    wrote_as (spells_done c.loop-i.invariant (omega arith)) (letters-all _)
 
-pub put-letters-spec : {M : Type 1} → statement M
-put-letters-spec =
+pub put_letters_spec : {M : Type 1} → statement M
+put_letters_spec =
     tie.close
     (tie.spec
     invariant-loop

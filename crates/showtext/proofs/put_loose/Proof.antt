@@ -7,13 +7,11 @@ use Rattle.showtext.proofs.put_loose.Tie as tie
 returns : tie.Need-returns
 unfolding loose_text
 returns c =
-    let told : tie.After-put-text = search in
-    let put : tie.After-put-bytes = search in
-    told.put-text.ensures ⨟ put.put-bytes.ensures
+    c.put_text-p.ensures ⨟ c.put_bytes.ensures
 
-pub put-loose-spec : {M : Type 1} → statement M
-put-loose-spec =
+pub put_loose_spec : {M : Type 1} → statement M
+put_loose_spec =
     tie.close
     (tie.spec
-    (λ c. search rules) (λ c κs. search rules) (λ c κs. search rules) (λ c. search rules)
+    (λ c κs. search rules) (λ c κs. search rules) (λ c. search rules)
     returns)

@@ -7,13 +7,10 @@ use Rattle.showtext.proofs.put_quoted.Tie as tie
 returns : tie.Need-returns
 unfolding quoted
 returns c =
-    let begun : tie.After-put-byte = search in
-    let put : tie.After-put-letters = search in
-    let shut : tie.After-put-byte2 = search in
-    begun.put_byte.ensures ⨟ put.put-letters.ensures ⨟ shut.put-byte2.ensures
+    c.put_byte-p.ensures ⨟ c.put_letters-p.ensures ⨟ c.put_byte.ensures
 
-pub put-quoted-spec : {M : Type 1} → statement M
-put-quoted-spec =
+pub put_quoted_spec : {M : Type 1} → statement M
+put_quoted_spec =
     tie.close
     (tie.spec
     (λ c κs. search rules) (λ c κs. search rules) (λ c κs. search rules) (λ c. search rules)

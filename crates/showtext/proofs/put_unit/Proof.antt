@@ -8,30 +8,21 @@ use Rattle.showtext.specs.Shown.{spelled}
 use Rattle.showtext.proofs.put_unit.Statement.{statement}
 use Rattle.showtext.proofs.put_unit.Tie as tie
 
-returns : tie.Need-returns
+returns : tie.Need-returns-then-is_high
 returns c =
-    let start : tie.Start = search in
-    let asked : tie.After-is-high = search in
-    wrote_as nothing (sym (first-half spelled start.args.high start.args.u (sym asked.is-high.ensures ∙ c.if1.true)))
+    wrote_as nothing (sym (first-half spelled c.args.high c.args.u (sym c.is_high.ensures ∙ c.if-is_high.true)))
 
-put-spelled-requires : tie.Need-put-spelled-requires
+put-spelled-requires : tie.Need-put_spelled-requires
 put-spelled-requires c κs =
-    let start : tie.Start = search in
-    let got : tie.After-scalar = search in
-    omega (arith, got.scalar.ensures, scalar-small start.args.high start.args.u start.pre (omega (arith, start.good)))
+    omega (arith, c.scalar.ensures, scalar-small c.args.high c.args.u c.requires (omega (arith, c.well_formed)))
 
-returns-2 : tie.Need-returns-2
+returns-2 : tie.Need-returns
 returns-2 c =
-    let start : tie.Start = search in
-    let asked : tie.After-is-high = search in
-    let isnt : tie.Else1 = search in
-    let got : tie.After-scalar = search in
-    let put : tie.After-put-spelled = search in
-    wrote_as put.put-spelled.ensures
-    (ap spelled got.scalar.ensures ∙ sym (ends spelled start.args.high start.args.u (sym asked.is-high.ensures ∙ isnt.if1.left)))
+    wrote_as c.put_spelled.ensures
+    (ap spelled c.scalar.ensures ∙ sym (ends spelled c.args.high c.args.u (sym c.is_high.ensures ∙ c.if-is_high.false)))
 
-pub put-unit-spec : {M : Type 1} → statement M
-put-unit-spec =
+pub put_unit_spec : {M : Type 1} → statement M
+put_unit_spec =
     tie.close
     (tie.spec
     (λ c κs. search rules)

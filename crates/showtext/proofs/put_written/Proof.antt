@@ -5,28 +5,19 @@ use Rattle.showtext.proofs.ShownLaws.{hidden, plain}
 use Rattle.showtext.proofs.put_written.Statement.{statement}
 use Rattle.showtext.proofs.put_written.Tie as tie
 
-returns : tie.Need-returns
+returns : tie.Need-returns-then-is_hidden
 returns c =
-    let start : tie.Start = search in
-    let asked : tie.After-is-hidden = search in
-    let is : tie.Then1 = search in
-    let marked : tie.After-put-text = search in
-    let digits : tie.After-put-hex = search in
-    wrote_as (marked.put-text.ensures ⨟ digits.put-hex.ensures) (sym (hidden start.args.c (sym asked.is_hidden.ensures ∙ is.if1.taken)))
+    wrote_as (c.put_text-p.ensures ⨟ c.put_hex.ensures) (sym (hidden c.args.c (sym c.is_hidden.ensures ∙ c.if-is_hidden.true)))
 
-returns-2 : tie.Need-returns-2
+returns-2 : tie.Need-returns
 returns-2 c =
-    let start : tie.Start = search in
-    let asked : tie.After-is-hidden = search in
-    let isnt : tie.Else1 = search in
-    let put : tie.After-put-character = search in
-    wrote_as put.put-character.ensures (sym (plain start.args.c (sym asked.is_hidden.ensures ∙ isnt.if1.left)))
+    wrote_as c.put_character.ensures (sym (plain c.args.c (sym c.is_hidden.ensures ∙ c.if-is_hidden.false)))
 
-pub put-written-spec : {M : Type 1} → statement M
-put-written-spec =
+pub put_written_spec : {M : Type 1} → statement M
+put_written_spec =
     tie.close
     (tie.spec
-    (λ c κs. search rules) (λ c. search rules) (λ c κs. search rules) (λ c κs. search rules) (λ c. search rules)
+    (λ c κs. search rules) (λ c κs. search rules) (λ c κs. search rules) (λ c. search rules)
     returns
     (λ c κs. search rules) (λ c. search rules)
     returns-2)

@@ -7,5 +7,5 @@ returns : tie.Need-returns
 unfolding as_lack
 returns c = refl
 
-pub no-lack-spec : {M : Type 1} → statement M
-no-lack-spec = tie.close (tie.spec returns)
+pub no_lack_spec : {M : Type 1} → statement M
+no_lack_spec = tie.close (tie.spec returns)

@@ -8,35 +8,25 @@ use Rattle.succession.proofs.Rows.{RowsTo, no-row_tried, all-rows_tried, row_tol
 use Rattle.succession.proofs.rows_other.Statement.{statement}
 use Rattle.succession.proofs.rows_other.Tie as tie
 
-abbrev invariant-loop : tie.invariant-loop
+abbrev invariant-loop : tie.invariant-loop-left
 invariant-loop one start n other from rows kind code missing place₀ left₀ place left = RowsTo missing kind code (ties_at other from rows) one start n place left
 
-abbrev decreases-loop : tie.decreases-loop
+abbrev decreases-loop : tie.decreases-loop-left
 decreases-loop one start n other from rows kind code missing place₀ left₀ place left = left
 
-returns : tie.Need-returns invariant-loop decreases-loop
+returns : tie.Need-returns-then-not-is_held invariant-loop decreases-loop
 returns c =
-    let start : tie.Start invariant-loop decreases-loop = search in
-    let at-loop : tie.At-loop invariant-loop decreases-loop = search in
-    let row : tie.After-row-at invariant-loop decreases-loop = search in
-    let sought : tie.After-seek-row invariant-loop decreases-loop = search in
-    let held : tie.After-is-held invariant-loop decreases-loop = search in
-    row_told at-loop.loop.inv row.row-at.result (omega arith) row.row-at.ensures (sought.seek-row.ensures start.pre.sorted) (sym held.is_held_lem.ensures ∙ not-true _ (search))
+    row_told c.loop-left.invariant c.row_at-row.result (omega arith) c.row_at-row.ensures (c.seek_row-sought.ensures c.requires.sorted) (sym c.is_held.ensures ∙ not-true _ (search))
 
-loop-again : tie.Need-loop-preserved invariant-loop decreases-loop
+loop-again : tie.Need-loop-left-preserved invariant-loop decreases-loop
 loop-again c =
-    let start : tie.Start invariant-loop decreases-loop = search in
-    let at-loop : tie.At-loop invariant-loop decreases-loop = search in
-    let row : tie.After-row-at invariant-loop decreases-loop = search in
-    let sought : tie.After-seek-row invariant-loop decreases-loop = search in
-    let held : tie.After-is-held invariant-loop decreases-loop = search in
-    row-passes at-loop.loop.inv row.row-at.result (omega arith) row.row-at.ensures (sought.seek-row.ensures start.pre.sorted) (sym held.is_held_lem.ensures ∙ not-false _ (search))
+    row-passes c.loop-left.invariant c.row_at-row.result (omega arith) c.row_at-row.ensures (c.seek_row-sought.ensures c.requires.sorted) (sym c.is_held.ensures ∙ not-false _ (search))
 
-returns-2 : tie.Need-returns-2 invariant-loop decreases-loop
-returns-2 c = c.no-lack.ensures ∙ sym (ap as_lack (all-rows_tried c.before.before.loop.invariant (omega arith)))
+returns-2 : tie.Need-returns invariant-loop decreases-loop
+returns-2 c = c.no_lack.ensures ∙ sym (ap as_lack (all-rows_tried c.loop-left.invariant (omega arith)))
 
-pub rows-other-spec : {M : Type 1} → statement M
-rows-other-spec =
+pub rows_other_spec : {M : Type 1} → statement M
+rows_other_spec =
     tie.close
     (tie.spec
     invariant-loop

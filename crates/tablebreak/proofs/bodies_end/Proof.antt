@@ -13,37 +13,36 @@ record Left (t : List ℕ) (start bodies n at end left : ℕ) : Type 0 where
   near : at + 5 * left < 2 ^ 32
   end-near : end + 262144 * left < 2 ^ 32
 
-abbrev invariant-loop : tie.invariant-loop
+abbrev invariant-loop : tie.invariant-loop-left
 invariant-loop table start bodies n at₀ end₀ left₀ at end left = Left table start bodies n at end left
 
-abbrev decreases-loop : tie.decreases-loop
+abbrev decreases-loop : tie.decreases-loop-left
 decreases-loop table start bodies n at₀ end₀ left₀ at end left = left
 
-loop-again : tie.Need-loop-preserved invariant-loop decreases-loop
+loop-again : tie.Need-loop-left-preserved invariant-loop decreases-loop
 loop-again c =
-    let start : tie.Start invariant-loop decreases-loop = search in
-    let l = c.before.before.loop in
+    let l = c.loop-left in
     record {
-      total = l.invariant.total ∙ ends-step start.args.table.now l.at l.end l.left c.before.loop-test.true c.u16-number.ensures.is;
+      total = l.invariant.total ∙ ends-step c.args.table.now l.at l.end l.left c.loop-left-test.true c.u16_number.ensures.is;
       near = omega arith;
-      end-near = omega (arith, c.u16-number.ensures.small);
+      end-near = omega (arith, c.u16_number.ensures.small);
     }
 
 returns : tie.Need-returns invariant-loop decreases-loop
 returns c =
-    let l = c.before.loop in
-    record { is = sym (l.invariant.total ∙ ends-done c.before.before.before.args.table.now l.at l.end l.left c.loop-test.false); small = omega arith }
+    let l = c.loop-left in
+    record { is = sym (l.invariant.total ∙ ends-done c.args.table.now l.at l.end l.left c.loop-left-test.false); small = omega arith }
 
-pub bodies-end-spec : {M : Type 1} → statement M
-bodies-end-spec =
+pub bodies_end_spec : {M : Type 1} → statement M
+bodies_end_spec =
     tie.close
     (tie.spec
     invariant-loop
     decreases-loop
     (λ c. record { total = refl; near = omega arith; end-near = omega arith })
     (λ c. omega arith) (λ c κs. omega arith)
-    (λ c. omega (arith, c.u16-number.ensures.small))
-    (λ c. omega (arith, c.u16-number.ensures.small))
+    (λ c. omega (arith, c.u16_number.ensures.small))
+    (λ c. omega (arith, c.u16_number.ensures.small))
     (λ c. omega arith) (λ c. omega arith) (λ c. omega arith)
     loop-again
     returns)

@@ -15,56 +15,48 @@ record Left (t : List ℕ) (start n scope kind code at left number least : ℕ) 
   low : least ≤ 256
   counted : number + left < 2 ^ 32
 
-abbrev invariant-loop : tie.invariant-loop
+abbrev invariant-loop : tie.invariant-loop-left
 invariant-loop table start n scope kind code at₀ left₀ number₀ least₀ at left number least = Left table start n scope kind code at left number least
 
-abbrev decreases-loop : tie.decreases-loop
+abbrev decreases-loop : tie.decreases-loop-left
 decreases-loop table start n scope kind code at₀ left₀ number₀ least₀ at left number least = left
 
-row-rule-requires : tie.Need-row-rule-requires invariant-loop decreases-loop
+row-rule-requires : tie.Need-row_rule-found-requires invariant-loop decreases-loop
 row-rule-requires c κs =
-    let r = c.read-row.ensures in
+    let r = c.read_row-r.ensures in
     record { near = omega arith; id-fits = r.id.small; target_fits = r.target.small; kind_fits = r.kind.small; least_fits = omega arith }
 
 placed-requires : tie.Need-placed-requires invariant-loop decreases-loop
 placed-requires c κs =
-    let start : tie.Start invariant-loop decreases-loop = search in
-    let p = start.pre.place in
+    let p = c.requires.place in
     record { scope-fits = p.scope-fits; kind_fits = p.kind_fits; code_fits = p.code_fits; row_fits = omega arith }
 
-returns : tie.Need-returns invariant-loop decreases-loop
+returns : tie.Need-returns-then-found-ne0 invariant-loop decreases-loop
 returns c =
-    let start : tie.Start invariant-loop decreases-loop = search in
-    let at-loop : tie.At-loop invariant-loop decreases-loop = search in
-    let read : tie.After-read-row invariant-loop decreases-loop = search in
-    let a = start.args in
-    let l = at-loop.loop in
+    let a = c.args in
+    let l = c.loop-left in
     c.placed.ensures
-    ∙ sym (l.inv.decide ∙ rows_fail read.before.loop-test.taken read.read-row.ensures l.least a.scope a.kind a.code l.number c.before.before.before.row-rule.ensures c.before.if1.true)
+    ∙ sym (l.invariant.decide ∙ rows_fail c.loop-left-test.true c.read_row-r.ensures l.least a.scope a.kind a.code l.number c.row_rule-found.ensures c.if-found-ne0.true)
 
-loop-again : tie.Need-loop-preserved invariant-loop decreases-loop
+loop-again : tie.Need-loop-left-preserved invariant-loop decreases-loop
 loop-again c =
-    let start : tie.Start invariant-loop decreases-loop = search in
-    let at-loop : tie.At-loop invariant-loop decreases-loop = search in
-    let read : tie.After-read-row invariant-loop decreases-loop = search in
-    let a = start.args in
-    let l = at-loop.loop in
+    let a = c.args in
+    let l = c.loop-left in
     record {
-      decide = l.inv.decide ∙ rows_step read.before.loop-test.taken read.read-row.ensures l.least a.scope a.kind a.code l.number c.before.before.before.row-rule.ensures c.before.if1.false;
+      decide = l.invariant.decide ∙ rows_step c.loop-left-test.true c.read_row-r.ensures l.least a.scope a.kind a.code l.number c.row_rule-found.ensures c.if-found-ne0.false;
       near = omega arith;
-      low = omega (arith, read.read-row.ensures.id.small);
+      low = omega (arith, c.read_row-r.ensures.id.small);
       counted = omega arith;
     }
 
-returns-2 : tie.Need-returns-2 invariant-loop decreases-loop
+returns-2 : tie.Need-returns invariant-loop decreases-loop
 returns-2 c =
-    let start : tie.Start invariant-loop decreases-loop = search in
-    let a = start.args in
-    let l = c.before.before.loop in
-    c.unbroken.ensures ∙ sym (l.invariant.decide ∙ rows-done a.table.now l.at l.least a.scope a.kind a.code l.number l.left c.before.loop-test.false)
+    let a = c.args in
+    let l = c.loop-left in
+    c.unbroken.ensures ∙ sym (l.invariant.decide ∙ rows-done a.table.now l.at l.least a.scope a.kind a.code l.number l.left c.loop-left-test.false)
 
-pub row-break-spec : {M : Type 1} → statement M
-row-break-spec =
+pub row_break_spec : {M : Type 1} → statement M
+row_break_spec =
     tie.close
     (tie.spec
     invariant-loop
@@ -74,7 +66,7 @@ row-break-spec =
     row-rule-requires
     placed-requires
     returns
-    (λ c. let read : tie.After-read-row invariant-loop decreases-loop = search in omega (arith, read.read-row.ensures.id.small))
+    (λ c. let read : tie.After-read_row-r invariant-loop decreases-loop = search in omega (arith, read.read_row-r.ensures.id.small))
     (λ c. omega arith) (λ c. omega arith) (λ c. omega arith) (λ c. omega arith)
     loop-again
     (λ c κs. search rules)

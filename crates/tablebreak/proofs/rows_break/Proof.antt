@@ -16,57 +16,54 @@ record Left (t : List ℕ) (start bodies n at body left number : ℕ) : Type 0 w
   body_near : body + 262144 * left + 4 < 2 ^ 32
   counted : number + left < 2 ^ 32
 
-abbrev invariant-loop : tie.invariant-loop
+abbrev invariant-loop : tie.invariant-loop-left
 invariant-loop table start bodies n at₀ body₀ left₀ number₀ at body left number = Left table start bodies n at body left number
 
-abbrev decreases-loop : tie.decreases-loop
+abbrev decreases-loop : tie.decreases-loop-left
 decreases-loop table start bodies n at₀ body₀ left₀ number₀ at body left number = left
 
 -- the scope that a turn has read
-read : (c : tie.After-u16-number2 invariant-loop decreases-loop) →
+read : (c : tie.After-u16_number-count invariant-loop decreases-loop) →
     let start : tie.Start invariant-loop decreases-loop = search in
-    let at-loop : tie.At-loop invariant-loop decreases-loop = search in
-    ScopeRead start.args.table.now at-loop.loop.at at-loop.loop.left c.before.before.byte-number.result c.before.u16-number.result c.u16-number2.result
+    let at-loop : tie.At-loop-left invariant-loop decreases-loop = search in
+    ScopeRead start.args.table.now at-loop.loop-left.at at-loop.loop-left.left c.byte_number-kind.result c.u16_number-code.result c.u16_number-count.result
 read c = record {
-  more = c.before.before.before.loop-test.true;
-  kind-is = c.before.before.byte-number.ensures.is;
-  code_is = c.before.u16-number.ensures.is;
-  count-is = c.u16-number2.ensures.is;
+  more = c.loop-left-test.true;
+  kind-is = c.byte_number-kind.ensures.is;
+  code_is = c.u16_number-code.ensures.is;
+  count-is = c.u16_number-count.ensures.is;
 }
 
-row-break-requires : tie.Need-row-break-requires invariant-loop decreases-loop
+row-break-requires : tie.Need-row_break-found-requires invariant-loop decreases-loop
 row-break-requires c κs = record {
-  near = omega (arith, c.u16-number2.ensures.small);
-  place = omega (arith, c.before.before.byte-number.ensures.small, c.before.u16-number.ensures.small);
+  near = omega (arith, c.u16_number-count.ensures.small);
+  place = omega (arith, c.byte_number-kind.ensures.small, c.u16_number-code.ensures.small);
 }
 
-returns : tie.Need-returns invariant-loop decreases-loop
+returns : tie.Need-returns-then-found-ne0 invariant-loop decreases-loop
 returns c =
-    let at-loop : tie.At-loop invariant-loop decreases-loop = search in
-    let scope : tie.After-u16-number2 invariant-loop decreases-loop = search in
-    let l = at-loop.loop in
-    sym (l.inv.decide ∙ bodies_fail (read scope) l.body l.number c.before.before.row-break.ensures c.if1.true)
+    let scope : tie.After-u16_number-count invariant-loop decreases-loop = search in
+    let l = c.loop-left in
+    sym (l.invariant.decide ∙ bodies_fail (read scope) l.body l.number c.row_break-found.ensures c.if-found-ne0.true)
 
-loop-again : tie.Need-loop-preserved invariant-loop decreases-loop
+loop-again : tie.Need-loop-left-preserved invariant-loop decreases-loop
 loop-again c =
-    let at-loop : tie.At-loop invariant-loop decreases-loop = search in
-    let scope : tie.After-u16-number2 invariant-loop decreases-loop = search in
-    let l = at-loop.loop in
+    let scope : tie.After-u16_number-count invariant-loop decreases-loop = search in
+    let l = c.loop-left in
     record {
-      decide = l.inv.decide ∙ bodies_step (read scope) l.body l.number c.before.before.row-break.ensures c.if1.false;
+      decide = l.invariant.decide ∙ bodies_step (read scope) l.body l.number c.row_break-found.ensures c.if-found-ne0.false;
       near = omega arith;
-      body_near = omega (arith, scope.u16-number2.ensures.small);
+      body_near = omega (arith, scope.u16_number-count.ensures.small);
       counted = omega arith;
     }
 
-returns-2 : tie.Need-returns-2 invariant-loop decreases-loop
+returns-2 : tie.Need-returns invariant-loop decreases-loop
 returns-2 c =
-    let start : tie.Start invariant-loop decreases-loop = search in
-    let l = c.before.before.loop in
-    c.unbroken.ensures ∙ sym (l.invariant.decide ∙ bodies_done start.args.table.now l.at l.body l.number l.left c.before.loop-test.false)
+    let l = c.loop-left in
+    c.unbroken.ensures ∙ sym (l.invariant.decide ∙ bodies_done c.args.table.now l.at l.body l.number l.left c.loop-left-test.false)
 
-pub rows-break-spec : {M : Type 1} → statement M
-rows-break-spec =
+pub rows_break_spec : {M : Type 1} → statement M
+rows_break_spec =
     tie.close
     (tie.spec
     invariant-loop
@@ -76,8 +73,8 @@ rows-break-spec =
     row-break-requires
     returns
     (λ c. omega arith)
-    (λ c. let scope : tie.After-u16-number2 invariant-loop decreases-loop = search in omega (arith, scope.u16-number2.ensures.small))
-    (λ c. let scope : tie.After-u16-number2 invariant-loop decreases-loop = search in omega (arith, scope.u16-number2.ensures.small))
+    (λ c. let scope : tie.After-u16_number-count invariant-loop decreases-loop = search in omega (arith, scope.u16_number-count.ensures.small))
+    (λ c. let scope : tie.After-u16_number-count invariant-loop decreases-loop = search in omega (arith, scope.u16_number-count.ensures.small))
     (λ c. omega arith) (λ c. omega arith) (λ c. omega arith)
     loop-again
     (λ c κs. search rules)

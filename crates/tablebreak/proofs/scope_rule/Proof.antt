@@ -4,32 +4,28 @@ use native.Mathlib.Omega.{arith}
 use Rattle.tablebreak.proofs.scope_rule.Statement.{statement}
 use Rattle.tablebreak.proofs.scope_rule.Tie as tie
 
-returns : tie.Need-returns
+returns : tie.Need-returns-then-kind-gt-SCOPE_ENTRY
 returns c =
-    let start : tie.Start = search in
-    let a = start.args in
+    let a = c.args in
     c.broken.ensures ∙ sym (scope-kind a.at a.kind a.code a.least (omega arith))
 
-returns-2 : tie.Need-returns-2
+returns-2 : tie.Need-returns-then-kind-eq-SCOPE_ENTRY
 returns-2 c =
-    let start : tie.Start = search in
-    let a = start.args in
-    c.order-rule.ensures ∙ sym (scope-entry a.at a.kind a.code a.least (omega arith))
+    let a = c.args in
+    c.order_rule.ensures ∙ sym (scope-entry a.at a.kind a.code a.least (omega arith))
 
-returns-3 : tie.Need-returns-3
+returns-3 : tie.Need-returns-then-code-gt0
 returns-3 c =
-    let start : tie.Start = search in
-    let a = start.args in
-    c.broken2.ensures ∙ sym (scope-code a.at a.kind a.code a.least (omega arith) (omega arith))
+    let a = c.args in
+    c.broken-then-code-gt0.ensures ∙ sym (scope-code a.at a.kind a.code a.least (omega arith) (omega arith))
 
-returns-4 : tie.Need-returns-4
+returns-4 : tie.Need-returns
 returns-4 c =
-    let start : tie.Start = search in
-    let a = start.args in
-    c.order-rule2.ensures ∙ sym (scope-plain a.at a.kind a.code a.least (omega arith) (omega arith))
+    let a = c.args in
+    c.order_rule-2.ensures ∙ sym (scope-plain a.at a.kind a.code a.least (omega arith) (omega arith))
 
-pub scope-rule-spec : {M : Type 1} → statement M
-scope-rule-spec =
+pub scope_rule_spec : {M : Type 1} → statement M
+scope_rule_spec =
     tie.close
     (tie.spec
     (λ c κs. omega arith)

@@ -6,103 +6,92 @@ use Rattle.tablebreak.proofs.search.Statement.{statement}
 use Rattle.tablebreak.proofs.search.Tie as tie
 
 -- the counts that the code has read
-counts : (c : tie.Else3) →
+counts : (c : tie.Else-scopes-gt-MOST_SCOPES) →
     let start : tie.Start = search in
-    let headers : tie.After-byte-number = search in
-    Counted start.args.table.now headers.byte-number.result c.before.u16-number.result
+    let headers : tie.After-byte_number-headers = search in
+    Counted start.args.table.now headers.byte_number-headers.result c.u16_number-scopes.result
 counts c =
-    let else1 : tie.Else1 = search in
+    let else1 : tie.Else-size-lt-HEADER_AT = search in
     record {
-      head = else1.if1.left;
-      headers-are = c.before.before.before.byte-number.ensures.is;
-      few = c.before.before.if2.false;
-      scopes-are = c.before.u16-number.ensures.is;
-      some = c.if3.false;
+      head = else1.if-size-lt-HEADER_AT.false;
+      headers-are = c.byte_number-headers.ensures.is;
+      few = c.if-headers-gt-MOST_HEADERS.false;
+      scopes-are = c.u16_number-scopes.ensures.is;
+      some = c.if-scopes-gt-MOST_SCOPES.false;
     }
 
-returns : tie.Need-returns
-returns c = c.broken.ensures ∙ sym (head-short c.before.before.before.args.table.now c.before.if1.true)
+returns : tie.Need-returns-then-size-lt-HEADER_AT
+returns c = c.broken.ensures ∙ sym (head-short c.args.table.now c.if-size-lt-HEADER_AT.true)
 
-returns-2 : tie.Need-returns-2
+returns-2 : tie.Need-returns-then-headers-gt-MOST_HEADERS
 returns-2 c =
-    let start : tie.Start = search in
-    c.broken2.ensures ∙ sym (many-headers start.args.table.now c.before.before.before.if1.false c.before.before.byte-number.ensures.is c.before.if2.true)
+    c.broken-then-headers-gt-MOST_HEADERS.ensures ∙ sym (many-headers c.args.table.now c.if-size-lt-HEADER_AT.false c.byte_number-headers.ensures.is c.if-headers-gt-MOST_HEADERS.true)
 
-returns-3 : tie.Need-returns-3
+returns-3 : tie.Need-returns-then-scopes-gt-MOST_SCOPES
 returns-3 c =
-    let start : tie.Start = search in
-    let else1 : tie.Else1 = search in
-    let headers : tie.After-byte-number = search in
-    c.broken3.ensures ∙ sym (many-scopes start.args.table.now else1.if1.left headers.byte-number.ensures.is c.before.before.before.if2.false c.before.before.u16-number.ensures.is c.before.if3.true)
+    c.broken-then-scopes-gt-MOST_SCOPES.ensures ∙ sym (many-scopes c.args.table.now c.if-size-lt-HEADER_AT.false c.byte_number-headers.ensures.is c.if-headers-gt-MOST_HEADERS.false c.u16_number-scopes.ensures.is c.if-scopes-gt-MOST_SCOPES.true)
 
-returns-4 : tie.Need-returns-4
-returns-4 c = c.broken4.ensures ∙ sym (contents-short (counts c.before.before) c.before.if4.true)
+returns-4 : tie.Need-returns-then-size-bodies
+returns-4 c = c.broken-then-size-bodies.ensures ∙ sym (contents-short (counts c.before.before) c.if-size-bodies.true)
 
-scope-break-requires : tie.Need-scope-break-requires
+scope-break-requires : tie.Need-scope_break-found-requires
 scope-break-requires c κs =
-    let else3 : tie.Else3 = search in
+    let else3 : tie.Else-scopes-gt-MOST_SCOPES = search in
     omega (arith, (counts else3).few, (counts else3).some)
 
-body-break-requires : tie.Need-body-break-requires
+body-break-requires : tie.Need-body_break-requires
 body-break-requires c κs =
-    let start : tie.Start = search in
-    let else3 : tie.Else3 = search in
-    let else4 : tie.Else4 = search in
+    let else3 : tie.Else-scopes-gt-MOST_SCOPES = search in
     let n = counts else3 in
     record {
       contents-are = omega (arith, n.headers-are);
       bodies_are = omega (arith, n.headers-are, n.scopes-are);
       scopes-are = n.scopes-are;
       few = n.some;
-      there = else4.if4.left;
-      short = start.pre;
+      there = c.if-size-bodies.false;
+      short = c.requires;
     }
 
-returns-5 : tie.Need-returns-5
+returns-5 : tie.Need-returns-then-found-ne0
 returns-5 c =
-    let else3 : tie.Else3 = search in
-    let f = c.before.before.header-break in
-    sym (contents-there (counts else3) c.before.before.before.if4.false f.ensures ∙ here f.result _ c.if5.true)
+    let else3 : tie.Else-scopes-gt-MOST_SCOPES = search in
+    let f = c.header_break-found in
+    sym (contents-there (counts else3) c.if-size-bodies.false f.ensures ∙ here f.result _ c.if-found-ne0.true)
 
-returns-6 : tie.Need-returns-6
+returns-6 : tie.Need-returns-then-found-ne0-2
 returns-6 c =
-    let else3 : tie.Else3 = search in
-    let else4 : tie.Else4 = search in
-    let after-header-break : tie.After-header-break = search in
-    let f = after-header-break.header-break in
-    let g = c.before.before.scope-break in
+    let else3 : tie.Else-scopes-gt-MOST_SCOPES = search in
+    let f = c.header_break-found in
+    let g = c.scope_break-found in
     sym
-    (contents-there (counts else3) else4.if4.left f.ensures
-    ∙ later f.result _ c.before.before.before.if5.false
+    (contents-there (counts else3) c.if-size-bodies.false f.ensures
+    ∙ later f.result _ c.if-found-ne0.false
     ∙ next-is _ g.ensures
-    ∙ here g.result _ c.if6.true)
+    ∙ here g.result _ c.if-found-ne0-2.true)
 
-returns-7 : tie.Need-returns-7
+returns-7 : tie.Need-returns
 returns-7 c =
-    let else3 : tie.Else3 = search in
-    let else4 : tie.Else4 = search in
-    let else5 : tie.Else5 = search in
-    let after-header-break : tie.After-header-break = search in
-    let f = after-header-break.header-break in
-    let g = c.before.before.before.scope-break in
-    c.body-break.ensures
+    let else3 : tie.Else-scopes-gt-MOST_SCOPES = search in
+    let f = c.header_break-found in
+    let g = c.scope_break-found in
+    c.body_break.ensures
     ∙ sym
-    (contents-there (counts else3) else4.if4.left f.ensures
-    ∙ later f.result _ else5.if5.left
+    (contents-there (counts else3) c.if-size-bodies.false f.ensures
+    ∙ later f.result _ c.if-found-ne0.false
     ∙ next-is _ g.ensures
-    ∙ later g.result _ c.before.if6.false)
+    ∙ later g.result _ c.if-found-ne0-2.false)
 
-pub search-spec : {M : Type 1} → statement M
-search-spec =
+pub search_spec : {M : Type 1} → statement M
+search_spec =
     tie.close
     (tie.spec
     (λ c. omega arith) (λ c κs. omega arith)
     returns
     (λ c κs. search rules)
-    (λ c κs. omega (arith, c.before.byte-number.ensures.small))
+    (λ c κs. omega (arith, c.byte_number-headers.ensures.small))
     returns-2
     (λ c κs. omega arith)
-    (λ c κs. omega (arith, c.before.u16-number.ensures.small))
+    (λ c κs. omega (arith, c.u16_number-scopes.ensures.small))
     returns-3
     (λ c. omega (arith, (counts c).few, (counts c).some))
     (λ c. omega (arith, (counts c).few, (counts c).some))

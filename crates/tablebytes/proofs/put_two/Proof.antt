@@ -4,10 +4,10 @@ use Rattle.tablebytes.proofs.put_two.Statement.{statement}
 use Rattle.tablebytes.proofs.put_two.Tie as tie
 
 returns : tie.Need-returns
-returns c = let low : tie.After-put-byte = search in low.put_byte.ensures ⨟ c.before.before.put-byte2.ensures
+returns c = c.put_byte-p.ensures ⨟ c.put_byte.ensures
 
-pub put-two-spec : {M : Type 1} → statement M
-put-two-spec =
+pub put_two_spec : {M : Type 1} → statement M
+put_two_spec =
     tie.close
     (tie.spec
     (λ c. search rules) (λ c κs. search rules) (λ c. search rules) (λ c κs. search rules) (λ c. search rules)

@@ -3,10 +3,10 @@ use Rattle.tablebytes.proofs.row_at.Statement.{statement}
 use Rattle.tablebytes.proofs.row_at.Tie as tie
 
 returns : tie.Need-returns
-returns c = let r = c.before.before.before.read-row.ensures in λ i. record { id = r.id.is i; target = r.target.is i; kind = r.kind.is i }
+returns c = let r = c.read_row-row.ensures in λ i. record { id = r.id.is i; target = r.target.is i; kind = r.kind.is i }
 
-pub row-at-spec : {M : Type 1} → statement M
-row-at-spec =
+pub row_at_spec : {M : Type 1} → statement M
+row_at_spec =
     tie.close
     (tie.spec
     (λ c κs. search rules) (λ c. search rules) (λ c. search rules) (λ c. search rules)

@@ -6,16 +6,15 @@ use Rattle.tablejoin.proofs.Printing.{all-printed}
 use Rattle.tablejoin.proofs.run.Statement.{statement}
 use Rattle.tablejoin.proofs.run.Tie as tie
 
-slice-reshare-prefix-print : tie.Need-slice-reshare-prefix-print
-slice-reshare-prefix-print c = within c.before.before.write-input.ensures
+slice-reshare-prefix-print : tie.Need-slice_bounds-print-end
+slice-reshare-prefix-print c = within c.write_input-end.ensures
 
-slice-aggregate-print : tie.Need-slice-aggregate-print
-slice-aggregate-print c = let w = c.before.before.before.write-input in sym (length-take-le w.result _ (within w.ensures))
+slice-aggregate-print : tie.Need-slice_bounds-print-end-2
+slice-aggregate-print c = let w = c.write_input-end in sym (length-take-le w.result _ (within w.ensures))
 
 print-requires : tie.Need-print-requires
 print-requires c κs =
-    let start : tie.Start = search in
-    let p = start.pre in all-printed p.reads_all c.before.before.before.write-input.ensures p.says_all
+    let p = c.requires in all-printed p.reads_all c.write_input-end.ensures p.says_all
 
 pub run_spec : {M : Type 1} → statement M
 run_spec =

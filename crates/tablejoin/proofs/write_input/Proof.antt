@@ -5,25 +5,20 @@ use Rattle.tablejoin.proofs.Printing.{input_short, input_cut, tables_wrote}
 use Rattle.tablejoin.proofs.write_input.Statement.{statement}
 use Rattle.tablejoin.proofs.write_input.Tie as tie
 
-returns : tie.Need-returns
+returns : tie.Need-returns-then-input-lt-LENGTH_SIZE
 returns c =
-    let start : tie.Start = search in
-    rw (input_short start.args.input.now (omega arith)) c.before.before.write-refusal.ensures
+    rw (input_short c.args.input.now (omega arith)) c.write_refusal.ensures
 
-returns-2 : tie.Need-returns-2
+returns-2 : tie.Need-returns-then-input-size
 returns-2 c =
-    let after-u32-at : tie.After-u32-at = search in
-    let start : tie.Start = search in
-    rw (input_cut start.args.input.now (omega arith) (omega (arith, after-u32-at.u32-at.ensures))) c.before.before.write-refusal2.ensures
+    rw (input_cut c.args.input.now (omega arith) (omega (arith, c.u32_at-size.ensures))) c.write_refusal-then-input-size.ensures
 
-returns-3 : tie.Need-returns-3
+returns-3 : tie.Need-returns
 returns-3 c =
-    let after-u32-at : tie.After-u32-at = search in
-    let start : tie.Start = search in
-    let z = after-u32-at.u32-at in tables_wrote start.args.input.now (omega arith) z.result z.ensures (omega arith) refl refl c.before.before.write-said.ensures
+    let z = c.u32_at-size in tables_wrote c.args.input.now (omega arith) z.result z.ensures (omega arith) refl refl c.write_said.ensures
 
-pub write-input-spec : {M : Type 1} → statement M
-write-input-spec =
+pub write_input_spec : {M : Type 1} → statement M
+write_input_spec =
     tie.close
     (tie.spec
     (λ c κs. search rules) (λ c. search rules)

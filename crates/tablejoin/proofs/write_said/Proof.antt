@@ -10,43 +10,33 @@ use Rattle.tablejoin.proofs.Exits.{said-refused, said-joined, first_fits}
 use Rattle.tablejoin.proofs.write_said.Statement.{statement}
 use Rattle.tablejoin.proofs.write_said.Tie as tie
 
-returns : tie.Need-returns
+returns : tie.Need-returns-then-a-ne0
 unfolding room
 returns c =
-    let after-answer-line : tie.After-answer-line = search in
-    let after-join : tie.After-join = search in
-    let start : tie.Start = search in
-    let a = start.args in
-    let j = after-join.join in
-    rw (said-refused a.one.now a.other.now j.ensures.0 (λ e. omega arith)) (after-answer-line.answer-line.ensures ⨟ c.before.before.put-why.ensures)
+    let a = c.args in
+    let j = c.join-a in
+    rw (said-refused a.one.now a.other.now j.ensures.0 (λ e. omega arith)) (c.answer_line-p.ensures ⨟ c.put_why.ensures)
 
-array-share-prefix-table : tie.Need-array-share-prefix-table
+array-share-prefix-table : tie.Need-slice_bounds-table-end
 unfolding room
 array-share-prefix-table c =
-    let after-join : tie.After-join = search in
-    let start : tie.Start = search in
-    let a = start.args in
-    let j = after-join.join in
-    omega (arith, first_fits a.one.now a.other.now j.ensures.0 (omega (arith, c.before.before.if1.false)), j.kept, length-replicate {A = ℕ} 65100 0)
+    let a = c.args in
+    let j = c.join-a in
+    omega (arith, first_fits a.one.now a.other.now j.ensures.0 (omega (arith, c.if-a-ne0.false)), j.kept, length-replicate {A = ℕ} 65100 0)
 
-slice-aggregate-put-text : tie.Need-slice-aggregate-put-text
+slice-aggregate-put-text : tie.Need-slice_bounds-put_text-end
 slice-aggregate-put-text c =
-    let after-join : tie.After-join = search in
-    sym (length-take-le after-join.join.result.first _ (array-share-prefix-table c.before))
+    sym (length-take-le c.join-a.result.first _ (array-share-prefix-table c.before))
 
-returns-2 : tie.Need-returns-2
+returns-2 : tie.Need-returns
 unfolding room
 returns-2 c =
-    let else1 : tie.Else1 = search in
-    let after-answer-line : tie.After-answer-line = search in
-    let after-join : tie.After-join = search in
-    let start : tie.Start = search in
-    let a = start.args in
-    let j = after-join.join in
-    rw (said-joined a.one.now a.other.now j.ensures.0 j.ensures.1 (omega (arith, else1.if1.left))) (after-answer-line.answer-line.ensures ⨟ c.before.before.put-text.ensures)
+    let a = c.args in
+    let j = c.join-a in
+    rw (said-joined a.one.now a.other.now j.ensures.0 j.ensures.1 (omega (arith, c.if-a-ne0.false))) (c.answer_line-p.ensures ⨟ c.put_text.ensures)
 
-pub write-said-spec : {M : Type 1} → statement M
-write-said-spec =
+pub write_said_spec : {M : Type 1} → statement M
+write_said_spec =
     tie.close
     (tie.spec
     (λ c. search rules) (λ c κs. search rules) (λ c κs. search rules) (λ c κs. search rules) (λ c. search rules)

@@ -5,17 +5,17 @@ use native.Mathlib.Omega.{arith}
 use Rattle.tablelines.proofs.byte_of.Statement.{statement}
 use Rattle.tablelines.proofs.byte_of.Tie as tie
 
-returns : tie.Need-returns
-returns c = sym (no-high c.before.before.digit-of.ensures c.before.digit-of2.ensures c.if1.true)
+returns : tie.Need-returns-then-high-eq-NO_DIGIT
+returns c = sym (no-high c.digit_of-high.ensures c.digit_of-low.ensures c.if-high-eq-NO_DIGIT.true)
 
-returns-2 : tie.Need-returns-2
-returns-2 c = sym (no-low c.before.before.before.digit-of.ensures c.before.before.digit-of2.ensures c.before.if1.false c.if2.true)
+returns-2 : tie.Need-returns-then-low-eq-NO_DIGIT
+returns-2 c = sym (no-low c.digit_of-high.ensures c.digit_of-low.ensures c.if-high-eq-NO_DIGIT.false c.if-low-eq-NO_DIGIT.true)
 
-returns-3 : tie.Need-returns-3
-returns-3 c = sym (a_byte c.before.before.before.digit-of.ensures c.before.before.digit-of2.ensures c.before.if1.false c.if2.false)
+returns-3 : tie.Need-returns
+returns-3 c = sym (a_byte c.digit_of-high.ensures c.digit_of-low.ensures c.if-high-eq-NO_DIGIT.false c.if-low-eq-NO_DIGIT.false)
 
-pub byte-of-spec : {M : Type 1} → statement M
-byte-of-spec =
+pub byte_of_spec : {M : Type 1} → statement M
+byte_of_spec =
     tie.close
     (tie.spec
     (λ c κs. search rules) (λ c κs. search rules)

@@ -3,8 +3,8 @@ use native.Mathlib.Omega.{arith}
 use Rattle.tablelines.proofs.digit_of.Statement.{statement}
 use Rattle.tablelines.proofs.digit_of.Tie as tie
 
-pub digit-of-spec : {M : Type 1} → statement M
-digit-of-spec =
+pub digit_of_spec : {M : Type 1} → statement M
+digit_of_spec =
     tie.close
     (tie.spec
     (λ c. let start : tie.Start = search in omega (arith, before_digits start.args.b (omega arith)))

@@ -6,13 +6,12 @@ use native.Mathlib.Omega.{arith}
 use Rattle.tablelines.proofs.four_of.Statement.{statement}
 use Rattle.tablelines.proofs.four_of.Tie as tie
 
-returns : tie.Need-returns
+returns : tie.Need-returns-then-word-eq4
 returns c =
-    let high : tie.After-byte-of = search in
-    c.code_of_lem.ensures ∙ (λ i. code_of (high.byte_of.ensures i) (c.before.byte-of2.ensures i)) ∙ sym (four_digits_lem _ (omega arith))
+    c.code_of.ensures ∙ (λ i. code_of (c.byte_of.ensures i) (c.byte_of-then-word-eq4.ensures i)) ∙ sym (four_digits_lem _ (omega arith))
 
-pub four-of-spec : {M : Type 1} → statement M
-four-of-spec =
+pub four_of_spec : {M : Type 1} → statement M
+four_of_spec =
     tie.close
     (tie.spec
     (λ c. omega arith) (λ c. omega arith) (λ c κs. search rules) (λ c. omega arith) (λ c. omega arith) (λ c κs. search rules) (λ c κs. search rules)

@@ -9,17 +9,17 @@ use native.Mathlib.Omega.{arith}
 use Rattle.tablelines.proofs.header_item.Statement.{statement}
 use Rattle.tablelines.proofs.header_item.Tie as tie
 
-numbered : (c : tie.After-number-fault) →
+numbered : (c : tie.After-number_fault-fault) →
     let start : tie.Start = search in
-    Numbered 65535 four_digits start.args.third.now (four_of start.args.second.now) c.before.four-of.result c.number-fault.result
-numbered c = record { is = c.before.four-of.ensures; found = c.number-fault.ensures }
+    Numbered 65535 four_digits start.args.third.now (four_of start.args.second.now) c.four_of-code.result c.number_fault-fault.result
+numbered c = record { is = c.four_of-code.ensures; found = c.number_fault-fault.ensures }
 
-pub header-item-spec : {M : Type 1} → statement M
+pub header_item_spec : {M : Type 1} → statement M
 unfolding header_item
-header-item-spec =
+header_item_spec =
     tie.close
     (tie.spec
     (λ c κs. search rules) (λ c κs. search rules) (λ c κs. search rules)
-    (λ c. c.bad.ensures ∙ number_bad (numbered c.before.before) Header c.before.if1.true)
-    (λ c. omega (arith, read_fits (numbered c.before) (λ e. omega arith) c.if1.false))
-    (λ c. number-made (numbered c.before) Header c.if1.false))
+    (λ c. c.bad.ensures ∙ number_bad (numbered c.before.before) Header c.if-fault-ne0.true)
+    (λ c. omega (arith, read_fits (numbered c.before) (λ e. omega arith) c.if-fault-ne0.false))
+    (λ c. number-made (numbered c.before) Header c.if-fault-ne0.false))

@@ -9,17 +9,17 @@ use native.Mathlib.Omega.{arith}
 use Rattle.tablelines.proofs.layout_item.Statement.{statement}
 use Rattle.tablelines.proofs.layout_item.Tie as tie
 
-numbered : (c : tie.After-number-fault) →
+numbered : (c : tie.After-number_fault-fault) →
     let start : tie.Start = search in
-    Numbered 255 two_digits_lem start.args.third.now (two_of start.args.second.now) c.before.two-of.result c.number-fault.result
-numbered c = record { is = c.before.two-of.ensures; found = c.number-fault.ensures }
+    Numbered 255 two_digits_lem start.args.third.now (two_of start.args.second.now) c.two_of-byte.result c.number_fault-fault.result
+numbered c = record { is = c.two_of-byte.ensures; found = c.number_fault-fault.ensures }
 
-pub layout-item-spec : {M : Type 1} → statement M
+pub layout_item_spec : {M : Type 1} → statement M
 unfolding layout_item
-layout-item-spec =
+layout_item_spec =
     tie.close
     (tie.spec
     (λ c κs. search rules) (λ c κs. search rules) (λ c κs. search rules)
-    (λ c. c.bad.ensures ∙ number_bad (numbered c.before.before) Layout c.before.if1.true)
-    (λ c. omega (arith, read_fits (numbered c.before) (λ e. omega arith) c.if1.false))
-    (λ c. number-made (numbered c.before) Layout c.if1.false))
+    (λ c. c.bad.ensures ∙ number_bad (numbered c.before.before) Layout c.if-fault-ne0.true)
+    (λ c. omega (arith, read_fits (numbered c.before) (λ e. omega arith) c.if-fault-ne0.false))
+    (λ c. number-made (numbered c.before) Layout c.if-fault-ne0.false))

@@ -6,16 +6,15 @@ use native.Mathlib.Omega.{arith}
 use Rattle.tablelines.proofs.line_at.Statement.{statement}
 use Rattle.tablelines.proofs.line_at.Tie as tie
 
-slice-aggregate-item-in : tie.Need-slice-aggregate-item-in
-slice-aggregate-item-in c = sym (length-take-le c.before.until2.result _ c.before.until2.ensures.to)
+slice-aggregate-item-in : tie.Need-slice_bounds-item_in-end
+slice-aggregate-item-in c = sym (length-take-le c.until-said.result _ c.until-said.ensures.to)
 
 returns : tie.Need-returns
 returns c =
-    let after-until : tie.After-until = search in
-    line-found (omega arith) after-until.until.ensures c.before.before.until2.ensures c.item_in.ensures
+    line-found (omega arith) c.until-end.ensures c.until-said.ensures c.item_in-item.ensures
 
-pub line-at-spec : {M : Type 1} → statement M
-line-at-spec =
+pub line_at_spec : {M : Type 1} → statement M
+line_at_spec =
     tie.close
     (tie.spec
     (λ c κs. omega arith) (λ c. search rules) (λ c. search rules) (λ c. search rules) (λ c κs. search rules)

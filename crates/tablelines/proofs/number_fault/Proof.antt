@@ -4,8 +4,8 @@ use native.Mathlib.Omega.{arith}
 use Rattle.tablelines.proofs.number_fault.Statement.{statement}
 use Rattle.tablelines.proofs.number_fault.Tie as tie
 
-pub number-fault-spec : {M : Type 1} → statement M
-number-fault-spec =
+pub number_fault_spec : {M : Type 1} → statement M
+number_fault_spec =
     tie.close
     (tie.spec
     (λ c. sym (number_more _ _ _ _ (omega arith)))

@@ -12,42 +12,38 @@ record Left (a b : List ℕ) (p : ℕ) : Type 0 where
   lengths : length a ≡ length b
   decide : same a b ≡ same (drop p a) (drop p b)
 
-abbrev invariant-loop : tie.invariant-loop
+abbrev invariant-loop : tie.invariant-loop-p
 invariant-loop a b p₀ p = Left a b p
 
-abbrev decreases-loop : tie.decreases-loop
+abbrev decreases-loop : tie.decreases-loop-p
 decreases-loop a b p₀ p = length a - p
 
-returns : tie.Need-returns invariant-loop decreases-loop
-returns c = let a = c.before.args in sym (other_length a.a.now a.b.now c.if1.true)
+returns : tie.Need-returns-then-a-b invariant-loop decreases-loop
+returns c = let a = c.args in sym (other_length a.a.now a.b.now c.if-a-b.true)
 
-loop-holds : tie.Need-loop-init invariant-loop decreases-loop
+loop-holds : tie.Need-loop-p-init invariant-loop decreases-loop
 loop-holds c = record { lengths = omega arith; decide = refl }
 
-returns-2 : tie.Need-returns-2 invariant-loop decreases-loop
+returns-2 : tie.Need-returns-then-a-p invariant-loop decreases-loop
 returns-2 c =
-    let start : tie.Start invariant-loop decreases-loop = search in
-    let loop : tie.At-loop invariant-loop decreases-loop = search in
-    let a = start.args in
-    let l = loop.loop in
-    sym (l.inv.decide ∙ other_byte a.a.now a.b.now l.p (omega arith) (omega arith) c.if2.true)
+    let a = c.args in
+    let l = c.loop-p in
+    sym (l.invariant.decide ∙ other_byte a.a.now a.b.now l.p (omega arith) (omega arith) c.if-a-p.true)
 
-loop-again : tie.Need-loop-preserved invariant-loop decreases-loop
+loop-again : tie.Need-loop-p-preserved invariant-loop decreases-loop
 loop-again c =
-    let start : tie.Start invariant-loop decreases-loop = search in
-    let loop : tie.At-loop invariant-loop decreases-loop = search in
-    let a = start.args in
-    let l = loop.loop in
-    record { lengths = l.inv.lengths; decide = l.inv.decide ∙ same_byte a.a.now a.b.now l.p (omega arith) (omega arith) (omega arith) }
+    let a = c.args in
+    let l = c.loop-p in
+    record { lengths = l.invariant.lengths; decide = l.invariant.decide ∙ same_byte a.a.now a.b.now l.p (omega arith) (omega arith) (omega arith) }
 
-returns-3 : tie.Need-returns-3 invariant-loop decreases-loop
+returns-3 : tie.Need-returns invariant-loop decreases-loop
 returns-3 c =
-    let a = c.before.before.before.args in
-    let l = c.before.loop in
+    let a = c.args in
+    let l = c.loop-p in
     sym (l.invariant.decide ∙ same_end a.a.now a.b.now l.p (omega arith) (omega arith))
 
-pub same-word-spec : {M : Type 1} → statement M
-same-word-spec =
+pub same_word_spec : {M : Type 1} → statement M
+same_word_spec =
     tie.close
     (tie.spec
     invariant-loop

@@ -5,8 +5,8 @@ use native.Mathlib.Omega.{arith}
 use Rattle.tablelines.proofs.two_of.Statement.{statement}
 use Rattle.tablelines.proofs.two_of.Tie as tie
 
-pub two-of-spec : {M : Type 1} → statement M
-two-of-spec =
+pub two_of_spec : {M : Type 1} → statement M
+two_of_spec =
     tie.close
     (tie.spec
     (λ c. omega arith) (λ c. omega arith) (λ c κs. search rules)

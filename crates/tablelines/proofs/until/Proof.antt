@@ -13,39 +13,35 @@ record Searched (search : ℕ) (s : List ℕ) (at p : ℕ) : Type 0 where
   to : p ≤ length s
   skipped : Skipped search s at p
 
-abbrev invariant-loop : tie.invariant-loop
+abbrev invariant-loop : tie.invariant-loop-p
 invariant-loop s at search p₀ p = Searched search s at p
 
-abbrev decreases-loop : tie.decreases-loop
+abbrev decreases-loop : tie.decreases-loop-p
 decreases-loop s at search p₀ p = length s - p
 
-loop-holds : tie.Need-loop-init invariant-loop decreases-loop
-loop-holds c = let a = c.before.args in record { from = omega arith; to = omega arith; skipped = none_skipped a.search a.s.now a.at }
+loop-holds : tie.Need-loop-p-init invariant-loop decreases-loop
+loop-holds c = let a = c.args in record { from = omega arith; to = omega arith; skipped = none_skipped a.search a.s.now a.at }
 
-returns : tie.Need-returns invariant-loop decreases-loop
+returns : tie.Need-returns-then-stops invariant-loop decreases-loop
 returns c =
-    let start : tie.Start invariant-loop decreases-loop = search in
-    let loop : tie.At-loop invariant-loop decreases-loop = search in
-    let a = start.args in
-    let l = loop.loop in
-    found a.search a.s.now l.p l.inv.to (λ h. sym c.before.stops.ensures ∙ c.if1.true) a.at l.inv.from l.inv.skipped
+    let a = c.args in
+    let l = c.loop-p in
+    found a.search a.s.now l.p l.invariant.to (λ h. sym c.stops.ensures ∙ c.if-stops.true) a.at l.invariant.from l.invariant.skipped
 
-loop-again : tie.Need-loop-preserved invariant-loop decreases-loop
+loop-again : tie.Need-loop-p-preserved invariant-loop decreases-loop
 loop-again c =
-    let start : tie.Start invariant-loop decreases-loop = search in
-    let loop : tie.At-loop invariant-loop decreases-loop = search in
-    let a = start.args in
-    let l = loop.loop in
-    record { from = omega arith; to = omega arith; skipped = one_skipped a.search a.s.now a.at l.p l.inv.skipped (sym c.before.stops.ensures ∙ c.if1.false) }
+    let a = c.args in
+    let l = c.loop-p in
+    record { from = omega arith; to = omega arith; skipped = one_skipped a.search a.s.now a.at l.p l.invariant.skipped (sym c.stops.ensures ∙ c.if-stops.false) }
 
-returns-2 : tie.Need-returns-2 invariant-loop decreases-loop
+returns-2 : tie.Need-returns invariant-loop decreases-loop
 returns-2 c =
-    let l = c.before.loop in
-    let a = c.before.before.before.args in
-    found a.search a.s.now l.p l.invariant.to (λ h. absurd (omega (arith, c.loop-test.false))) a.at l.invariant.from l.invariant.skipped
+    let l = c.loop-p in
+    let a = c.args in
+    found a.search a.s.now l.p l.invariant.to (λ h. absurd (omega (arith, c.loop-p-test.false))) a.at l.invariant.from l.invariant.skipped
 
-pub until-spec : {M : Type 1} → statement M
-until-spec =
+pub until_spec : {M : Type 1} → statement M
+until_spec =
     tie.close
     (tie.spec
     invariant-loop

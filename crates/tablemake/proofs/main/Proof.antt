@@ -6,10 +6,10 @@ use borrow.Author.Rules.{rules}
 use Rattle.tablemake.proofs.main.Statement.{statement}
 use Rattle.tablemake.proofs.main.Tie as tie
 
-slice-aggregate-run : tie.Need-slice-aggregate-run
+slice-aggregate-run : tie.Need-slice_bounds-run-end
 slice-aggregate-run c = sym (length-replicate {A = ℕ} 2097153 0)
 
-slice-aggregate-run-2 : tie.Need-slice-aggregate-run-2
+slice-aggregate-run-2 : tie.Need-slice_bounds-run-end-2
 slice-aggregate-run-2 c = sym (length-replicate {A = ℕ} 65100 0)
 
 run-requires : tie.Need-run-requires

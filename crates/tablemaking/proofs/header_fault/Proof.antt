@@ -4,28 +4,23 @@ use native.Mathlib.Omega.{arith}
 use Rattle.tablemaking.proofs.header_fault.Statement.{statement}
 use Rattle.tablemaking.proofs.header_fault.Tie as tie
 
-returns : tie.Need-returns
-returns c = let a = c.before.before.args in sym (late a.seen a.code (omega (arith, c.if1.true)))
+returns : tie.Need-returns-then-seen-gt0
+returns c = let a = c.args in sym (late a.seen a.code (omega (arith, c.if-seen-gt0.true)))
 
-returns-2 : tie.Need-returns-2
+returns-2 : tie.Need-returns-then-code-seen
 returns-2 c =
-    let start : tie.Start = search in
-    let a = start.args in sym (header-low a.seen a.code (omega (arith, c.before.before.if1.false)) (omega (arith, c.if2.true)))
+    let a = c.args in sym (header-low a.seen a.code (omega (arith, c.if-seen-gt0.false)) (omega (arith, c.if-code-seen.true)))
 
-returns-3 : tie.Need-returns-3
+returns-3 : tie.Need-returns-then-seen-ge-MOST_HEADERS
 returns-3 c =
-    let else1 : tie.Else1 = search in
-    let start : tie.Start = search in
-    let a = start.args in sym (header-many a.seen a.code (omega (arith, else1.if1.left)) (omega (arith, c.before.before.if2.false)) (omega (arith, c.if3.true)))
+    let a = c.args in sym (header-many a.seen a.code (omega (arith, c.if-seen-gt0.false)) (omega (arith, c.if-code-seen.false)) (omega (arith, c.if-seen-ge-MOST_HEADERS.true)))
 
-returns-4 : tie.Need-returns-4
+returns-4 : tie.Need-returns
 returns-4 c =
-    let else1 : tie.Else1 = search in
-    let start : tie.Start = search in
-    let a = start.args in sym (header-kept a.seen a.code (omega (arith, else1.if1.left)) (omega (arith, c.before.before.if2.false)) (omega (arith, c.if3.false)))
+    let a = c.args in sym (header-kept a.seen a.code (omega (arith, c.if-seen-gt0.false)) (omega (arith, c.if-code-seen.false)) (omega (arith, c.if-seen-ge-MOST_HEADERS.false)))
 
-pub header-fault-spec : {M : Type 1} → statement M
-header-fault-spec =
+pub header_fault_spec : {M : Type 1} → statement M
+header_fault_spec =
     tie.close
     (tie.spec
     returns

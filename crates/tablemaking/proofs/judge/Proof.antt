@@ -20,70 +20,65 @@ record Left (s : List ℕ) (seen : Seen) (lines at : ℕ) : Type 0 where
   within : at ≤ length s + 1
   short : length s ≤ longest_text
 
-abbrev invariant-loop : tie.invariant-loop
+abbrev invariant-loop : tie.invariant-loop-at
 invariant-loop text seen₀ lines₀ at₀ seen lines at = Left text seen lines at
 
-abbrev decreases-loop : tie.decreases-loop
+abbrev decreases-loop : tie.decreases-loop-at
 decreases-loop text seen₀ lines₀ at₀ seen lines at = length text + 1 - at
 
-loop-holds : tie.Need-loop-init invariant-loop decreases-loop
+loop-holds : tie.Need-loop-at-init invariant-loop decreases-loop
 loop-holds c =
-    let n = c.nothing_Seen in
+    let n = c.nothing_seen-seen in
     record {
-      decide = ap (λ (x : Seen). judge_from x 0 (items_of c.before.before.args.text.now)) (sym n.ensures);
+      decide = ap (λ (x : Seen). judge_from x 0 (items_of c.args.text.now)) (sym n.ensures);
       few = few-none n.result n.ensures;
       counted = omega arith;
       within = omega arith;
       short = omega arith;
     }
 
-returns : tie.Need-returns invariant-loop decreases-loop
+returns : tie.Need-returns-then-fault-ne0 invariant-loop decreases-loop
 unfolding judged
 returns c =
-    let at-loop : tie.At-loop invariant-loop decreases-loop = search in
-    let l = at-loop.loop in
-    c.broken.ensures ∙ sym (l.inv.decide ∙ fault_found l.seen l.lines c.before.before.before.line_at_lem.ensures c.before.before.fault-of.ensures c.before.if1.true)
+    let l = c.loop-at in
+    c.broken.ensures ∙ sym (l.invariant.decide ∙ fault_found l.seen l.lines c.line_at-line.ensures c.fault_of-fault.ensures c.if-fault-ne0.true)
 
-after-requires : tie.Need-after-requires invariant-loop decreases-loop
+after-requires : tie.Need-after-seen-requires invariant-loop decreases-loop
 after-requires c κs =
-    let at-loop : tie.At-loop invariant-loop decreases-loop = search in
-    let i = at-loop.loop.inv in
+    let i = c.loop-at.invariant in
     record { few = i.few; short = omega (arith, i.counted, i.within, i.short) }
 
-loop-less : tie.Need-loop-smaller invariant-loop decreases-loop
-loop-less c = omega (arith, c.before.before.before.line_at_lem.ensures.on)
+loop-less : tie.Need-loop-at-smaller invariant-loop decreases-loop
+loop-less c = omega (arith, c.line_at-line.ensures.on)
 
-loop-again : tie.Need-loop-preserved invariant-loop decreases-loop
+loop-again : tie.Need-loop-at-preserved invariant-loop decreases-loop
 loop-again c =
-    let start : tie.Start invariant-loop decreases-loop = search in
-    let at-loop : tie.At-loop invariant-loop decreases-loop = search in
-    let l = at-loop.loop in
-    let i = l.inv in
-    let line = c.before.before.before.line_at_lem in
-    let r = c.after in
+    let l = c.loop-at in
+    let i = l.invariant in
+    let line = c.line_at-line in
+    let r = c.after-seen in
     record {
       decide =
           i.decide
-          ∙ no_fault l.seen l.lines line.ensures c.before.before.fault-of.ensures c.before.if1.false
-          ∙ ap (λ (x : Seen). judge_from x (l.lines + 1) (items_of (drop line.result.next start.args.text.now))) (sym r.ensures);
+          ∙ no_fault l.seen l.lines line.ensures c.fault_of-fault.ensures c.if-fault-ne0.false
+          ∙ ap (λ (x : Seen). judge_from x (l.lines + 1) (items_of (drop line.result.next c.args.text.now))) (sym r.ensures);
       few = rw r.ensures (few-after l.seen l.lines line.result.item i.few);
       counted = omega (arith, i.counted, line.ensures.on);
       within = line.ensures.within;
       short = i.short;
     }
 
-judge-end-requires : tie.Need-judge-end-requires invariant-loop decreases-loop
-judge-end-requires c κs = let i = c.before.loop.invariant in omega (arith, i.counted, i.within, i.short)
+judge-end-requires : tie.Need-judge_end-requires invariant-loop decreases-loop
+judge-end-requires c κs = let i = c.loop-at.invariant in omega (arith, i.counted, i.within, i.short)
 
-returns-2 : tie.Need-returns-2 invariant-loop decreases-loop
+returns-2 : tie.Need-returns invariant-loop decreases-loop
 unfolding judged
 returns-2 c =
-    let start : tie.Start invariant-loop decreases-loop = search in
-    let l = c.before.before.loop in
-    c.judge-end.ensures ∙ sym (l.invariant.decide ∙ judge_done start.args.text.now l.at l.seen l.lines (omega (arith, c.before.loop-test.false)))
+    let l = c.loop-at in
+    c.judge_end.ensures ∙ sym (l.invariant.decide ∙ judge_done c.args.text.now l.at l.seen l.lines (omega (arith, c.loop-at-test.false)))
 
-pub judge-spec : {M : Type 1} → statement M
-judge-spec =
+pub judge_spec : {M : Type 1} → statement M
+judge_spec =
     tie.close
     (tie.spec
     invariant-loop

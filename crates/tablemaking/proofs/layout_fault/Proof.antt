@@ -3,14 +3,14 @@ use Rattle.tablemaking.proofs.Judging.{first-layout, second-layout}
 use Rattle.tablemaking.proofs.layout_fault.Statement.{statement}
 use Rattle.tablemaking.proofs.layout_fault.Tie as tie
 
-returns : tie.Need-returns
-returns c = let a = c.before.before.args in sym (first-layout a.seen c.if1.true)
+returns : tie.Need-returns-then-seen-eq-UNNAMED
+returns c = let a = c.args in sym (first-layout a.seen c.if-seen-eq-UNNAMED.true)
 
-returns-2 : tie.Need-returns-2
-returns-2 c = let a = c.before.before.args in sym (second-layout a.seen c.if1.false)
+returns-2 : tie.Need-returns
+returns-2 c = let a = c.args in sym (second-layout a.seen c.if-seen-eq-UNNAMED.false)
 
-pub layout-fault-spec : {M : Type 1} → statement M
-layout-fault-spec =
+pub layout_fault_spec : {M : Type 1} → statement M
+layout_fault_spec =
     tie.close
     (tie.spec
     returns

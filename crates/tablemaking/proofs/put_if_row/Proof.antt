@@ -7,13 +7,13 @@ use borrow.Author.Rules.{rules}
 use Rattle.tablemaking.proofs.put_if_row.Statement.{statement}
 use Rattle.tablemaking.proofs.put_if_row.Tie as tie
 
-returns : tie.Need-returns
+returns : tie.Need-returns-in-Row
 unfolding row_bytes by_part_lem
-returns c = let row : tie.After-item = search in rw row.item.given.1 c.before.before.put-row.ensures
+returns c = rw c.in-Row.is c.put_row.ensures
 
-returns-2 : tie.Need-returns-2
+returns-2 : tie.Need-returns-in_default
 unfolding row_bytes
-returns-2 c = rw (no_row [] (λ id target kind. tie_bytes (tie_of_lem id target kind)) c.before.before.args.item c.match.keys2) nothing
+returns-2 c = rw (no_row [] (λ id target kind. tie_bytes (tie_of_lem id target kind)) c.args.item c.in_default.in_default-own.keys2) nothing
 
-pub put-if-row-spec : {M : Type 1} → statement M
-put-if-row-spec = tie.close (tie.spec (λ c. search rules) (λ c κs. search rules) (λ c. search rules) returns returns-2)
+pub put_if_row_spec : {M : Type 1} → statement M
+put_if_row_spec = tie.close (tie.spec (λ c. search rules) (λ c κs. search rules) (λ c. search rules) returns returns-2)

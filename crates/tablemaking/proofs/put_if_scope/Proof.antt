@@ -10,29 +10,24 @@ use native.Mathlib.Omega.{arith}
 use Rattle.tablemaking.proofs.put_if_scope.Statement.{statement}
 use Rattle.tablemaking.proofs.put_if_scope.Tie as tie
 
-cast-put-scope : tie.Need-overflow-cast-put-scope
+cast-put-scope : tie.Need-overflow_cast-rows_from
 cast-put-scope c =
-    let start : tie.Start = search in
-    let scope : tie.After-item = search in
-    let a = start.args in
-    omega (arith, c.rows-from.ensures, few_of a.item _ _ (items_of (drop a.next a.text.now)) scope.item.given.1 start.pre.few)
+    let a = c.args in
+    omega (arith, c.rows_from.ensures, few_of a.item _ _ (items_of (drop a.next a.text.now)) c.in-Scope.is c.requires.few)
 
-returns : tie.Need-returns
+returns : tie.Need-returns-in-Scope
 unfolding scope_said by_part_lem
 returns c =
-    let scope : tie.After-item = search in
-    let counted : tie.After-rows-from = search in
-    rw (scope.item.given.1, ← counted.rows-from.ensures) c.before.before.put-scope.ensures
+    rw (c.in-Scope.is, ← c.rows_from.ensures) c.put_scope.ensures
 
-returns-2 : tie.Need-returns-2
+returns-2 : tie.Need-returns-in_default
 unfolding scope_said
 returns-2 c =
-    let start : tie.Start = search in
-    let a = start.args in
-    rw (no-scope [] (λ kind code. scope_bytes (record { kind = kind; code = code; rows = rows_of (items_of (drop a.next a.text.now)) })) a.item c.match.keys2) nothing
+    let a = c.args in
+    rw (no-scope [] (λ kind code. scope_bytes (record { kind = kind; code = code; rows = rows_of (items_of (drop a.next a.text.now)) })) a.item c.in_default.in_default-own.keys2) nothing
 
-pub put-if-scope-spec : {M : Type 1} → statement M
-put-if-scope-spec =
+pub put_if_scope_spec : {M : Type 1} → statement M
+put_if_scope_spec =
     tie.close
     (tie.spec
     (λ c. search rules) (λ c κs. omega arith)

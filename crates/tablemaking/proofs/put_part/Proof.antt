@@ -3,20 +3,18 @@ use borrow.Author.Rules.{rules}
 use Rattle.tablemaking.proofs.put_part.Statement.{statement}
 use Rattle.tablemaking.proofs.put_part.Tie as tie
 
-returns : tie.Need-returns
+returns : tie.Need-returns-then-bodies
 unfolding part_bytes_lem
 returns c =
-    let then1 : tie.Then1 = search in
-    rw then1.if1.taken c.before.before.put-if-row.ensures
+    rw c.if-bodies.true c.put_if_row.ensures
 
-returns-2 : tie.Need-returns-2
+returns-2 : tie.Need-returns
 unfolding part_bytes_lem
 returns-2 c =
-    let else1 : tie.Else1 = search in
-    rw else1.if1.left c.before.before.put-if-header.ensures
+    rw c.if-bodies.false c.put_if_header.ensures
 
-pub put-part-spec : {M : Type 1} → statement M
-put-part-spec =
+pub put_part_spec : {M : Type 1} → statement M
+put_part_spec =
     tie.close
     (tie.spec
     (λ c κs. search rules) (λ c. search rules)

@@ -16,33 +16,30 @@ record ScopesLeft (s old : List ℕ) (at : ℕ) (now : List ℕ) (p place : ℕ)
   lines : Left scopes_said s old at now p place
   few : FewRows (items_of (drop place s))
 
-abbrev invariant-loop : tie.invariant-loop
+abbrev invariant-loop : tie.invariant-loop-place
 invariant-loop text out₀ at p₀ place₀ out p place = ScopesLeft text out₀ at out p place
 
-abbrev decreases-loop : tie.decreases-loop
+abbrev decreases-loop : tie.decreases-loop-place
 decreases-loop text out₀ at p₀ place₀ out p place = length text + 1 - place
 
-put-if-scope-requires : tie.Need-put-if-scope-requires invariant-loop decreases-loop
+put-if-scope-requires : tie.Need-put_if_scope-p-requires invariant-loop decreases-loop
 put-if-scope-requires c κs =
-    let start : tie.Start invariant-loop decreases-loop = search in
-    record { short = start.pre.short; few = subst (λ (items : List Item). FewRows items) c.before.line_at_lem.ensures.is c.before.before.before.loop.invariant.few }
+    record { short = c.requires.short; few = subst (λ (items : List Item). FewRows items) c.line_at-line.ensures.is c.loop-place.invariant.few }
 
-loop-again : tie.Need-loop-preserved invariant-loop decreases-loop
+loop-again : tie.Need-loop-place-preserved invariant-loop decreases-loop
 loop-again c =
-    let top : tie.At-loop invariant-loop decreases-loop = search in
-    let read : tie.After-line-at invariant-loop decreases-loop = search in
-    let line = read.line_at_lem.ensures in
-    let kept = top.loop.inv in
+    let line = c.line_at-line.ensures in
+    let kept = c.loop-place.invariant in
     record {
-      lines = line-put kept.lines line (a_scope-said _ _) c.before.before.put-if-scope.ensures;
+      lines = line-put kept.lines line (a_scope-said _ _) c.put_if_scope-p.ensures;
       few = few-rest _ _ (subst (λ (items : List Item). FewRows items) line.is kept.few);
     }
 
 returns : tie.Need-returns invariant-loop decreases-loop
-returns c = no-line-left c.before.loop.invariant.lines (omega (arith, c.loop-test.false)) no-scopes
+returns c = no-line-left c.loop-place.invariant.lines (omega (arith, c.loop-place-test.false)) no-scopes
 
-pub put-scopes-spec : {M : Type 1} → statement M
-put-scopes-spec =
+pub put_scopes_spec : {M : Type 1} → statement M
+put_scopes_spec =
     tie.close
     (tie.spec
     invariant-loop
@@ -50,7 +47,7 @@ put-scopes-spec =
     (λ c. record { lines = all_left; few = c.before.before.requires.few })
     (λ c κs. omega arith)
     put-if-scope-requires
-    (λ c. let read : tie.After-line-at invariant-loop decreases-loop = search in omega (arith, read.line_at_lem.ensures.on))
+    (λ c. let read : tie.After-line_at-line invariant-loop decreases-loop = search in omega (arith, read.line_at-line.ensures.on))
     loop-again
     (λ c. same (returns c))
     returns)

@@ -17,48 +17,43 @@ record Left (s : List ℕ) (from rows place : ℕ) : Type 0 where
   counted : rows ≤ place
   short : length s ≤ longest_text
 
-abbrev invariant-loop : tie.invariant-loop
+abbrev invariant-loop : tie.invariant-loop-place
 invariant-loop text from rows₀ place₀ rows place = Left text from rows place
 
-abbrev decreases-loop : tie.decreases-loop
+abbrev decreases-loop : tie.decreases-loop-place
 decreases-loop text from rows₀ place₀ rows place = length text + 1 - place
 
-returns : tie.Need-returns invariant-loop decreases-loop
+returns : tie.Need-returns-then-is_scope invariant-loop decreases-loop
 returns c =
-    let start : tie.Start invariant-loop decreases-loop = search in
-    let at-loop : tie.At-loop invariant-loop decreases-loop = search in
-    let line = c.before.before.line_at_lem in
-    let rest = items_of (drop line.result.next start.args.text.now) in
-    let e = ap (λ (items : List Item). length (rows_of items)) line.ensures.is ∙ rows_end line.result.item rest (sym c.before.is-scope.ensures ∙ c.if1.true) in
-    omega (arith, at-loop.loop.inv.total, e)
+    let line = c.line_at-line in
+    let rest = items_of (drop line.result.next c.args.text.now) in
+    let e = ap (λ (items : List Item). length (rows_of items)) line.ensures.is ∙ rows_end line.result.item rest (sym c.is_scope.ensures ∙ c.if-is_scope.true) in
+    omega (arith, c.loop-place.invariant.total, e)
 
-loop-again : tie.Need-loop-preserved invariant-loop decreases-loop
+loop-again : tie.Need-loop-place-preserved invariant-loop decreases-loop
 loop-again c =
-    let start : tie.Start invariant-loop decreases-loop = search in
-    let at-loop : tie.At-loop invariant-loop decreases-loop = search in
-    let i = at-loop.loop.inv in
-    let line = c.before.before.before.line_at_lem in
-    let rest = items_of (drop line.result.next start.args.text.now) in
-    let e = ap (λ (items : List Item). length (rows_of items)) line.ensures.is ∙ rows_on line.result.item rest (sym c.before.before.is-scope.ensures ∙ c.before.if1.false) in
-    let n = c.rows_in.ensures in
+    let i = c.loop-place.invariant in
+    let line = c.line_at-line in
+    let rest = items_of (drop line.result.next c.args.text.now) in
+    let e = ap (λ (items : List Item). length (rows_of items)) line.ensures.is ∙ rows_on line.result.item rest (sym c.is_scope.ensures ∙ c.if-is_scope.false) in
+    let n = c.rows_in-rows.ensures in
     record { total = omega (arith, i.total, e, n.is); counted = omega (arith, i.counted, line.ensures.on, n.small); short = i.short }
 
-loop-less : tie.Need-loop-smaller invariant-loop decreases-loop
-loop-less c = omega (arith, c.before.before.before.line_at_lem.ensures.on)
+loop-less : tie.Need-loop-place-smaller invariant-loop decreases-loop
+loop-less c = omega (arith, c.line_at-line.ensures.on)
 
-add-rows : tie.Need-overflow-add-rows invariant-loop decreases-loop
+add-rows : tie.Need-overflow_add-rows invariant-loop decreases-loop
 add-rows c =
-    let at-loop : tie.At-loop invariant-loop decreases-loop = search in
-    let i = at-loop.loop.inv in
-    omega (arith, i.counted, i.short, c.rows_in.ensures.small)
+    let i = c.loop-place.invariant in
+    omega (arith, i.counted, i.short, c.rows_in-rows.ensures.small)
 
-returns-2 : tie.Need-returns-2 invariant-loop decreases-loop
+returns-2 : tie.Need-returns invariant-loop decreases-loop
 returns-2 c =
-    let l = c.before.loop in
-    omega (arith, l.invariant.total, no-rows-left c.before.before.before.args.text.now l.place (omega (arith, c.loop-test.false)))
+    let l = c.loop-place in
+    omega (arith, l.invariant.total, no-rows-left c.args.text.now l.place (omega (arith, c.loop-place-test.false)))
 
-pub rows-from-spec : {M : Type 1} → statement M
-rows-from-spec =
+pub rows_from_spec : {M : Type 1} → statement M
+rows_from_spec =
     tie.close
     (tie.spec
     invariant-loop

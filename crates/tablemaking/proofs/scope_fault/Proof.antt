@@ -4,21 +4,19 @@ use native.Mathlib.Omega.{arith}
 use Rattle.tablemaking.proofs.scope_fault.Statement.{statement}
 use Rattle.tablemaking.proofs.scope_fault.Tie as tie
 
-returns : tie.Need-returns
-returns c = let a = c.before.before.args in sym (scope-low a.seen a.key (omega (arith, c.if1.true)))
+returns : tie.Need-returns-then-key-seen
+returns c = let a = c.args in sym (scope-low a.seen a.key (omega (arith, c.if-key-seen.true)))
 
-returns-2 : tie.Need-returns-2
+returns-2 : tie.Need-returns-then-seen-ge-MOST_SCOPES
 returns-2 c =
-    let start : tie.Start = search in
-    let a = start.args in sym (scope-many a.seen a.key (omega (arith, c.before.before.if1.false)) (omega (arith, c.if2.true)))
+    let a = c.args in sym (scope-many a.seen a.key (omega (arith, c.if-key-seen.false)) (omega (arith, c.if-seen-ge-MOST_SCOPES.true)))
 
-returns-3 : tie.Need-returns-3
+returns-3 : tie.Need-returns
 returns-3 c =
-    let start : tie.Start = search in
-    let a = start.args in sym (scope_kept a.seen a.key (omega (arith, c.before.before.if1.false)) (omega (arith, c.if2.false)))
+    let a = c.args in sym (scope_kept a.seen a.key (omega (arith, c.if-key-seen.false)) (omega (arith, c.if-seen-ge-MOST_SCOPES.false)))
 
-pub scope-fault-spec : {M : Type 1} → statement M
-scope-fault-spec =
+pub scope_fault_spec : {M : Type 1} → statement M
+scope_fault_spec =
     tie.close
     (tie.spec
     returns

@@ -6,7 +6,7 @@ use Rattle.tabletext.proofs.Room.{room as enough}
 use Rattle.tableshow.proofs.main.Statement.{statement}
 use Rattle.tableshow.proofs.main.Tie as tie
 
-slice-aggregate-show-2 : tie.Need-slice-aggregate-show-2
+slice-aggregate-show-2 : tie.Need-slice_bounds-show-end-2
 slice-aggregate-show-2 c = sym (length-replicate {A = ℕ} 731386 0)
 
 show-requires : tie.Need-show-requires

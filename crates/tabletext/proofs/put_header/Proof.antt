@@ -7,13 +7,11 @@ use Rattle.tabletext.proofs.put_header.Tie as tie
 returns : tie.Need-returns
 unfolding header_line
 returns c =
-    let after-put-hex : tie.After-put-hex = search in
-    let after-put-text : tie.After-put-text = search in
-    after-put-text.put-text.ensures ⨟ after-put-hex.put-hex.ensures ⨟ c.before.before.put_byte.ensures
+    c.put_text-p.ensures ⨟ c.put_hex-p.ensures ⨟ c.put_byte.ensures
 
-pub put-header-spec : {M : Type 1} → statement M
-put-header-spec =
+pub put_header_spec : {M : Type 1} → statement M
+put_header_spec =
     tie.close
     (tie.spec
-    (λ c. search rules) (λ c κs. search rules) (λ c. search rules) (λ c κs. search rules) (λ c κs. search rules) (λ c. search rules)
+    (λ c κs. search rules) (λ c. search rules) (λ c κs. search rules) (λ c κs. search rules) (λ c. search rules)
     returns)

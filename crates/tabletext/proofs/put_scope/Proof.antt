@@ -7,13 +7,10 @@ use Rattle.tabletext.proofs.put_scope.Tie as tie
 returns : tie.Need-returns
 unfolding scope_line
 returns c =
-    let after-put-type-remark : tie.After-put-type-remark = search in
-    let after-put-scope-name : tie.After-put-scope-name = search in
-    let after-put-byte : tie.After-put-byte = search in
-    after-put-byte.put_byte.ensures ⨟ after-put-scope-name.put-scope-name.ensures ⨟ after-put-type-remark.put-type-remark.ensures ⨟ c.before.before.put-byte2.ensures
+    c.put_byte-p.ensures ⨟ c.put_scope_name-p.ensures ⨟ c.put_type_remark-p.ensures ⨟ c.put_byte.ensures
 
-pub put-scope-spec : {M : Type 1} → statement M
-put-scope-spec =
+pub put_scope_spec : {M : Type 1} → statement M
+put_scope_spec =
     tie.close
     (tie.spec
     (λ c κs. search rules) (λ c. search rules) (λ c. search rules) (λ c κs. search rules) (λ c. search rules) (λ c. search rules) (λ c κs. search rules)

@@ -9,20 +9,18 @@ use Rattle.tabletext.proofs.Lines.{plain_names, a_scope-name}
 use Rattle.tabletext.proofs.put_scope_name.Statement.{statement}
 use Rattle.tabletext.proofs.put_scope_name.Tie as tie
 
-returns-3 : tie.Need-returns-3
+returns-3 : tie.Need-returns-in_default
 unfolding scope_name
 returns-3 c =
-    let entry : tie.After-put-text3 = search in
-    let others : tie.At-match-rest = search in
-    let start : tie.Start = search in
-    last_arm _ plain_names (text "entry " ++ hex 4 start.args.code) (past 2 _ others.match.rest) (entry.put-text3.ensures ⨟ c.before.before.put-hex.ensures)
+    let entry : tie.After-put_text-p = search in
+    last_arm _ plain_names (text "entry " ++ hex 4 c.args.code) (past 2 _ c.in_default.in_default-own.rest) (entry.put_text-p.ensures ⨟ c.put_hex.ensures)
 
-pub put-scope-name-spec : {M : Type 1} → statement M
-put-scope-name-spec =
+pub put_scope_name_spec : {M : Type 1} → statement M
+put_scope_name_spec =
     tie.close
     (tie.spec
-    (λ c. search rules) (λ c κs. search rules) (λ c. search rules) (λ c κs. search rules) (λ c. search rules) (λ c κs. search rules)
+    (λ c κs. search rules) (λ c κs. search rules) (λ c κs. search rules)
     (λ c κs. search rules)
-    (λ c. search rules) (λ c. a_scope-name 0 _ (search) c.before.before.put-text.ensures)
-    (λ c. search rules) (λ c. a_scope-name 1 _ (search) c.before.before.put-text2.ensures)
+    (λ c. search rules) (λ c. a_scope-name 0 _ (search) c.put_text.ensures)
+    (λ c. search rules) (λ c. a_scope-name 1 _ (search) c.put_text-in-1.ensures)
     (λ c. search rules) returns-3)

@@ -16,37 +16,32 @@ record Left (old : List ℕ) (at : ℕ) (table : List ℕ) (start bodies n : ℕ
   near : place + 5 * left < 2 ^ 32
   body_near : body + 262144 * left < 2 ^ 58
 
-abbrev invariant-loop : tie.invariant-loop
+abbrev invariant-loop : tie.invariant-loop-left
 invariant-loop out₀ at table start bodies n p₀ place₀ body₀ left₀ out p place body left = Left out₀ at table start bodies n out p place body left
 
-abbrev decreases-loop : tie.decreases-loop
+abbrev decreases-loop : tie.decreases-loop-left
 decreases-loop out₀ at table start bodies n p₀ place₀ body₀ left₀ out p place body left = left
 
-loop-holds : tie.Need-loop-init invariant-loop decreases-loop
+loop-holds : tie.Need-loop-left-init invariant-loop decreases-loop
 loop-holds c = record { rest = all_remains; near = omega arith; body_near = omega arith }
 
-put-scope-requires : tie.Need-put-scope-requires invariant-loop decreases-loop
-put-scope-requires c κs = (c.before.before.before.byte-number.ensures.small, c.before.before.u16-number.ensures.small)
+put-scope-requires : tie.Need-put_scope-q-requires invariant-loop decreases-loop
+put-scope-requires c κs = (c.byte_number-kind.ensures.small, c.u16_number-code.ensures.small)
 
-loop-again : tie.Need-loop-preserved invariant-loop decreases-loop
+loop-again : tie.Need-loop-left-preserved invariant-loop decreases-loop
 loop-again c =
-    let after-put-scope : tie.After-put-scope invariant-loop decreases-loop = search in
-    let after-u16-number2 : tie.After-u16-number2 invariant-loop decreases-loop = search in
-    let after-u16-number : tie.After-u16-number invariant-loop decreases-loop = search in
-    let after-byte-number : tie.After-byte-number invariant-loop decreases-loop = search in
-    let l : tie.At-loop invariant-loop decreases-loop = search in
-    let e = scopes-read l.before.before.before.args.table.now l.loop.place l.loop.body l.loop.left (omega arith) after-byte-number.byte-number.ensures.is after-u16-number.u16-number.ensures.is after-u16-number2.u16-number2.ensures.is in
+    let e = scopes-read c.args.table.now c.loop-left.place c.loop-left.body c.loop-left.left (omega arith) c.byte_number-kind.ensures.is c.u16_number-code.ensures.is c.u16_number-count.ensures.is in
     record {
-      rest = on (on l.loop.inv.rest e after-put-scope.put-scope.ensures) refl c.before.before.put-rows.ensures;
+      rest = on (on c.loop-left.invariant.rest e c.put_scope-q.ensures) refl c.put_rows-p.ensures;
       near = omega arith;
       body_near = omega arith;
     }
 
 returns : tie.Need-returns invariant-loop decreases-loop
-returns c = let l = c.before in done l.loop.invariant.rest (scopes-done l.before.before.before.args.table.now l.loop.place l.loop.body l.loop.left (omega arith))
+returns c = let l = c.before in done l.loop-left.invariant.rest (scopes-done l.args.table.now l.loop-left.place l.loop-left.body l.loop-left.left (omega arith))
 
-pub put-scopes-spec : {M : Type 1} → statement M
-put-scopes-spec =
+pub put_scopes_spec : {M : Type 1} → statement M
+put_scopes_spec =
     tie.close
     (tie.spec
     invariant-loop

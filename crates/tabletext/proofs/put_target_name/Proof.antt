@@ -4,11 +4,10 @@ use Rattle.tabletext.proofs.put_target_name.Tie as tie
 
 returns : tie.Need-returns
 returns c =
-    let named : tie.After-value-name-in = search in
-    rw named.value-name-in.ensures at c.before.before.put-remark.ensures
+    rw c.value_name_in.ensures at c.put_remark.ensures
 
-pub put-target-name-spec : {M : Type 1} → statement M
-put-target-name-spec =
+pub put_target_name_spec : {M : Type 1} → statement M
+put_target_name_spec =
     tie.close
     (tie.spec
     (λ c κs. search rules) (λ c κs. search rules) (λ c. search rules) (λ c. search rules) (λ c κs. search rules) (λ c κs. search rules)

@@ -4,11 +4,10 @@ use Rattle.tabletext.proofs.put_type_name.Tie as tie
 
 returns : tie.Need-returns
 returns c =
-    let named : tie.After-type-name-in = search in
-    rw named.type-name-in.ensures at c.before.before.put-remark.ensures
+    rw c.type_name_in.ensures at c.put_remark.ensures
 
-pub put-type-name-spec : {M : Type 1} → statement M
-put-type-name-spec =
+pub put_type_name_spec : {M : Type 1} → statement M
+put_type_name_spec =
     tie.close
     (tie.spec
     (λ c κs. search rules) (λ c κs. search rules) (λ c. search rules) (λ c. search rules) (λ c κs. search rules) (λ c κs. search rules)

@@ -5,22 +5,18 @@ use Rattle.tablewhy.proofs.Reasons.{no_line, a_line}
 use Rattle.tablewhy.proofs.put_line.Statement.{statement}
 use Rattle.tablewhy.proofs.put_line.Tie as tie
 
-returns : tie.Need-returns
-returns c = rw (no_line c.before.before.args.line (omega (arith, c.if1.true))) nothing
+returns : tie.Need-returns-then-line-eq0
+returns c = rw (no_line c.args.line (omega (arith, c.if-line-eq0.true))) nothing
 
-returns-2 : tie.Need-returns-2
+returns-2 : tie.Need-returns
 returns-2 c =
-    let after-put-decimal : tie.After-put-decimal = search in
-    let after-put-text : tie.After-put-text = search in
-    let else1 : tie.Else1 = search in
-    let start : tie.Start = search in
-    rw (a_line start.args.line else1.if1.left)
-    (after-put-text.put-text.ensures ⨟ after-put-decimal.put-decimal.ensures ⨟ c.before.before.put-text2.ensures)
+    rw (a_line c.args.line c.if-line-eq0.false)
+    (c.put_text-p.ensures ⨟ c.put_decimal-p.ensures ⨟ c.put_text.ensures)
 
-pub put-line-spec : {M : Type 1} → statement M
-put-line-spec =
+pub put_line_spec : {M : Type 1} → statement M
+put_line_spec =
     tie.close
     (tie.spec
     returns
-    (λ c. search rules) (λ c κs. search rules) (λ c κs. search rules) (λ c. search rules) (λ c κs. search rules) (λ c. search rules)
+    (λ c κs. search rules) (λ c κs. search rules) (λ c κs. search rules) (λ c. search rules)
     returns-2)

@@ -4,20 +4,16 @@ use Rattle.tablewhy.proofs.Reasons.{of_words, of_rules}
 use Rattle.tablewhy.proofs.put_why.Statement.{statement}
 use Rattle.tablewhy.proofs.put_why.Tie as tie
 
-returns : tie.Need-returns
+returns : tie.Need-returns-then-error-lt-FIRST_RULE
 returns c =
-    let then1 : tie.Then1 = search in
-    let start : tie.Start = search in
-    rw (of_words start.args.error (omega (arith, then1.if1.taken))) c.before.before.put-words-why.ensures
+    rw (of_words c.args.error (omega (arith, c.if-error-lt-FIRST_RULE.true))) c.put_words_why.ensures
 
-returns-2 : tie.Need-returns-2
+returns-2 : tie.Need-returns-else-error-lt-FIRST_RULE
 returns-2 c =
-    let else1 : tie.Else1 = search in
-    let start : tie.Start = search in
-    rw (of_rules start.args.error (omega (arith, else1.if1.left))) c.before.before.put-rules-why.ensures
+    rw (of_rules c.args.error (omega (arith, c.if-error-lt-FIRST_RULE.false))) c.put_rules_why.ensures
 
-pub put-why-spec : {M : Type 1} → statement M
-put-why-spec =
+pub put_why_spec : {M : Type 1} → statement M
+put_why_spec =
     tie.close
     (tie.spec
     (λ c κs. search rules) (λ c κs. search rules) (λ c. search rules)

@@ -7,14 +7,12 @@ use Rattle.tablewhy.proofs.size_line.Tie as tie
 returns : tie.Need-returns
 unfolding size_text
 returns c =
-    let after-put-decimal : tie.After-put-decimal = search in
-    let after-put-text : tie.After-put-text = search in
-    after-put-text.put-text.ensures ⨟ after-put-decimal.put-decimal.ensures ⨟ c.before.before.put_byte.ensures
+    c.put_text-p.ensures ⨟ c.put_decimal-p.ensures ⨟ c.put_byte.ensures
 
-pub size-line-spec : {M : Type 1} → statement M
-size-line-spec =
+pub size_line_spec : {M : Type 1} → statement M
+size_line_spec =
     tie.close
     (tie.spec
-    (λ c. search rules) (λ c κs. search rules) (λ c κs. search rules) (λ c κs. search rules)
+    (λ c κs. search rules) (λ c κs. search rules) (λ c κs. search rules)
     (λ c. same (returns c))
     returns)

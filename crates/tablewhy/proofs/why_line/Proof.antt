@@ -7,12 +7,10 @@ use Rattle.tablewhy.proofs.why_line.Tie as tie
 returns : tie.Need-returns
 unfolding why_text
 returns c =
-    let after-put-why : tie.After-put-why = search in
-    let after-put-line : tie.After-put-line = search in
-    after-put-line.put-line.ensures ⨟ after-put-why.put-why.ensures ⨟ c.before.before.put_byte.ensures
+    c.put_line-p.ensures ⨟ c.put_why-p.ensures ⨟ c.put_byte.ensures
 
-pub why-line-spec : {M : Type 1} → statement M
-why-line-spec =
+pub why_line_spec : {M : Type 1} → statement M
+why_line_spec =
     tie.close
     (tie.spec
     (λ c κs. search rules) (λ c κs. search rules) (λ c κs. search rules)

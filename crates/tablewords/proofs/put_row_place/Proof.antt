@@ -7,15 +7,12 @@ use Rattle.tablewords.proofs.put_row_place.Tie as tie
 returns : tie.Need-returns
 unfolding row_place
 returns c =
-    let after-put-text2 : tie.After-put-text2 = search in
-    let after-put-decimal : tie.After-put-decimal = search in
-    let after-put-text : tie.After-put-text = search in
-    after-put-text.put-text.ensures ⨟ after-put-decimal.put-decimal.ensures ⨟ after-put-text2.put-text2.ensures ⨟ c.before.before.put-scope-name.ensures
+    c.put_text-p.ensures ⨟ c.put_decimal-p.ensures ⨟ c.put_text-p-2.ensures ⨟ c.put_scope_name.ensures
 
-pub put-row-place-spec : {M : Type 1} → statement M
-put-row-place-spec =
+pub put_row_place_spec : {M : Type 1} → statement M
+put_row_place_spec =
     tie.close
     (tie.spec
-    (λ c. search rules) (λ c κs. search rules) (λ c κs. search rules) (λ c. search rules) (λ c κs. search rules) (λ c κs. search rules)
+    (λ c κs. search rules) (λ c κs. search rules) (λ c κs. search rules) (λ c κs. search rules)
     (λ c. search rules)
     returns)

@@ -3,20 +3,16 @@ use Rattle.tablewords.proofs.Sentences.{early, late}
 use Rattle.tablewords.proofs.put_rule.Statement.{statement}
 use Rattle.tablewords.proofs.put_rule.Tie as tie
 
-returns : tie.Need-returns
+returns : tie.Need-returns-then-b-lt-FIRST_BODY_RULE
 returns c =
-    let then1 : tie.Then1 = search in
-    let start : tie.Start = search in
-    rw (early start.args.b then1.if1.taken) c.before.before.put-contents-rule.ensures
+    rw (early c.args.b c.if-b-lt-FIRST_BODY_RULE.true) c.put_contents_rule.ensures
 
-returns-2 : tie.Need-returns-2
+returns-2 : tie.Need-returns-else-b-lt-FIRST_BODY_RULE
 returns-2 c =
-    let else1 : tie.Else1 = search in
-    let start : tie.Start = search in
-    rw (late start.args.b else1.if1.left) c.before.before.put-body-rule.ensures
+    rw (late c.args.b c.if-b-lt-FIRST_BODY_RULE.false) c.put_body_rule.ensures
 
-pub put-rule-spec : {M : Type 1} → statement M
-put-rule-spec =
+pub put_rule_spec : {M : Type 1} → statement M
+put_rule_spec =
     tie.close
     (tie.spec
     (λ c κs. search rules) (λ c κs. search rules) (λ c. search rules)

@@ -4,20 +4,16 @@ use Rattle.tally.proofs.BumpLaws.{answer-low, answer-high}
 use Rattle.tally.proofs.count_answer.Statement.{statement}
 use Rattle.tally.proofs.count_answer.Tie as tie
 
-returns : tie.Need-returns
+returns : tie.Need-returns-then-number-lt-NO_READING
 returns c =
-    let bumped : tie.After-bump = search in
-    let start : tie.Start = search in
-    answer-low start.args.words.now start.args.number bumped.bump.ensures (omega arith)
+    answer-low c.args.words.now c.args.number c.bump.ensures (omega arith)
 
-returns-2 : tie.Need-returns-2
+returns-2 : tie.Need-returns
 returns-2 c =
-    let bumped : tie.After-bump2 = search in
-    let start : tie.Start = search in
-    answer-high start.args.words.now start.args.number bumped.bump2.ensures (omega arith)
+    answer-high c.args.words.now c.args.number c.bump-2.ensures (omega arith)
 
-pub count-answer-spec : {M : Type 1} → statement M
-count-answer-spec =
+pub count_answer_spec : {M : Type 1} → statement M
+count_answer_spec =
     tie.close
     (tie.spec
     (λ c κs. search rules) (λ c. search rules)

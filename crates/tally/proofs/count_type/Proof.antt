@@ -9,16 +9,13 @@ use Rattle.tally.proofs.count_type.Tie as tie
 
 returns : tie.Need-returns
 returns c =
-    let bumped : tie.After-bump = search in
-    let placed : tie.After-type-place = search in
-    let start : tie.Start = search in
-    bumped.bump.ensures ∙ ap (λ (i : ℕ). bump start.args.words.now (types_at + i)) placed.type-place.ensures
+    c.bump.ensures ∙ ap (λ (i : ℕ). bump c.args.words.now (types_at + i)) c.type_place.ensures
 
-pub count-type-spec : {M : Type 1} → statement M
-count-type-spec =
+pub count_type_spec : {M : Type 1} → statement M
+count_type_spec =
     tie.close
     (tie.spec
     (λ c κs. search rules)
-    (λ c. let start : tie.Start = search in omega (arith, c.type-place.ensures, (type-placed start.args.type-code).0))
+    (λ c. let start : tie.Start = search in omega (arith, c.type_place.ensures, (type-placed start.args.type_code).0))
     (λ c κs. search rules) (λ c. search rules)
     returns)

@@ -14,81 +14,65 @@ use Rattle.tally2000.proofs.RunLaws.{Counting, counting-start}
 use Rattle.tally2000.proofs.count_run.Statement.{statement}
 use Rattle.tally2000.proofs.count_run.Tie as tie
 
-abbrev invariant-loop : tie.invariant-loop
+abbrev invariant-loop : tie.invariant-loop-p
 invariant-loop table body s at words₀ p₀ words p = Counting table body s at words₀ p words
 
-abbrev decreases-loop : tie.decreases-loop
+abbrev decreases-loop : tie.decreases-loop-p
 decreases-loop table body s at words₀ p₀ words p = length s - p
 
 -- a property starts here, in the stream that is lent at the start
-abbrev start_of : tie.Else1 invariant-loop decreases-loop → tie.Start invariant-loop decreases-loop
+abbrev start_of : tie.Else-id-gt-LAST_ID invariant-loop decreases-loop → tie.Start invariant-loop decreases-loop
 start_of c = search
 
-goes : (c : tie.Else1 invariant-loop decreases-loop) → goes_on_lem (start_of c).args.s.now c.before.before.before.loop.p ≡ true
-goes c = starts _ _ (omega (arith, c.before.before.loop-test.true)) (omega (arith, c.if1.false))
+goes : (c : tie.Else-id-gt-LAST_ID invariant-loop decreases-loop) → goes_on_lem (start_of c).args.s.now c.loop-p.p ≡ true
+goes c = starts _ _ (omega (arith, c.loop-p-test.true)) (omega (arith, c.if-id-gt-LAST_ID.false))
 
-returns : tie.Need-returns invariant-loop decreases-loop
+returns : tie.Need-returns-then-id-gt-LAST_ID invariant-loop decreases-loop
 returns c =
-    let turn : tie.At-loop invariant-loop decreases-loop = search in
-    run-stop turn.loop.inv (stops _ _ (omega (arith, c.before.before.loop-test.true)) (omega (arith, c.if1.true)))
+    run-stop c.loop-p.invariant (stops _ _ (omega (arith, c.loop-p-test.true)) (omega (arith, c.if-id-gt-LAST_ID.true)))
 
-returns-2 : tie.Need-returns-2 invariant-loop decreases-loop
+returns-2 : tie.Need-returns-in_default invariant-loop decreases-loop
 returns-2 c =
-    let else1 : tie.Else1 invariant-loop decreases-loop = search in
-    let turn : tie.At-loop invariant-loop decreases-loop = search in
-    let valued : tie.After-value invariant-loop decreases-loop = search in
-    absurd (run-broken turn.loop.inv (goes else1) valued.value.ensures c.enum_told.given.1)
+    let else1 : tie.Else-id-gt-LAST_ID invariant-loop decreases-loop = search in
+    absurd (run-broken c.loop-p.invariant (goes else1) c.value.ensures c.in_default.is)
 
-property-requires : tie.Need-property-requires invariant-loop decreases-loop
+property-requires : tie.Need-property-shown-requires invariant-loop decreases-loop
 property-requires c κs =
-    let started : tie.After-start invariant-loop decreases-loop = search in
-    let valued : tie.After-value invariant-loop decreases-loop = search in
-    let start : tie.Start invariant-loop decreases-loop = search in
-    let v = valued.value.ensures in
-    let k = started.start.given.1 in
-    record { small = start.pre.small; sorted = start.pre.sorted; inside = (ends _ _ _ _ _ v k).1; sized = value-sized _ _ _ _ _ v k }
+    let v = c.value.ensures in
+    let k = c.in-At.is in
+    record { small = c.requires.small; sorted = c.requires.sorted; inside = (ends _ _ _ _ _ v k).1; sized = value-sized _ _ _ _ _ v k }
 
-add-p : tie.Need-overflow-add-p invariant-loop decreases-loop
+add-p : tie.Need-overflow_add-p invariant-loop decreases-loop
 add-p c =
-    let started : tie.After-start invariant-loop decreases-loop = search in
-    let valued : tie.After-value invariant-loop decreases-loop = search in
-    let start : tie.Start invariant-loop decreases-loop = search in
-    omega (arith, ends _ _ _ _ _ valued.value.ensures started.start.given.1, start.pre.small)
+    omega (arith, ends _ _ _ _ _ c.value.ensures c.in-At.is, c.requires.small)
 
-loop-less : tie.Need-loop-smaller invariant-loop decreases-loop
+loop-less : tie.Need-loop-p-smaller invariant-loop decreases-loop
 loop-less c =
-    let started : tie.After-start invariant-loop decreases-loop = search in
-    let valued : tie.After-value invariant-loop decreases-loop = search in
-    omega (arith, ends _ _ _ _ _ valued.value.ensures started.start.given.1)
+    omega (arith, ends _ _ _ _ _ c.value.ensures c.in-At.is)
 
-loop-again : tie.Need-loop-preserved invariant-loop decreases-loop
+loop-again : tie.Need-loop-p-preserved invariant-loop decreases-loop
 loop-again c =
-    let counted : tie.After-count-property invariant-loop decreases-loop = search in
-    let shown : tie.After-property invariant-loop decreases-loop = search in
-    let started : tie.After-start invariant-loop decreases-loop = search in
-    let valued : tie.After-value invariant-loop decreases-loop = search in
-    let else1 : tie.Else1 invariant-loop decreases-loop = search in
-    let turn : tie.At-loop invariant-loop decreases-loop = search in
-    run_on turn.loop.inv (goes else1) valued.value.ensures started.start.given.1
-    (counted.count-property.ensures ∙ ap (λ x. bumps turn.loop.words (property_places true x)) shown.property.ensures)
+    let else1 : tie.Else-id-gt-LAST_ID invariant-loop decreases-loop = search in
+    run_on c.loop-p.invariant (goes else1) c.value.ensures c.in-At.is
+    (c.count_property.ensures ∙ ap (λ x. bumps c.loop-p.words (property_places true x)) c.property-shown.ensures)
 
-pub count-run-spec : {M : Type 1} → statement M
-count-run-spec =
+pub count_run_spec : {M : Type 1} → statement M
+count_run_spec =
     tie.close
     (tie.spec
     invariant-loop
     decreases-loop
-    (λ c. let start : tie.Start invariant-loop decreases-loop = search in counting-start start.pre)
+    (λ c. let start : tie.Start invariant-loop decreases-loop = search in counting-start start.requires)
     (λ c. search rules)
-    (λ c. let turn : tie.At-loop invariant-loop decreases-loop = search in run_fact turn.loop.inv (λ _ e. e))
+    (λ c. let turn : tie.At-loop-p invariant-loop decreases-loop = search in run_fact turn.loop-p.invariant (λ _ e. e))
     returns
     (λ c κs. search rules) (λ c. search rules) (λ c. search rules)
-    (λ c. let turn : tie.At-loop invariant-loop decreases-loop = search in run_fact turn.loop.inv (λ _ e. e))
+    (λ c. let turn : tie.At-loop-p invariant-loop decreases-loop = search in run_fact turn.loop-p.invariant (λ _ e. e))
     returns-2
     property-requires
     (λ c κs. search rules)
     add-p
     loop-less
     loop-again
-    (λ c. let turn : tie.At-loop invariant-loop decreases-loop = search in run_fact turn.loop.inv (λ _ e. e))
-    (λ c. let turn : tie.At-loop invariant-loop decreases-loop = search in run-stop turn.loop.inv (past_end _ _ (omega (arith, c.loop-test.false)))))
+    (λ c. let turn : tie.At-loop-p invariant-loop decreases-loop = search in run_fact turn.loop-p.invariant (λ _ e. e))
+    (λ c. let turn : tie.At-loop-p invariant-loop decreases-loop = search in run-stop turn.loop-p.invariant (past_end _ _ (omega (arith, c.loop-p-test.false)))))

@@ -9,63 +9,54 @@ use Rattle.tally2000.proofs.RunLaws.{Going, going_start}
 use Rattle.tally2000.proofs.count_top.Statement.{statement}
 use Rattle.tally2000.proofs.count_top.Tie as tie
 
-abbrev invariant-loop : tie.invariant-loop
+abbrev invariant-loop : tie.invariant-loop-c
 invariant-loop table hints₀ scopes s n at words₀ stack₀ c₀ i₀ hints words stack c i = Going table s n at words₀ stack c i words
 
-abbrev decreases-loop : tie.decreases-loop
+abbrev decreases-loop : tie.decreases-loop-c
 decreases-loop table hints₀ scopes s n at words₀ stack₀ c₀ i₀ hints words stack c i = how_many (left (step_at s) i stack c)
 
 -- ---- places, each from a later one
-abbrev turn-of : tie.After-count-node invariant-loop decreases-loop → tie.At-loop invariant-loop decreases-loop
+abbrev turn-of : tie.After-count_node-end invariant-loop decreases-loop → tie.At-loop-c invariant-loop decreases-loop
 turn-of c = search
 
-abbrev test_of : tie.After-count-node invariant-loop decreases-loop → tie.Then1 invariant-loop decreases-loop
+abbrev test_of : tie.After-count_node-end invariant-loop decreases-loop → tie.In-loop-c invariant-loop decreases-loop
 test_of c = search
 
 -- the loop goes on
-some_left : (c : tie.After-count-node invariant-loop decreases-loop) → 0 < (turn-of c).loop.c.left
-some_left c = omega (arith, (test_of c).if1.true)
+some_left : (c : tie.After-count_node-end invariant-loop decreases-loop) → 0 < (turn-of c).loop-c.c.left
+some_left c = omega (arith, (test_of c).loop-c-test.true)
 
-loop-holds : tie.Need-loop-init invariant-loop decreases-loop
+loop-holds : tie.Need-loop-c-init invariant-loop decreases-loop
 loop-holds c =
-    let start : tie.Start invariant-loop decreases-loop = search in
-    let topped : tie.After-top invariant-loop decreases-loop = search in
-    let passed : tie.After-reported invariant-loop decreases-loop = search in
-    going_start _ (length-replicate {A = ℕ} 512 0) start.pre topped.top.ensures passed.reported.ensures
+    going_start _ (length-replicate {A = ℕ} 512 0) c.requires c.top.ensures c.reported-c.ensures
 
-count-node-requires : tie.Need-count-node-requires invariant-loop decreases-loop
+count-node-requires : tie.Need-count_node-end-requires invariant-loop decreases-loop
 count-node-requires c κs =
-    let turn : tie.At-loop invariant-loop decreases-loop = search in
-    let start : tie.Start invariant-loop decreases-loop = search in
-    let l : 0 < turn.loop.c.left = omega arith in
-    record { known = start.pre.known; inside = (its turn.loop.inv l).inside; there = entry-there turn.loop.inv l }
+    let l : 0 < c.loop-c.c.left = omega arith in
+    record { known = c.requires.known; inside = (its c.loop-c.invariant l).inside; there = entry-there c.loop-c.invariant l }
 
 past-requires : tie.Need-past-requires invariant-loop decreases-loop
 past-requires c κs =
-    let counted : tie.After-count-node invariant-loop decreases-loop = search in
-    top_past (turn-of counted).loop.inv (some_left counted) counted.count-node.ensures
+    let counted : tie.After-count_node-end invariant-loop decreases-loop = search in
+    top_past (turn-of counted).loop-c.invariant (some_left counted) counted.count_node-end.ensures
 
-add-i : tie.Need-overflow-add-i invariant-loop decreases-loop
+add-i : tie.Need-overflow_add-i invariant-loop decreases-loop
 add-i c =
-    let counted : tie.After-count-node invariant-loop decreases-loop = search in
-    top_asks (turn-of counted).loop.inv (some_left counted) (λ _ h. omega (arith, h.few))
+    let counted : tie.After-count_node-end invariant-loop decreases-loop = search in
+    top_asks (turn-of counted).loop-c.invariant (some_left counted) (λ _ h. omega (arith, h.few))
 
-loop-less : tie.Need-loop-smaller invariant-loop decreases-loop
+loop-less : tie.Need-loop-c-smaller invariant-loop decreases-loop
 loop-less c =
-    let counted : tie.After-count-node invariant-loop decreases-loop = search in
-    let moved : tie.After-past invariant-loop decreases-loop = search in
-    let passed : tie.After-reported2 invariant-loop decreases-loop = search in
-    top_less (turn-of counted).loop.inv (some_left counted) counted.count-node.ensures _ moved.past.ensures passed.reported2.ensures
+    let counted : tie.After-count_node-end invariant-loop decreases-loop = search in
+    top_less (turn-of counted).loop-c.invariant (some_left counted) counted.count_node-end.ensures _ c.past.ensures c.reported-c-in-loop-c.ensures
 
-loop-again : tie.Need-loop-preserved invariant-loop decreases-loop
+loop-again : tie.Need-loop-c-preserved invariant-loop decreases-loop
 loop-again c =
-    let counted : tie.After-count-node invariant-loop decreases-loop = search in
-    let moved : tie.After-past invariant-loop decreases-loop = search in
-    let passed : tie.After-reported2 invariant-loop decreases-loop = search in
-    top-next (turn-of counted).loop.inv (some_left counted) counted.count-node.ensures _ moved.past.ensures passed.reported2.ensures
+    let counted : tie.After-count_node-end invariant-loop decreases-loop = search in
+    top-next (turn-of counted).loop-c.invariant (some_left counted) counted.count_node-end.ensures _ c.past.ensures c.reported-c-in-loop-c.ensures
 
-pub count-top-spec : {M : Type 1} → statement M
-count-top-spec =
+pub count_top_spec : {M : Type 1} → statement M
+count_top_spec =
     tie.close
     (tie.spec
     invariant-loop
@@ -78,5 +69,5 @@ count-top-spec =
     add-i
     loop-less
     loop-again
-    (λ c. let turn : tie.At-loop invariant-loop decreases-loop = search in top_fact turn.loop.inv (λ _ h. h.same))
-    (λ c. let turn : tie.At-loop invariant-loop decreases-loop = search in record { next = _; is = top-stop turn.loop.inv (omega arith) }))
+    (λ c. let turn : tie.At-loop-c invariant-loop decreases-loop = search in top_fact turn.loop-c.invariant (λ _ h. h.same))
+    (λ c. let turn : tie.At-loop-c invariant-loop decreases-loop = search in record { next = _; is = top-stop turn.loop-c.invariant (omega arith) }))

@@ -3,40 +3,27 @@ use Rattle.tallylater.proofs.ReadLaws.{own-ready, blob-tree-ready, blob-tree-don
 use Rattle.tallylater.proofs.count_blob.Statement.{statement}
 use Rattle.tallylater.proofs.count_blob.Tie as tie
 
-count-tree-requires : tie.Need-count-tree-requires
+count-tree-requires : tie.Need-count_tree-requires
 count-tree-requires c κs =
-    let start : tie.Start = search in
-    let group : tie.After-count-group = search in
-    let tree : tie.Then1 = search in
-    blob-tree-ready start.pre group.count-group.ensures tree.if1.taken
+    blob-tree-ready c.requires c.count_group-g.ensures c.if-tree.true
 
-count-scanned-requires : tie.Need-count-scanned-requires
+count-scanned-requires : tie.Need-count_scanned-requires
 count-scanned-requires c κs =
-    let start : tie.Start = search in
-    let group : tie.After-count-group = search in
-    blob-scan-ready start.pre group.count-group.ensures
+    blob-scan-ready c.requires c.count_group-g.ensures
 
-returns : tie.Need-returns
+returns : tie.Need-returns-then-tree
 returns c =
-    let start : tie.Start = search in
-    let group : tie.After-count-group = search in
-    let tree : tie.Then1 = search in
-    let counted : tie.After-count-tree = search in
-    blob-tree-done start.pre group.count-group.ensures tree.if1.taken counted.count-tree.ensures
+    blob-tree-done c.requires c.count_group-g.ensures c.if-tree.true c.count_tree.ensures
 
-returns-2 : tie.Need-returns-2
+returns-2 : tie.Need-returns-else-tree
 returns-2 c =
-    let start : tie.Start = search in
-    let group : tie.After-count-group = search in
-    let scan : tie.Else1 = search in
-    let counted : tie.After-count-scanned = search in
-    blob-scan-done start.pre group.count-group.ensures scan.if1.left counted.count-scanned.ensures
+    blob-scan-done c.requires c.count_group-g.ensures c.if-tree.false c.count_scanned.ensures
 
-pub count-blob-spec : {M : Type 1} → statement M
-count-blob-spec =
+pub count_blob_spec : {M : Type 1} → statement M
+count_blob_spec =
     tie.close
     (tie.spec
-    (λ c κs. let start : tie.Start = search in own-ready start.pre)
+    (λ c κs. let start : tie.Start = search in own-ready start.requires)
     count-tree-requires
     count-scanned-requires
     (λ c. search rules)

@@ -11,71 +11,47 @@ use Rattle.tallylater.proofs.GroupLaws.{Counting, counting-start}
 use Rattle.tallylater.proofs.count_group.Statement.{statement}
 use Rattle.tallylater.proofs.count_group.Tie as tie
 
-abbrev invariant-loop : tie.invariant-loop
+abbrev invariant-loop : tie.invariant-loop-size
 invariant-loop s limit at words₀ p₀ any₀ words p any = Counting s limit at words₀ p any words
 
-abbrev decreases-loop : tie.decreases-loop
+abbrev decreases-loop : tie.decreases-loop-size
 decreases-loop s limit at words₀ p₀ any₀ words p any = limit - p
 
-returns : tie.Need-returns invariant-loop decreases-loop
+returns : tie.Need-returns-in-Outside invariant-loop decreases-loop
 returns c =
-    let start : tie.Start invariant-loop decreases-loop = search in
-    let turn : tie.At-loop invariant-loop decreases-loop = search in
-    let parsed : tie.After-parse-entry invariant-loop decreases-loop = search in
-    grouping_none turn.loop.inv start.pre.inside parsed.parse-entry.ensures c.enum_told.given.1
+    grouping_none c.loop-size.invariant c.requires.inside c.parse_entry.ensures c.in-Outside.is
 
-property-at-requires : tie.Need-property-at-requires invariant-loop decreases-loop
+property-at-requires : tie.Need-property_at-requires invariant-loop decreases-loop
 property-at-requires c κs =
-    let start : tie.Start invariant-loop decreases-loop = search in
-    let parsed : tie.After-parse-entry invariant-loop decreases-loop = search in
-    let sized : tie.After-size invariant-loop decreases-loop = search in
-    inside-property _ _ _ parsed.parse-entry.ensures sized.size.given.1 start.pre.inside start.pre.small
+    inside-property _ _ _ c.parse_entry.ensures c.in-Inside.is c.requires.inside c.requires.small
 
-same-length-2 : tie.Need-same-length-2 invariant-loop decreases-loop
+same-length-2 : tie.Need-shape_of-words-then-ends_group invariant-loop decreases-loop
 same-length-2 c =
-    let turn : tie.At-loop invariant-loop decreases-loop = search in
-    let counted : tie.After-count-property invariant-loop decreases-loop = search in
-    counted.count-property.kept.0 ∙ grouping_fact turn.loop.inv (λ _ e. e)
+    c.count_property.auto.0 ∙ grouping_fact c.loop-size.invariant (λ _ e. e)
 
-returns-2 : tie.Need-returns-2 invariant-loop decreases-loop
+returns-2 : tie.Need-returns-then-ends_group invariant-loop decreases-loop
 returns-2 c =
-    let start : tie.Start invariant-loop decreases-loop = search in
-    let turn : tie.At-loop invariant-loop decreases-loop = search in
-    let parsed : tie.After-parse-entry invariant-loop decreases-loop = search in
-    let sized : tie.After-size invariant-loop decreases-loop = search in
-    let read : tie.After-property-at invariant-loop decreases-loop = search in
-    let counted : tie.After-count-property invariant-loop decreases-loop = search in
-    let ended : tie.After-ends-group invariant-loop decreases-loop = search in
-    grouping_last turn.loop.inv start.pre.inside parsed.parse-entry.ensures sized.size.given.1
-    (counted.count-property.ensures ∙ ap (λ q. bumps turn.loop.words (property_places false q)) read.property-at.ensures) ended.ends-group.ensures c.if1.true
+    grouping_last c.loop-size.invariant c.requires.inside c.parse_entry.ensures c.in-Inside.is
+    (c.count_property.ensures ∙ ap (λ q. bumps c.loop-size.words (property_places false q)) c.property_at.ensures) c.ends_group.ensures c.if-ends_group.true
 
-loop-less : tie.Need-loop-smaller invariant-loop decreases-loop
+loop-less : tie.Need-loop-size-smaller invariant-loop decreases-loop
 loop-less c =
-    let parsed : tie.After-parse-entry invariant-loop decreases-loop = search in
-    let sized : tie.After-size invariant-loop decreases-loop = search in
-    omega (arith, extent-inside parsed.parse-entry.ensures sized.size.given.1)
+    omega (arith, extent-inside c.parse_entry.ensures c.in-Inside.is)
 
-loop-again : tie.Need-loop-preserved invariant-loop decreases-loop
+loop-again : tie.Need-loop-size-preserved invariant-loop decreases-loop
 loop-again c =
-    let start : tie.Start invariant-loop decreases-loop = search in
-    let turn : tie.At-loop invariant-loop decreases-loop = search in
-    let parsed : tie.After-parse-entry invariant-loop decreases-loop = search in
-    let sized : tie.After-size invariant-loop decreases-loop = search in
-    let read : tie.After-property-at invariant-loop decreases-loop = search in
-    let counted : tie.After-count-property invariant-loop decreases-loop = search in
-    let ended : tie.After-ends-group invariant-loop decreases-loop = search in
-    grouping_more turn.loop.inv start.pre.inside parsed.parse-entry.ensures sized.size.given.1
-    (counted.count-property.ensures ∙ ap (λ q. bumps turn.loop.words (property_places false q)) read.property-at.ensures) ended.ends-group.ensures c.if1.false
+    grouping_more c.loop-size.invariant c.requires.inside c.parse_entry.ensures c.in-Inside.is
+    (c.count_property.ensures ∙ ap (λ q. bumps c.loop-size.words (property_places false q)) c.property_at.ensures) c.ends_group.ensures c.if-ends_group.false
 
-pub count-group-spec : {M : Type 1} → statement M
-count-group-spec =
+pub count_group_spec : {M : Type 1} → statement M
+count_group_spec =
     tie.close
     (tie.spec
     invariant-loop
     decreases-loop
     (λ c. counting-start)
     (λ c κs. search rules) (λ c. search rules)
-    (λ c. let turn : tie.At-loop invariant-loop decreases-loop = search in grouping_fact turn.loop.inv (λ _ e. e))
+    (λ c. let turn : tie.At-loop-size invariant-loop decreases-loop = search in grouping_fact turn.loop-size.invariant (λ _ e. e))
     returns
     (λ c. search rules)
     property-at-requires

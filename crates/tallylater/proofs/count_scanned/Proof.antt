@@ -13,70 +13,65 @@ use Rattle.tallylater.proofs.GroupLaws.{Scanning, scanned-counted}
 use Rattle.tallylater.proofs.count_scanned.Statement.{statement}
 use Rattle.tallylater.proofs.count_scanned.Tie as tie
 
-abbrev invariant-loop : tie.invariant-loop
+abbrev invariant-loop : tie.invariant-loop-a
 invariant-loop s from words₀ a₀ words a = Scanning s from words₀ a words
 
-abbrev decreases-loop : tie.decreases-loop
+abbrev decreases-loop : tie.decreases-loop-a
 decreases-loop s from words₀ a₀ words a = length s - a
 
 -- ---- places, each from a later one
-abbrev next_of : tie.After-count-group invariant-loop decreases-loop → tie.After-find-match2 invariant-loop decreases-loop
+abbrev next_of : tie.After-count_group-g invariant-loop decreases-loop → tie.After-find_match-limit invariant-loop decreases-loop
 next_of c = search
 
-abbrev test_of : tie.After-find-match2 invariant-loop decreases-loop → tie.In-loop invariant-loop decreases-loop
+abbrev test_of : tie.After-find_match-limit invariant-loop decreases-loop → tie.In-loop-a invariant-loop decreases-loop
 test_of c = search
 
-abbrev turn-of : tie.After-find-match2 invariant-loop decreases-loop → tie.At-loop invariant-loop decreases-loop
+abbrev turn-of : tie.After-find_match-limit invariant-loop decreases-loop → tie.At-loop-a invariant-loop decreases-loop
 turn-of c = search
 
-count-group-requires : tie.Need-count-group-requires invariant-loop decreases-loop
+count-group-requires : tie.Need-count_group-g-requires invariant-loop decreases-loop
 count-group-requires c κs =
-    let next : tie.After-find-match2 invariant-loop decreases-loop = search in
-    let start : tie.Start invariant-loop decreases-loop = search in
-    record { inside = next.find-match2.ensures.within; small = start.pre.small }
+    record { inside = c.find_match-limit.ensures.within; small = c.requires.small }
 
-loop-less : tie.Need-loop-smaller invariant-loop decreases-loop
+loop-less : tie.Need-loop-a-smaller-then-g invariant-loop decreases-loop
 loop-less c =
-    let next : tie.After-find-match2 invariant-loop decreases-loop = search in
-    omega (arith, next.find-match2.ensures.behind, (test_of next).loop-test.taken)
+    let next : tie.After-find_match-limit invariant-loop decreases-loop = search in
+    omega (arith, next.find_match-limit.ensures.behind, (test_of next).loop-a-test.true)
 
-loop-again : tie.Need-loop-preserved invariant-loop decreases-loop
+loop-again : tie.Need-loop-a-preserved-then-g invariant-loop decreases-loop
 loop-again c =
-    let any : tie.Then1 invariant-loop decreases-loop = search in
-    let counted : tie.After-count-type invariant-loop decreases-loop = search in
-    let group : tie.After-count-group invariant-loop decreases-loop = search in
-    let start : tie.Start invariant-loop decreases-loop = search in
+    let group : tie.After-count_group-g invariant-loop decreases-loop = search in
     let next = next_of group in
-    sweep_on (turn-of next).loop.inv (test_of next).loop-test.taken next.find-match2.ensures (sym group.count-group.ensures.any-is ∙ any.if1.taken)
-    (controls-counted false (scanned_control _) start.args.words.now) (scanned-counted group.count-group.ensures counted.count-type.ensures)
+    sweep_on (turn-of next).loop-a.invariant (test_of next).loop-a-test.true next.find_match-limit.ensures (sym group.count_group-g.ensures.any-is ∙ c.if-g.true)
+    (controls-counted false (scanned_control _) c.args.words.now) (scanned-counted group.count_group-g.ensures c.count_type.ensures)
 
-loop-less-2 : tie.Need-loop-smaller-2 invariant-loop decreases-loop
+loop-less-2 : tie.Need-loop-a-smaller invariant-loop decreases-loop
 loop-less-2 c =
-    let next : tie.After-find-match2 invariant-loop decreases-loop = search in
-    omega (arith, next.find-match2.ensures.behind, (test_of next).loop-test.taken)
+    let next : tie.After-find_match-limit invariant-loop decreases-loop = search in
+    omega (arith, next.find_match-limit.ensures.behind, (test_of next).loop-a-test.true)
 
-loop-again-2 : tie.Need-loop-preserved-2 invariant-loop decreases-loop
+loop-again-2 : tie.Need-loop-a-preserved invariant-loop decreases-loop
 loop-again-2 c =
-    let group : tie.After-count-group invariant-loop decreases-loop = search in
+    let group : tie.After-count_group-g invariant-loop decreases-loop = search in
     let next = next_of group in
-    sweep_over (turn-of next).loop.inv (test_of next).loop-test.taken next.find-match2.ensures (sym group.count-group.ensures.any-is ∙ c.if1.false)
-    (grouped_none group.count-group.ensures (properties-none false _) c.if1.false)
+    sweep_over (turn-of next).loop-a.invariant (test_of next).loop-a-test.true next.find_match-limit.ensures (sym group.count_group-g.ensures.any-is ∙ c.if-g.false)
+    (grouped_none group.count_group-g.ensures (properties-none false _) c.if-g.false)
 
-pub count-scanned-spec : {M : Type 1} → statement M
-count-scanned-spec =
+pub count_scanned_spec : {M : Type 1} → statement M
+count_scanned_spec =
     tie.close
     (tie.spec
     invariant-loop
     decreases-loop
-    (λ c κs. let start : tie.Start invariant-loop decreases-loop = search in start.pre.within)
-    (λ c. sweep_start refl c.find-match.ensures)
-    (λ c. omega (arith, match-room _ _ (c.before.loop.invariant.here c.loop-test.true)))
-    (λ c κs. omega (arith, match-room _ _ (c.before.loop.invariant.here c.loop-test.true)))
+    (λ c κs. let start : tie.Start invariant-loop decreases-loop = search in start.requires.within)
+    (λ c. sweep_start refl c.find_match-a.ensures)
+    (λ c. omega (arith, match-room _ _ (c.loop-a.invariant.here c.loop-a-test.true)))
+    (λ c κs. omega (arith, match-room _ _ (c.loop-a.invariant.here c.loop-a-test.true)))
     count-group-requires
     (λ c κs. search rules)
     loop-less
     loop-again
     loop-less-2
     loop-again-2
-    (λ c. sweep_fact c.before.loop.invariant (λ _ e. e))
-    (λ c. record { is = (sweep_stop c.before.loop.invariant (controls-none false _) c.loop-test.false).held.is }))
+    (λ c. sweep_fact c.loop-a.invariant (λ _ e. e))
+    (λ c. record { is = (sweep_stop c.loop-a.invariant (controls-none false _) c.loop-a-test.false).held.is }))

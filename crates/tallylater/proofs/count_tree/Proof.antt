@@ -7,36 +7,27 @@ use Rattle.tallylater.proofs.count_tree.Statement.{statement}
 use Rattle.tallylater.proofs.count_tree.Tie as tie
 
 -- a count of two bytes fits
-cast-count-sections : tie.Need-overflow-cast-count-sections
+cast-count-sections : tie.Need-overflow_cast-count
 cast-count-sections c =
-    let known : tie.After-shared-slice-known = search in
-    let kids : tie.After-children-at = search in
-    let count : tie.After-count = search in
-    omega (arith, count_small _ _ _ kids.children-at.ensures (λ i. (known.shared-slice-known.given i).fits) count.count.given.1)
+    let known : tie.After-shared_slice_known-1 = search in
+    let kids : tie.After-children_at = search in
+    let count : tie.In-Of = search in
+    omega (arith, count_small _ _ _ kids.children_at.ensures (λ i. (known.shared_slice_known-1.given i).fits) count.in-Of.is)
 
-count-sections-requires : tie.Need-count-sections-requires
+count-sections-requires : tie.Need-count_sections-requires
 count-sections-requires c κs =
-    let start : tie.Start = search in
-    let kids : tie.After-children-at = search in
-    let count : tie.After-count = search in
-    tree-ready start.pre kids.children-at.ensures count.count.given.1
+    tree-ready c.requires c.children_at.ensures c.in-Of.is
 
-returns : tie.Need-returns
+returns : tie.Need-returns-in-Bad
 returns c =
-    let start : tie.Start = search in
-    let kids : tie.After-children-at = search in
-    absurd (tree-never _ _ _ _ start.pre.few kids.children-at.ensures c.enum_told.given.1)
+    absurd (tree-never _ _ _ _ c.requires.few c.children_at.ensures c.in-Bad.is)
 
-returns-2 : tie.Need-returns-2
+returns-2 : tie.Need-returns-in-Of
 returns-2 c =
-    let start : tie.Start = search in
-    let kids : tie.After-children-at = search in
-    let count : tie.After-count = search in
-    let counted : tie.After-count-sections = search in
-    tree-done start.pre kids.children-at.ensures count.count.given.1 counted.count-sections.ensures
+    tree-done c.requires c.children_at.ensures c.in-Of.is c.count_sections.ensures
 
-pub count-tree-spec : {M : Type 1} → statement M
-count-tree-spec =
+pub count_tree_spec : {M : Type 1} → statement M
+count_tree_spec =
     tie.close
     (tie.spec
     (λ c κs. search rules) (λ c. search rules) (λ c. search rules)

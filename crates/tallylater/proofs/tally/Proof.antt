@@ -4,42 +4,27 @@ use Rattle.tallylater.proofs.ReadLaws.{tally-short, blob-ready, tally-refused, t
 use Rattle.tallylater.proofs.tally.Statement.{statement}
 use Rattle.tallylater.proofs.tally.Tie as tie
 
-returns : tie.Need-returns
+returns : tie.Need-returns-then-stream-lt-OBJECT_AT
 returns c =
-    let start : tie.Start = search in
-    let told : tie.After-counted = search in
-    let a = start.args in
-    tally-short a.stream.now a.control-room a.property-room a.words.now (omega arith) told.counted.ensures
+    let a = c.args in
+    tally-short a.stream.now a.control_room a.property_room a.words.now (omega arith) c.counted.ensures
 
-returns-2 : tie.Need-returns-2
+returns-2 : tie.Need-returns-then-a-ne0
 returns-2 c =
-    let start : tie.Start = search in
-    let long : tie.Else1 = search in
-    let counted : tie.After-count = search in
-    let judged : tie.After-judge = search in
-    let a = start.args in
-    tally-refused long.if1.left counted.count.ensures a.control-room a.property-room judged.judge.ensures a.words.now c.if2.true
+    let a = c.args in
+    tally-refused c.if-stream-lt-OBJECT_AT.false c.count-n.ensures a.control_room a.property_room c.judge-a.ensures a.words.now c.if-a-ne0.true
 
-count-blob-requires : tie.Need-count-blob-requires
+count-blob-requires : tie.Need-count_blob-requires
 count-blob-requires c κs =
-    let start : tie.Start = search in
-    let long : tie.Else1 = search in
-    let counted : tie.After-count = search in
-    blob-ready long.if1.left counted.count.ensures start.pre
+    blob-ready c.if-stream-lt-OBJECT_AT.false c.count-n.ensures c.requires
 
-returns-3 : tie.Need-returns-3
+returns-3 : tie.Need-returns
 returns-3 c =
-    let start : tie.Start = search in
-    let long : tie.Else1 = search in
-    let counted : tie.After-count = search in
-    let judged : tie.After-judge = search in
-    let zero : tie.Else2 = search in
-    let went : tie.After-count-blob = search in
-    let a = start.args in
-    tally-done long.if1.left counted.count.ensures a.control-room a.property-room judged.judge.ensures a.words.now start.pre zero.if2.left went.count-blob.ensures
+    let a = c.args in
+    tally-done c.if-stream-lt-OBJECT_AT.false c.count-n.ensures a.control_room a.property_room c.judge-a.ensures a.words.now c.requires c.if-a-ne0.false c.count_blob.ensures
 
-pub tally-spec : {M : Type 1} → statement M
-tally-spec =
+pub tally_spec : {M : Type 1} → statement M
+tally_spec =
     tie.close
     (tie.spec
     (λ c κs. search rules)

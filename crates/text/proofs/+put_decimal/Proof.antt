@@ -31,28 +31,28 @@ put-decimal-calls t = (put-short-reads.Asked, put-short-reads.Learnt, put-decima
 
 -- places
 abbrev Else1 : ℕ → Type 0
-Else1 t = put-decimal-lts.Else1 (put-decimal-calls t) (put-decimal-at t) put-decimal.Post
+Else1 t = put-decimal-lts.Else-n-lt10000 (put-decimal-calls t) (put-decimal-at t) put-decimal.Post
 
 abbrev After-put-decimal : ℕ → Type 0
-After-put-decimal t = put-decimal-lts.After-put-decimal (put-decimal-calls t) (put-decimal-at t) put-decimal.Post
+After-put-decimal t = put-decimal-lts.After-put_decimal-o (put-decimal-calls t) (put-decimal-at t) put-decimal.Post
 
-put-decimal-returns : (t : ℕ) → put-decimal-lts.Need-returns (put-decimal-calls t) (put-decimal-at t) put-decimal.Post
-put-decimal-returns t c = c.before.before.put-short.ensures
+put-decimal-returns : (t : ℕ) → put-decimal-lts.Need-returns-then-n-lt10000 (put-decimal-calls t) (put-decimal-at t) put-decimal.Post
+put-decimal-returns t c = c.put_short.ensures
 
-put-decimal-same-length : (t : ℕ) → put-decimal-lts.Need-same-length (put-decimal-calls t) (put-decimal-at t) put-decimal.Post
+put-decimal-same-length : (t : ℕ) → put-decimal-lts.Need-shape_of-out-then-n-lt10000 (put-decimal-calls t) (put-decimal-at t) put-decimal.Post
 put-decimal-same-length t c = same (put-decimal-returns t c)
 
-put-decimal-returns-2 : (t : ℕ) → put-decimal-lts.Need-returns-2 (put-decimal-calls t) (put-decimal-at t) put-decimal.Post
+put-decimal-returns-2 : (t : ℕ) → put-decimal-lts.Need-returns-else-n-lt10000 (put-decimal-calls t) (put-decimal-at t) put-decimal.Post
 put-decimal-returns-2 t c =
     let after-put-decimal : After-put-decimal t = search in
     let else1 : Else1 t = search in
-    wrote_as (after-put-decimal.put-decimal.ensures ⨟ c.before.before.put-thousands.ensures) (sym (more-four else1.before.before.args.n else1.if1.left))
+    wrote_as (after-put-decimal.put_decimal-o.ensures ⨟ c.put_thousands.ensures) (sym (more-four else1.args.n else1.if-n-lt10000.false))
 
-put-decimal-same-length-2 : (t : ℕ) → put-decimal-lts.Need-same-length-2 (put-decimal-calls t) (put-decimal-at t) put-decimal.Post
+put-decimal-same-length-2 : (t : ℕ) → put-decimal-lts.Need-shape_of-out-else-n-lt10000 (put-decimal-calls t) (put-decimal-at t) put-decimal.Post
 put-decimal-same-length-2 t c = same (put-decimal-returns-2 t c)
 
-pub +put-decimal-spec : {M : Type 1} → statement M
-+put-decimal-spec = close μ-put-decimal λ t. put-decimal-lts.spec (put-decimal-calls t)
+pub +put_decimal_spec : {M : Type 1} → statement M
++put_decimal_spec = close μ-put-decimal λ t. put-decimal-lts.spec (put-decimal-calls t)
     (put-decimal-at t)
     put-decimal.Post
     (λ c κs. omega arith) (λ c κs. omega arith) (λ c κs. omega arith)

@@ -27,26 +27,26 @@ put-hex-calls t = (put-hex-below t, put-hex.Post, put-digit-reads.Asked, put-dig
 
 -- places
 abbrev Else1 : ℕ → Type 0
-Else1 t = put-hex-lts.Else1 (put-hex-calls t) (put-hex-at t) put-hex.Post
+Else1 t = put-hex-lts.Else-k-eq0 (put-hex-calls t) (put-hex-at t) put-hex.Post
 
 abbrev After-put-hex : ℕ → Type 0
-After-put-hex t = put-hex-lts.After-put-hex (put-hex-calls t) (put-hex-at t) put-hex.Post
+After-put-hex t = put-hex-lts.After-put_hex-o (put-hex-calls t) (put-hex-at t) put-hex.Post
 
-put-hex-returns : (t : ℕ) → put-hex-lts.Need-returns (put-hex-calls t) (put-hex-at t) put-hex.Post
-put-hex-returns t c = let a = c.before.before.args in rw (no-hex a.k a.n c.if1.true) nothing
+put-hex-returns : (t : ℕ) → put-hex-lts.Need-returns-then-k-eq0 (put-hex-calls t) (put-hex-at t) put-hex.Post
+put-hex-returns t c = let a = c.args in rw (no-hex a.k a.n c.if-k-eq0.true) nothing
 
-put-hex-returns-2 : (t : ℕ) → put-hex-lts.Need-returns-2 (put-hex-calls t) (put-hex-at t) put-hex.Post
+put-hex-returns-2 : (t : ℕ) → put-hex-lts.Need-returns-else-k-eq0 (put-hex-calls t) (put-hex-at t) put-hex.Post
 put-hex-returns-2 t c =
     let after-put-hex : After-put-hex t = search in
     let else1 : Else1 t = search in
-    let a = else1.before.before.args in
-    rw (more-hex a.k a.n else1.if1.left) (after-put-hex.put-hex.ensures ⨟ c.before.before.put-digit.ensures)
+    let a = else1.args in
+    rw (more-hex a.k a.n else1.if-k-eq0.false) (after-put-hex.put_hex-o.ensures ⨟ c.put_digit.ensures)
 
-put-hex-same-length : (t : ℕ) → put-hex-lts.Need-same-length (put-hex-calls t) (put-hex-at t) put-hex.Post
+put-hex-same-length : (t : ℕ) → put-hex-lts.Need-shape_of-out (put-hex-calls t) (put-hex-at t) put-hex.Post
 put-hex-same-length t c = same (put-hex-returns-2 t c)
 
-pub +put-hex-spec : {M : Type 1} → statement M
-+put-hex-spec = close μ-put-hex λ t. put-hex-lts.spec (put-hex-calls t)
+pub +put_hex_spec : {M : Type 1} → statement M
++put_hex_spec = close μ-put-hex λ t. put-hex-lts.spec (put-hex-calls t)
     (put-hex-at t)
     put-hex.Post
     (λ c. omega arith) (λ c κs. omega arith) (λ c κs. omega arith)

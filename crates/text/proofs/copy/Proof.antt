@@ -10,31 +10,25 @@ use Rattle.text.proofs.copy.Statement.{statement}
 use Rattle.text.proofs.copy.Tie as tie
 
 -- what stands from i on is still to be copied, and has room
-abbrev invariant-loop : tie.invariant-loop
+abbrev invariant-loop : tie.invariant-loop-i
 invariant-loop out₀ at s o₀ i₀ out o i = (length out ≡ length out₀) × (i ≤ length s) × (o + (length s - i) ≤ length out) × Remains out₀ at s out o (drop i s)
 
-abbrev decreases-loop : tie.decreases-loop
+abbrev decreases-loop : tie.decreases-loop-i
 decreases-loop out₀ at s o₀ i₀ out o i = length s - i
 
-loop-holds : tie.Need-loop-init invariant-loop decreases-loop
+loop-holds : tie.Need-loop-i-init invariant-loop decreases-loop
 loop-holds c =
-    let start : tie.Start invariant-loop decreases-loop = search in
     (refl, omega arith, omega arith, all_remains)
 
-loop-again : tie.Need-loop-preserved invariant-loop decreases-loop
+loop-again : tie.Need-loop-i-preserved invariant-loop decreases-loop
 loop-again c =
-    let start : tie.Start invariant-loop decreases-loop = search in
-    let turn : tie.At-loop invariant-loop decreases-loop = search in
-    let set : tie.After-set-eight invariant-loop decreases-loop = search in
-    let l = turn.loop in
-    let k = same set.set-eight.ensures in
-    (k ∙ l.inv.0, omega arith, omega (arith, k), on l.inv.3 (eight-more start.args.s.now l.i (omega arith)) set.set-eight.ensures)
+    let l = c.loop-i in
+    let k = same c.set_eight.ensures in
+    (k ∙ l.invariant.0, omega arith, omega (arith, k), on l.invariant.3 (eight-more c.args.s.now l.i (omega arith)) c.set_eight.ensures)
 
 returns : tie.Need-returns invariant-loop decreases-loop
 returns c =
-    let turn : tie.At-loop invariant-loop decreases-loop = search in
-    let rest : tie.After-copy-some invariant-loop decreases-loop = search in
-    turn.loop.inv.3.so _ _ rest.copy_some.ensures
+    c.loop-i.invariant.3.so _ _ c.copy_some.ensures
 
 pub copy_spec : {M : Type 1} → statement M
 copy_spec =

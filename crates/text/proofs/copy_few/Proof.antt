@@ -6,15 +6,12 @@ use Rattle.text.proofs.Copies.{drop-two}
 use Rattle.text.proofs.copy_few.Statement.{statement}
 use Rattle.text.proofs.copy_few.Tie as tie
 
-returns : tie.Need-returns
+returns : tie.Need-returns-then-s-i-ge2
 returns c =
-    let start : tie.Start = search in
-    let set : tie.After-set-two = search in
-    let rest : tie.After-copy-last = search in
-    wrote_as (set.set-two.ensures ⨟ rest.copy-last.ensures) (sym (drop-two start.args.s.now start.args.i (omega arith)))
+    wrote_as (c.set_two.ensures ⨟ c.copy_last.ensures) (sym (drop-two c.args.s.now c.args.i (omega arith)))
 
-pub copy-few-spec : {M : Type 1} → statement M
-copy-few-spec =
+pub copy_few_spec : {M : Type 1} → statement M
+copy_few_spec =
     tie.close
     (tie.spec
     (λ c. search rules) (λ c. search rules) (λ c. search rules) (λ c. search rules) (λ c κs. search rules)

@@ -6,15 +6,12 @@ use Rattle.text.proofs.Copies.{drop-four}
 use Rattle.text.proofs.copy_some.Statement.{statement}
 use Rattle.text.proofs.copy_some.Tie as tie
 
-returns : tie.Need-returns
+returns : tie.Need-returns-then-s-i-ge4
 returns c =
-    let start : tie.Start = search in
-    let set : tie.After-set-four = search in
-    let rest : tie.After-copy-few = search in
-    wrote_as (set.set-four.ensures ⨟ rest.copy-few.ensures) (sym (drop-four start.args.s.now start.args.i (omega arith)))
+    wrote_as (c.set_four.ensures ⨟ c.copy_few.ensures) (sym (drop-four c.args.s.now c.args.i (omega arith)))
 
-pub copy-some-spec : {M : Type 1} → statement M
-copy-some-spec =
+pub copy_some_spec : {M : Type 1} → statement M
+copy_some_spec =
     tie.close
     (tie.spec
     (λ c. search rules) (λ c. search rules) (λ c. search rules) (λ c. search rules) (λ c. search rules) (λ c. search rules) (λ c. search rules) (λ c. search rules) (λ c κs. search rules)

@@ -11,26 +11,26 @@ record Kept (n size rest : ℕ) : Type 0 where
   within : rest ≤ n
   size_is : size + length (label rest) ≡ length (label n) + 9
 
-abbrev invariant-loop : tie.invariant-loop
+abbrev invariant-loop : tie.invariant-loop-rest
 invariant-loop n size₀ rest₀ size rest = Kept n size rest
 
-abbrev decreases-loop : tie.decreases-loop
+abbrev decreases-loop : tie.decreases-loop-rest
 decreases-loop n size₀ rest₀ size rest = rest
 
-loop-holds : tie.Need-loop-init invariant-loop decreases-loop
+loop-holds : tie.Need-loop-rest-init invariant-loop decreases-loop
 loop-holds c = record { within = omega arith; size_is = omega arith }
 
-add-size : tie.Need-overflow-add-size invariant-loop decreases-loop
-add-size c = let n = c.before.before.args.n in omega (arith, longest-label n (omega arith))
+add-size : tie.Need-overflow_add-size invariant-loop decreases-loop
+add-size c = let n = c.args.n in omega (arith, longest-label n (omega arith))
 
-loop-again : tie.Need-loop-preserved invariant-loop decreases-loop
+loop-again : tie.Need-loop-rest-preserved invariant-loop decreases-loop
 loop-again c =
-    let l = longer-label c.before.loop.rest (omega arith) in
+    let l = longer-label c.loop-rest.rest (omega arith) in
     record { within = omega arith; size_is = omega arith }
 
 returns : tie.Need-returns invariant-loop decreases-loop
-returns c = let r = c.before.loop.rest in omega (arith, short-label r (omega arith))
+returns c = let r = c.loop-rest.rest in omega (arith, short-label r (omega arith))
 
-pub label-length-spec : {M : Type 1} → statement M
-label-length-spec =
+pub label_length_spec : {M : Type 1} → statement M
+label_length_spec =
     tie.close (tie.spec invariant-loop decreases-loop loop-holds add-size (λ c. omega arith) loop-again returns)

@@ -9,30 +9,26 @@ use Rattle.text.proofs.Written.{shown, room-exit, no-room-exit}
 use Rattle.text.proofs.label_text.Statement.{statement}
 use Rattle.text.proofs.label_text.Tie as tie
 
-returns : tie.Need-returns
+returns : tie.Need-returns-then-out-size
 unfolding label_exit
 returns c =
-    let start : tie.Start = search in
-    let a = start.args in
-    shown (no-room-exit (label a.n) a.out.now (omega (arith, c.before.before.label-length.ensures))) c.refused.ensures
+    let a = c.args in
+    shown (no-room-exit (label a.n) a.out.now (omega (arith, c.label_length-size.ensures))) c.refused.ensures
 
-returns-2 : tie.Need-returns-2
+returns-2 : tie.Need-returns
 unfolding label label_exit
 returns-2 c =
-    let after-put-text : tie.After-put-text = search in
-    let after-label-length : tie.After-label-length = search in
-    let start : tie.Start = search in
-    let a = start.args in
-    let w = after-put-text.put-text.ensures ⨟ c.before.before.before.put-decimal.ensures in
+    let a = c.args in
+    let w = c.put_text-at.ensures ⨟ c.put_decimal.ensures in
     shown
-    (room-exit (label a.n) a.out.now w (omega (arith, after-label-length.label-length.ensures)))
-    (c.wrote.ensures ∙ ap (λ (n : ℕ). answer 0 n 0 0) after-label-length.label-length.ensures)
+    (room-exit (label a.n) a.out.now w (omega (arith, c.label_length-size.ensures)))
+    (c.wrote.ensures ∙ ap (λ (n : ℕ). answer 0 n 0 0) c.label_length-size.ensures)
 
-pub label-text-spec : {M : Type 1} → statement M
-label-text-spec =
+pub label_text_spec : {M : Type 1} → statement M
+label_text_spec =
     tie.close
     (tie.spec
     (λ c κs. search rules) (λ c. search rules) (λ c κs. search rules)
     returns
-    (λ c. search rules) (λ c κs. search rules) (λ c κs. search rules) (λ c κs. search rules) (λ c. search rules)
+    (λ c κs. search rules) (λ c κs. search rules) (λ c κs. search rules) (λ c. search rules)
     returns-2)

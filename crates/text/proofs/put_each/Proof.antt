@@ -13,31 +13,28 @@ record Kept (old : List ℕ) (at : ℕ) (s new : List ℕ) (next i : ℕ) : Type
   within : i ≤ length s
   wrote : Wrote old at (take i s) new next
 
-abbrev invariant-loop : tie.invariant-loop
+abbrev invariant-loop : tie.invariant-loop-i
 invariant-loop out₀ at s o₀ i₀ out o i = Kept out₀ at s out o i
 
-abbrev decreases-loop : tie.decreases-loop
+abbrev decreases-loop : tie.decreases-loop-i
 decreases-loop out₀ at s o₀ i₀ out o i = length s - i
 
-loop-holds : tie.Need-loop-init invariant-loop decreases-loop
+loop-holds : tie.Need-loop-i-init invariant-loop decreases-loop
 loop-holds c = record { within = omega arith; wrote = nothing }
 
-loop-again : tie.Need-loop-preserved invariant-loop decreases-loop
+loop-again : tie.Need-loop-i-preserved invariant-loop decreases-loop
 loop-again c =
-    let at-loop : tie.At-loop invariant-loop decreases-loop = search in
-    let start : tie.Start invariant-loop decreases-loop = search in
-    let l = at-loop.loop in
-    let h : l.i < length start.args.s.now = omega arith in
-    record { within = omega arith; wrote = rw (add-one, take-suc start.args.s.now l.i 0 h) (l.inv.wrote ⨟ c.before.before.put_byte.ensures) }
+    let l = c.loop-i in
+    let h : l.i < length c.args.s.now = omega arith in
+    record { within = omega arith; wrote = rw (add-one, take-suc c.args.s.now l.i 0 h) (l.invariant.wrote ⨟ c.put_byte-o.ensures) }
 
 returns : tie.Need-returns invariant-loop decreases-loop
 returns c =
-    let start : tie.Start invariant-loop decreases-loop = search in
-    let l = c.before.loop in
-    rw (take_all l.i start.args.s.now c.loop-test.false) at l.invariant.wrote
+    let l = c.loop-i in
+    rw (take_all l.i c.args.s.now c.loop-i-test.false) at l.invariant.wrote
 
-pub put-each-spec : {M : Type 1} → statement M
-put-each-spec =
+pub put_each_spec : {M : Type 1} → statement M
+put_each_spec =
     tie.close
     (tie.spec
     invariant-loop

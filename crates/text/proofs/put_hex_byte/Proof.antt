@@ -5,7 +5,7 @@ use Rattle.text.proofs.put_hex_byte.Tie as tie
 
 returns : tie.Need-returns
 unfolding hex
-returns c = let put : tie.After-put-two-digits = search in put.put-two-digits.ensures
+returns c = c.put_two_digits.ensures
 
-pub put-hex-byte-spec : {M : Type 1} → statement M
-put-hex-byte-spec = tie.close (tie.spec (λ c κs. search rules) (λ c. search rules) returns)
+pub put_hex_byte_spec : {M : Type 1} → statement M
+put_hex_byte_spec = tie.close (tie.spec (λ c κs. search rules) (λ c. search rules) returns)

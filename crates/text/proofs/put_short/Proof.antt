@@ -6,33 +6,24 @@ use Rattle.text.proofs.Digits.{one-digit, two_digits, three_digits, four_digits_
 use Rattle.text.proofs.put_short.Statement.{statement}
 use Rattle.text.proofs.put_short.Tie as tie
 
-returns : tie.Need-returns
+returns : tie.Need-returns-then-n-lt10
 returns c =
-    let start : tie.Start = search in
-    let put : tie.After-put-digit = search in
-    wrote_as put.put-digit.ensures (sym (one-digit start.args.n (omega arith)))
+    wrote_as c.put_digit.ensures (sym (one-digit c.args.n (omega arith)))
 
-returns-2 : tie.Need-returns-2
+returns-2 : tie.Need-returns-then-n-lt100
 returns-2 c =
-    let start : tie.Start = search in
-    let put : tie.After-put-tens = search in
-    wrote_as put.put-tens.ensures (sym (two_digits start.args.n (omega arith) (omega arith)))
+    wrote_as c.put_tens.ensures (sym (two_digits c.args.n (omega arith) (omega arith)))
 
-returns-3 : tie.Need-returns-3
+returns-3 : tie.Need-returns-then-n-lt1000
 returns-3 c =
-    let start : tie.Start = search in
-    let first : tie.After-put-digit2 = search in
-    let put : tie.After-put-tens2 = search in
-    wrote_as (first.put-digit2.ensures ⨟ put.put-tens2.ensures) (sym (three_digits start.args.n (omega arith) (omega arith)))
+    wrote_as (c.put_digit-p.ensures ⨟ c.put_tens-then-n-lt1000.ensures) (sym (three_digits c.args.n (omega arith) (omega arith)))
 
-returns-4 : tie.Need-returns-4
+returns-4 : tie.Need-returns
 returns-4 c =
-    let start : tie.Start = search in
-    let put : tie.After-put-thousands = search in
-    wrote_as put.put-thousands.ensures (sym (four_digits_lem start.args.n (omega arith) start.pre))
+    wrote_as c.put_thousands.ensures (sym (four_digits_lem c.args.n (omega arith) c.requires))
 
-pub put-short-spec : {M : Type 1} → statement M
-put-short-spec =
+pub put_short_spec : {M : Type 1} → statement M
+put_short_spec =
     tie.close
     (tie.spec
     (λ c κs. search rules)

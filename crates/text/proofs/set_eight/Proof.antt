@@ -8,13 +8,10 @@ use Rattle.text.proofs.set_eight.Tie as tie
 
 returns : tie.Need-returns
 returns c =
-    let start : tie.Start = search in
-    let first : tie.After-set-four = search in
-    let second : tie.After-set-four2 = search in
-    ends _ (wrote_as (first.set-four.ensures ⨟ second.set-four2.ensures) (sym (part-eight start.args.s.now start.args.i start.pre.1))) (omega arith)
+    ends _ (wrote_as (c.set_four.ensures ⨟ c.set_four-2.ensures) (sym (part-eight c.args.s.now c.args.i c.requires.1))) (omega arith)
 
-pub set-eight-spec : {M : Type 1} → statement M
-set-eight-spec =
+pub set_eight_spec : {M : Type 1} → statement M
+set_eight_spec =
     tie.close
     (tie.spec
     (λ c. search rules) (λ c. search rules) (λ c. search rules) (λ c. search rules) (λ c. search rules) (λ c. search rules) (λ c. search rules) (λ c. search rules)

@@ -7,9 +7,7 @@ use Rattle.text.proofs.set_four.Tie as tie
 
 returns : tie.Need-returns
 returns c =
-    let first : tie.After-set-two = search in
-    let second : tie.After-set-two2 = search in
-    ends _ (first.set-two.ensures ⨟ second.set-two2.ensures) (omega arith)
+    ends _ (c.set_two.ensures ⨟ c.set_two-2.ensures) (omega arith)
 
-pub set-four-spec : {M : Type 1} → statement M
-set-four-spec = tie.close (tie.spec (λ c κs. search rules) (λ c. search rules) (λ c κs. search rules) (λ c. search rules) returns)
+pub set_four_spec : {M : Type 1} → statement M
+set_four_spec = tie.close (tie.spec (λ c κs. search rules) (λ c. search rules) (λ c κs. search rules) (λ c. search rules) returns)

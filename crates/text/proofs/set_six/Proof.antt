@@ -7,9 +7,7 @@ use Rattle.text.proofs.set_six.Tie as tie
 
 returns : tie.Need-returns
 returns c =
-    let first : tie.After-set-four = search in
-    let second : tie.After-set-two = search in
-    ends _ (first.set-four.ensures ⨟ second.set-two.ensures) (omega arith)
+    ends _ (c.set_four.ensures ⨟ c.set_two.ensures) (omega arith)
 
-pub set-six-spec : {M : Type 1} → statement M
-set-six-spec = tie.close (tie.spec (λ c κs. search rules) (λ c. search rules) (λ c κs. search rules) (λ c. search rules) returns)
+pub set_six_spec : {M : Type 1} → statement M
+set_six_spec = tie.close (tie.spec (λ c κs. search rules) (λ c. search rules) (λ c κs. search rules) (λ c. search rules) returns)

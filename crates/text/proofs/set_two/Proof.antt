@@ -5,18 +5,16 @@ use Rattle.text.proofs.Copies.{two-set}
 use Rattle.text.proofs.set_two.Statement.{statement}
 use Rattle.text.proofs.set_two.Tie as tie
 
-slice-write-out-2 : tie.Need-slice-write-out-2
+slice-write-out-2 : tie.Need-bounds-out-at-2
 slice-write-out-2 c =
-    let start : tie.Start = search in
-    simp length-set (omega (arith, start.pre))
+    simp length-set (omega (arith, c.requires))
 
 returns : tie.Need-returns
 returns c =
-    let start : tie.Start = search in
-    two-set start.pre
+    two-set c.requires
 
-pub set-two-spec : {M : Type 1} → statement M
-set-two-spec =
+pub set_two_spec : {M : Type 1} → statement M
+set_two_spec =
     tie.close
     (tie.spec
     (λ c. search rules)

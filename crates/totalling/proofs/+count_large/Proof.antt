@@ -38,28 +38,28 @@ count-large-calls t = (
 
 module _ (t : ℕ) where
   count-requires : count-large-lts.Need-count-requires (count-large-calls t) (count-large-at t) count-large.Post
-  count-requires c κs = c.before.before.requires.1 c.if1.true
+  count-requires c κs = c.before.before.requires.1 c.if-whole.true
 
-  array-share-prefix-space : count-large-lts.Need-array-share-prefix-space (count-large-calls t) (count-large-at t) count-large.Post
+  array-share-prefix-space : count-large-lts.Need-slice_bounds-space-end (count-large-calls t) (count-large-at t) count-large.Post
   array-share-prefix-space c =
-      let filled : count-large-lts.After-fill (count-large-calls t) (count-large-at t) count-large.Post = search in
-      inside filled.fill.ensures filled.fill.kept.0
+      let filled : count-large-lts.After-fill-size (count-large-calls t) (count-large-at t) count-large.Post = search in
+      inside filled.fill-size.ensures filled.fill-size.auto.0
 
-  slice-aggregate-again : count-large-lts.Need-slice-aggregate-count-large (count-large-calls t) (count-large-at t) count-large.Post
+  slice-aggregate-again : count-large-lts.Need-slice_bounds-count_large-end (count-large-calls t) (count-large-at t) count-large.Post
   slice-aggregate-again c =
-      let filled : count-large-lts.After-fill (count-large-calls t) (count-large-at t) count-large.Post = search in
-      part-size filled.fill.ensures filled.fill.kept.0
+      let filled : count-large-lts.After-fill-size (count-large-calls t) (count-large-at t) count-large.Post = search in
+      part-size filled.fill-size.ensures filled.fill-size.auto.0
 
-  again-requires : count-large-lts.Need-count-large-requires (count-large-calls t) (count-large-at t) count-large.Post
+  again-requires : count-large-lts.Need-count_large-requires (count-large-calls t) (count-large-at t) count-large.Post
   again-requires c κs =
-      let filled : count-large-lts.After-fill (count-large-calls t) (count-large-at t) count-large.Post = search in
-      let space : count-large-lts.After-large-input (count-large-calls t) (count-large-at t) count-large.Post = search in
-      let first : count-large-lts.Else1 (count-large-calls t) (count-large-at t) count-large.Post = search in
+      let filled : count-large-lts.After-fill-size (count-large-calls t) (count-large-at t) count-large.Post = search in
+      let space : count-large-lts.After-large_input-space (count-large-calls t) (count-large-at t) count-large.Post = search in
+      let first : count-large-lts.Else-whole (count-large-calls t) (count-large-at t) count-large.Post = search in
       let start : count-large-lts.Start (count-large-calls t) (count-large-at t) count-large.Post = search in
-      (once start.args.whole start.pre.0 first.if1.left, λ _. part-short filled.fill.ensures filled.fill.kept.0 space.large-input.ensures)
+      (once start.args.whole start.requires.0 first.if-whole.false, λ _. part-short filled.fill-size.ensures filled.fill-size.auto.0 space.large_input-space.ensures)
 
-pub +count-large-spec : {M : Type 1} → statement M
-+count-large-spec = close μ-count-large λ t. count-large-lts.spec (count-large-calls t)
+pub +count_large_spec : {M : Type 1} → statement M
++count_large_spec = close μ-count-large λ t. count-large-lts.spec (count-large-calls t)
     (count-large-at t)
     count-large.Post
     (count-requires t)

@@ -9,22 +9,18 @@ use Rattle.totalling.proofs.Printing.{all-printed}
 use Rattle.totalling.proofs.count.Statement.{statement}
 use Rattle.totalling.proofs.count.Tie as tie
 
-array-share-prefix-out : tie.Need-array-share-prefix-out
+array-share-prefix-out : tie.Need-slice_bounds-out-end
 array-share-prefix-out c =
-    let written : tie.After-write-counted = search in
-    let w = written.write-counted in
+    let w = c.write_counted-end in
     omega (arith, within w.ensures.wrote, w.kept.1.0, length-replicate {A = ℕ} 256 0)
 
-slice-aggregate-print : tie.Need-slice-aggregate-print
+slice-aggregate-print : tie.Need-slice_bounds-print-end
 slice-aggregate-print c =
-    let written : tie.After-write-counted = search in
-    sym (length-take-le _ _ (within written.write-counted.ensures.wrote))
+    sym (length-take-le _ _ (within c.write_counted-end.ensures.wrote))
 
 print-requires : tie.Need-print-requires
 print-requires c κs =
-    let written : tie.After-write-counted = search in
-    let start : tie.Start = search in
-    all-printed written.write-counted.ensures (simp length-replicate (omega arith)) start.pre
+    all-printed c.write_counted-end.ensures (simp length-replicate (omega arith)) c.requires
 
 pub count_spec : {M : Type 1} → statement M
 count_spec =

@@ -15,32 +15,29 @@ record Kept (old : List ℕ) (at : ℕ) (ns new : List ℕ) (next i : ℕ) : Typ
   within : i ≤ length ns
   wrote : Wrote old at (number_bytes (take i ns)) new next
 
-abbrev invariant-loop : tie.invariant-loop
+abbrev invariant-loop : tie.invariant-loop-i
 invariant-loop out₀ at numbers o₀ i₀ out o i = Kept out₀ at numbers out o i
 
-abbrev decreases-loop : tie.decreases-loop
+abbrev decreases-loop : tie.decreases-loop-i
 decreases-loop out₀ at numbers o₀ i₀ out o i = length numbers - i
 
-loop-holds : tie.Need-loop-init invariant-loop decreases-loop
+loop-holds : tie.Need-loop-i-init invariant-loop decreases-loop
 unfolding number_bytes
 loop-holds c = record { within = omega arith; wrote = nothing }
 
-loop-again : tie.Need-loop-preserved invariant-loop decreases-loop
+loop-again : tie.Need-loop-i-preserved invariant-loop decreases-loop
 loop-again c =
-    let at-loop : tie.At-loop invariant-loop decreases-loop = search in
-    let start : tie.Start invariant-loop decreases-loop = search in
-    let l = at-loop.loop in
-    let h : l.i < length start.args.numbers.now = omega arith in
-    record { within = omega arith; wrote = wrote_as (l.inv.wrote ⨟ c.before.before.put_four.ensures) (bytes_next start.args.numbers.now l.i h) }
+    let l = c.loop-i in
+    let h : l.i < length c.args.numbers.now = omega arith in
+    record { within = omega arith; wrote = wrote_as (l.invariant.wrote ⨟ c.put_four-o.ensures) (bytes_next c.args.numbers.now l.i h) }
 
 returns : tie.Need-returns invariant-loop decreases-loop
 returns c =
-    let start : tie.Start invariant-loop decreases-loop = search in
-    let l = c.before.loop in
-    wrote_as l.invariant.wrote (ap number_bytes (take_all l.i start.args.numbers.now c.loop-test.false))
+    let l = c.loop-i in
+    wrote_as l.invariant.wrote (ap number_bytes (take_all l.i c.args.numbers.now c.loop-i-test.false))
 
-pub put-numbers-spec : {M : Type 1} → statement M
-put-numbers-spec =
+pub put_numbers_spec : {M : Type 1} → statement M
+put_numbers_spec =
     tie.close
     (tie.spec
     invariant-loop

@@ -17,21 +17,17 @@ many c = search rules
 nine : (c : tie.Start) → length c.args.t.marks ≡ 9
 nine c = search rules
 
-start_of : tie.After-put-numbers → tie.Start
+start_of : tie.After-put_numbers-p → tie.Start
 start_of c = search
 
 returns : tie.Need-returns
 unfolding record_bytes start_of
 returns c =
-    let marks : tie.After-put-numbers3 = search in
-    let mapped : tie.After-put-four2 = search in
-    let unmapped : tie.After-put-four = search in
-    let types : tie.After-put-numbers2 = search in
-    let answers : tie.After-put-numbers = search in
-    (answers.put-numbers.ensures ⨟ (types.put-numbers2.ensures ⨟ (unmapped.put_four.ensures ⨟ (mapped.put-four2.ensures ⨟ marks.put-numbers3.ensures))), let start = start_of answers in record_many start.args.t (six start) (many start) (nine start))
+    let answers : tie.After-put_numbers-p = search in
+    (answers.put_numbers-p.ensures ⨟ (c.put_numbers-p-2.ensures ⨟ (c.put_four-p.ensures ⨟ (c.put_four-p-2.ensures ⨟ c.put_numbers.ensures))), let start = start_of answers in record_many start.args.t (six start) (many start) (nine start))
 
-pub put-record-spec : {M : Type 1} → statement M
-put-record-spec =
+pub put_record_spec : {M : Type 1} → statement M
+put_record_spec =
     tie.close
     (tie.spec
     (λ c. search rules) (λ c κs. search rules) (λ c. search rules) (λ c κs. search rules) (λ c κs. search rules) (λ c κs. search rules)

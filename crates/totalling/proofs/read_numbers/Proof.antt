@@ -14,56 +14,48 @@ record Kept (input : List ℕ) (at : ℕ) (old new : List ℕ) (p i : ℕ) : Typ
   place : p ≡ at + 4 * i
   rest : numbers_at input at (length old) ≡ take i new ++ numbers_at input p (length old - i)
 
-abbrev invariant-loop : tie.invariant-loop
+abbrev invariant-loop : tie.invariant-loop-i
 invariant-loop input at out₀ p₀ i₀ out p i = Kept input at out₀ out p i
 
-abbrev decreases-loop : tie.decreases-loop
+abbrev decreases-loop : tie.decreases-loop-i
 decreases-loop input at out₀ p₀ i₀ out p i = length out₀ - i
 
-loop-holds : tie.Need-loop-init invariant-loop decreases-loop
+loop-holds : tie.Need-loop-i-init invariant-loop decreases-loop
 loop-holds c =
-    let start : tie.Start invariant-loop decreases-loop = search in
-    record { within = omega arith; same = refl; place = omega arith; rest = numbers_start start.args.input.now start.args.out.now start.args.at (length start.args.out.now) }
+    record { within = omega arith; same = refl; place = omega arith; rest = numbers_start c.args.input.now c.args.out.now c.args.at (length c.args.out.now) }
 
-slice-write-out : tie.Need-slice-write-out invariant-loop decreases-loop
+slice-write-out : tie.Need-bounds-out-i invariant-loop decreases-loop
 slice-write-out c = omega arith
 
-add-p : tie.Need-overflow-add-p invariant-loop decreases-loop
+add-p : tie.Need-overflow_add-p invariant-loop decreases-loop
 add-p c =
-    let turn : tie.At-loop invariant-loop decreases-loop = search in
-    let start : tie.Start invariant-loop decreases-loop = search in
-    omega (arith, turn.loop.inv.place, turn.loop.inv.within, turn.loop.inv.same, start.pre)
+    omega (arith, c.loop-i.invariant.place, c.loop-i.invariant.within, c.loop-i.invariant.same, c.requires)
 
-loop-less : tie.Need-loop-smaller invariant-loop decreases-loop
+loop-less : tie.Need-loop-i-smaller invariant-loop decreases-loop
 loop-less c =
-    let turn : tie.At-loop invariant-loop decreases-loop = search in
-    omega (arith, turn.loop.inv.same)
+    omega (arith, c.loop-i.invariant.same)
 
-loop-again : tie.Need-loop-preserved invariant-loop decreases-loop
+loop-again : tie.Need-loop-i-preserved invariant-loop decreases-loop
 loop-again c =
-    let turn : tie.At-loop invariant-loop decreases-loop = search in
-    let start : tie.Start invariant-loop decreases-loop = search in
-    let read : tie.After-u32-at invariant-loop decreases-loop = search in
-    let l = turn.loop in
-    let e = read.u32-at.ensures in
+    let l = c.loop-i in
+    let e = c.u32_at.ensures in
     let new = l.out in
-    let n = length start.args.out.now in
+    let n = length c.args.out.now in
     let h : l.i < length new = omega arith in
     record {
       within = simp length-set (omega arith);
-      same = simp length-set l.inv.same;
-      place = omega (arith, l.inv.place);
-      rest = l.inv.rest ∙ rw e (numbers_step start.args.input.now new l.p n l.i (omega (arith, l.inv.same)) h);
+      same = simp length-set l.invariant.same;
+      place = omega (arith, l.invariant.place);
+      rest = l.invariant.rest ∙ rw e (numbers_step c.args.input.now new l.p n l.i (omega (arith, l.invariant.same)) h);
     }
 
 returns : tie.Need-returns invariant-loop decreases-loop
 returns c =
-    let start : tie.Start invariant-loop decreases-loop = search in
-    let l = c.before.loop in
-    sym (l.invariant.rest ∙ numbers_end start.args.input.now l.out l.p (length start.args.out.now) l.i (omega (arith, l.invariant.same)) (omega (arith, l.invariant.within)))
+    let l = c.loop-i in
+    sym (l.invariant.rest ∙ numbers_end c.args.input.now l.out l.p (length c.args.out.now) l.i (omega (arith, l.invariant.same)) (omega (arith, l.invariant.within)))
 
-pub read-numbers-spec : {M : Type 1} → statement M
-read-numbers-spec =
+pub read_numbers_spec : {M : Type 1} → statement M
+read_numbers_spec =
     tie.close
     (tie.spec
     invariant-loop
@@ -75,5 +67,5 @@ read-numbers-spec =
     (λ c. omega arith)
     loop-less
     loop-again
-    (λ c. let l = c.before.loop in l.invariant.same)
+    (λ c. let l = c.loop-i in l.invariant.same)
     returns)

@@ -5,16 +5,10 @@ use Rattle.totalling.proofs.record_in.Tie as tie
 
 returns : tie.Need-returns
 returns c =
-    let start : tie.Start = search in
-    let answers : tie.After-read-numbers = search in
-    let types : tie.After-read-numbers2 = search in
-    let marks : tie.After-read-numbers3 = search in
-    let unmapped : tie.After-u32-at = search in
-    let mapped : tie.After-u32-at2 = search in
-    record_is start.args.input.now _ answers.read-numbers.ensures types.read-numbers2.ensures marks.read-numbers3.ensures unmapped.u32-at.ensures mapped.u32-at2.ensures
+    record_is c.args.input.now _ c.read_numbers.ensures c.read_numbers-2.ensures c.read_numbers-3.ensures c.u32_at.ensures c.u32_at-2.ensures
 
-pub record-in-spec : {M : Type 1} → statement M
-record-in-spec =
+pub record_in_spec : {M : Type 1} → statement M
+record_in_spec =
     tie.close
     (tie.spec
     (λ c. search rules) (λ c κs. search rules) (λ c. search rules) (λ c κs. search rules) (λ c. search rules) (λ c κs. search rules)

@@ -8,25 +8,19 @@ use Rattle.totalling.proofs.Printing.{said-written}
 use Rattle.totalling.proofs.write_said.Statement.{statement}
 use Rattle.totalling.proofs.write_said.Tie as tie
 
-line-short : (c : tie.After-totalled) → length (answer_line c.totalled.result.answer) ≤ 51
-line-short c = answer-short c.totalled.result.answer (search rules) (search rules) (search rules) (search rules)
+line-short : (c : tie.After-totalled-counted) → length (answer_line c.totalled-counted.result.answer) ≤ 51
+line-short c = answer-short c.totalled-counted.result.answer (search rules) (search rules) (search rules) (search rules)
 
 returns : tie.Need-returns
 returns c =
-    let put : tie.After-put-record = search in
-    let line : tie.After-answer-line = search in
-    let counted : tie.After-totalled = search in
-    let properties : tie.After-u32-at2 = search in
-    let controls : tie.After-u32-at = search in
-    let old : tie.After-record-in = search in
-    let start : tie.Start = search in
-    let a = start.args in
-    said-written a.input.now a.table.now a.stream.now old.record-in.ensures controls.u32-at.ensures properties.u32-at2.ensures counted.totalled.ensures
-    line.answer-line.ensures put.put_record.ensures.0
-    (said-short counted.totalled.result (line-short counted) put.put_record.ensures.1)
+    let counted : tie.After-totalled-counted = search in
+    let a = c.args in
+    said-written a.input.now a.table.now a.stream.now c.record_in-old.ensures c.u32_at-controls.ensures c.u32_at-properties.ensures counted.totalled-counted.ensures
+    c.answer_line-p.ensures c.put_record.ensures.0
+    (said-short counted.totalled-counted.result (line-short counted) c.put_record.ensures.1)
 
-pub write-said-spec : {M : Type 1} → statement M
-write-said-spec =
+pub write_said_spec : {M : Type 1} → statement M
+write_said_spec =
     tie.close
     (tie.spec
     (λ c κs. search rules) (λ c κs. search rules) (λ c κs. search rules) (λ c κs. search rules) (λ c κs. search rules) (λ c κs. search rules)

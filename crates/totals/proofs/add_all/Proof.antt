@@ -17,46 +17,39 @@ record Kept (into₀ more into : List ℕ) (i : ℕ) : Type 0 where
   fits : all holds (sums (drop i into) (drop i more)) ≡ true
   added : sums into₀ more ≡ take i into ++ sums (drop i into) (drop i more)
 
-abbrev invariant-loop : tie.invariant-loop
+abbrev invariant-loop : tie.invariant-loop-i
 invariant-loop into₀ more i₀ into i = Kept into₀ more into i
 
-abbrev decreases-loop : tie.decreases-loop
+abbrev decreases-loop : tie.decreases-loop-i
 decreases-loop into₀ more i₀ into i = length into₀ - i
 
-loop-holds : tie.Need-loop-init invariant-loop decreases-loop
+loop-holds : tie.Need-loop-i-init invariant-loop decreases-loop
 loop-holds c =
-    let start : tie.Start invariant-loop decreases-loop = search in
-    record { inside = omega arith; same = refl; paired = start.pre.0; fits = start.pre.1; added = refl }
+    record { inside = omega arith; same = refl; paired = c.requires.0; fits = c.requires.1; added = refl }
 
-add-into : tie.Need-overflow-add-into invariant-loop decreases-loop
+add-into : tie.Need-overflow_add-into invariant-loop decreases-loop
 add-into c =
-    let turn : tie.At-loop invariant-loop decreases-loop = search in
-    let start : tie.Start invariant-loop decreases-loop = search in
-    omega (arith, sum-small turn.loop.into start.args.more.now turn.loop.i (omega arith) (omega arith) turn.loop.inv.fits)
+    omega (arith, sum-small c.loop-i.into c.args.more.now c.loop-i.i (omega arith) (omega arith) c.loop-i.invariant.fits)
 
-loop-again : tie.Need-loop-preserved invariant-loop decreases-loop
+loop-again : tie.Need-loop-i-preserved invariant-loop decreases-loop
 loop-again c =
-    let turn : tie.At-loop invariant-loop decreases-loop = search in
-    let start : tie.Start invariant-loop decreases-loop = search in
-    let into = turn.loop.into in
-    let more = start.args.more.now in
-    let i = turn.loop.i in
+    let into = c.loop-i.into in
+    let more = c.args.more.now in
+    let i = c.loop-i.i in
     record {
       inside = simp length-set (omega arith);
       same = simp length-set (omega arith);
       paired = simp length-set (omega arith);
-      fits = rest-fits into more i _ (omega arith) (omega arith) turn.loop.inv.fits;
-      added = turn.loop.inv.added ∙ sum-put into more i (omega arith) (omega arith);
+      fits = rest-fits into more i _ (omega arith) (omega arith) c.loop-i.invariant.fits;
+      added = c.loop-i.invariant.added ∙ sum-put into more i (omega arith) (omega arith);
     }
 
 returns : tie.Need-returns invariant-loop decreases-loop
 returns c =
-    let turn : tie.At-loop invariant-loop decreases-loop = search in
-    let start : tie.Start invariant-loop decreases-loop = search in
-    sym (turn.loop.inv.added ∙ sums-end turn.loop.into start.args.more.now turn.loop.i (omega arith) (omega arith) turn.loop.inv.paired)
+    sym (c.loop-i.invariant.added ∙ sums-end c.loop-i.into c.args.more.now c.loop-i.i (omega arith) (omega arith) c.loop-i.invariant.paired)
 
-pub add-all-spec : {M : Type 1} → statement M
-add-all-spec =
+pub add_all_spec : {M : Type 1} → statement M
+add_all_spec =
     tie.close
     (tie.spec
     invariant-loop

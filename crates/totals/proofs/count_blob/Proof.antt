@@ -67,7 +67,7 @@ machA = LL.val N.the_type N'.the_laws
 answer-is : (r : Totalled) (vs : List Val) → Is S.the_row r vs → Is N.the_row r.answer (machA r.answer ∷ [])
 answer-is r vs is = (LL.owed S.the_type S'.the_laws r vs is).0
 
-totals-is : (r : Totalled) (vs : List Val) → Is S.the_row r vs → Is T.the_row r.totals (mach r.totals ∷ [])
+totals-is : (r : Totalled) (vs : List Val) → Is S.the_row r vs → Is T.the_row r.totals-1 (mach r.totals-1 ∷ [])
 totals-is r vs is = (LL.owed S.the_type S'.the_laws r vs is).1.0
 
 abbrev stayed : Stays (f.ended).signature.params (f.ended).kept
@@ -109,10 +109,10 @@ module _ {M : Type 1} {𝓤 : Ura M} (𝓛 : Logic 𝓤) (at_mem : Memory → SP
   Post = (walk_of 𝓛 f.ended stayed (f.clauses 𝓛 at_mem run)).post (((κ, (κ₁, (κ₂, tt))), (q, (q₁, (q₂, tt))), tt, x, at), tt)
 
   exits : (r : Totalled) → r ≡ d → Is N.the_row r.answer (machA r.answer ∷ [])
-      → ent 𝓤 (sep 𝓤 (A.obs γ ((T.the_row).coded.code r.totals)) (sep 𝓤 (A.bor κ (Body (mem T.the_row) b o γ)) (sep 𝓤 (A.lft κ q) (mean 𝓛 (‵ (flft κ₁ q₁) ⊛ ‵ (flft κ₂ q₂) ⊛ ‵ ftrue))))) (Post (machA r.answer))
+      → ent 𝓤 (sep 𝓤 (A.obs γ ((T.the_row).coded.code r.totals-1)) (sep 𝓤 (A.bor κ (Body (mem T.the_row) b o γ)) (sep 𝓤 (A.lft κ q) (mean 𝓛 (‵ (flft κ₁ q₁) ⊛ ‵ (flft κ₂ q₂) ⊛ ‵ ftrue))))) (Post (machA r.answer))
   exits r e is =
-      qed 𝓛 (‵ (fobs γ ((T.the_row).coded.code r.totals)) ∷ ‵ (fbor κ (Body (mem T.the_row) b o γ)) ∷ ‵ (flft κ q) ∷ (‵ (flft κ₁ q₁) ⊛ ‵ (flft κ₂ q₂) ⊛ ‵ ftrue) ∷ []) ∵
-      suffices ! _ (ends_at 𝓛 f.ended stayed (f.clauses 𝓛 at_mem run) (((κ, (κ₁, (κ₂, tt))), (q, (q₁, (q₂, tt))), tt, x, at), tt) (machA r.answer) r.answer (r.totals, (tt, (tt, (tt, (tt, tt))))) (tt, (tt, (tt, (tt, (tt, tt)))))) $
+      qed 𝓛 (‵ (fobs γ ((T.the_row).coded.code r.totals-1)) ∷ ‵ (fbor κ (Body (mem T.the_row) b o γ)) ∷ ‵ (flft κ q) ∷ (‵ (flft κ₁ q₁) ⊛ ‵ (flft κ₂ q₂) ⊛ ‵ ftrue) ∷ []) ∵
+      suffices ! _ (ends_at 𝓛 f.ended stayed (f.clauses 𝓛 at_mem run) (((κ, (κ₁, (κ₂, tt))), (q, (q₁, (q₂, tt))), tt, x, at), tt) (machA r.answer) r.answer (r.totals-1, (tt, (tt, (tt, (tt, tt))))) (tt, (tt, (tt, (tt, (tt, tt)))))) $
       says ! e $ move ! (2 ∷ 3 ∷ []) $ join ! $
       frame ! $ feq_i ! (List Val) (vptr b o ∷ []) (vptr b o ∷ []) refl $ fjoin3 ! $ nothing ! $ nothing ! $ fjoin ! $ nothing ! $ fjoin ! $ nothing ! $ fjoin ! $ nothing ! $ fjoin ! $ move ! (1 ∷ 0 ∷ []) $ fjoin ! $
       owned ! N.the_row (Is N.the_row) (LL.makes N.the_type N'.the_plain 𝓛) r.answer _ is $ move ! (1 ∷ 0 ∷ []) $ done !
@@ -147,9 +147,9 @@ module _ {M : Type 1} {𝓤 : Ura M} (𝓛 : Logic 𝓤) (at_mem : Memory → SP
         land ! (from ! (stop !)) (init ! 8 refl ((LL.lawful S.the_type S'.the_laws 𝓛).typed r _ is).0) $
         rewrite ! 8 (λ (u : Val). ‵ (fat full_share S'.mir l₆ 0 u)) (ap only (LL.tells S.the_type S'.the_laws r _ is)) refl $
         -- the result's record is stored whole, and its answer goes to _0
-        assigns ! (of_opd ! (load ! (from ! (fld ! refl (stop !))) (look_in ! 8 (sub ! 1 refl (whole !))))) (from ! (hop ! (look ! 18 refl) (stop !))) (store_raw ! 2 refl ((LL.lawful T.the_type T'.the_laws 𝓛).typed r.totals _ (totals-is r _ is)).0) $
+        assigns ! (of_opd ! (load ! (from ! (fld ! refl (stop !))) (look_in ! 8 (sub ! 1 refl (whole !))))) (from ! (hop ! (look ! 18 refl) (stop !))) (store_raw ! 2 refl ((LL.lawful T.the_type T'.the_laws 𝓛).typed r.totals-1 _ (totals-is r _ is)).0) $
         assigns ! (of_opd ! (load ! (from ! (fld ! refl (stop !))) (look_in ! 8 (sub ! 0 refl (whole !))))) (from ! (stop !)) (init ! 20 refl ((LL.lawful N.the_type N'.the_laws 𝓛).typed r.answer _ (answer-is r _ is)).0) $
-        drop ! $ owned ! T.the_row (Is T.the_row) (LL.makes T.the_type T'.the_plain 𝓛) r.totals _ (totals-is r _ is) $ move ! (2 ∷ 0 ∷ 3 ∷ 4 ∷ 5 ∷ []) $ closes ! tt T.the_row r.totals (mach r.totals ∷ []) b o $
+        drop ! $ owned ! T.the_row (Is T.the_row) (LL.makes T.the_type T'.the_plain 𝓛) r.totals-1 _ (totals-is r _ is) $ move ! (2 ∷ 0 ∷ 3 ∷ 4 ∷ 5 ∷ []) $ closes ! tt T.the_row r.totals-1 (mach r.totals-1 ∷ []) b o $
         returns ! (look ! 18 refl) $ forget ! 4 refl $ forget ! 6 refl $ forget ! 8 refl $ forget ! 10 refl $ forget ! 12 refl $ forget ! 14 refl $ forget ! 16 refl $ forget ! 18 refl $
         move ! (18 ∷ 19 ∷ []) $ free1 ! $ move ! (16 ∷ 17 ∷ []) $ free1 ! $ move ! (14 ∷ 15 ∷ []) $ free1 ! $ move ! (12 ∷ 13 ∷ []) $ free1 ! $ move ! (10 ∷ 11 ∷ []) $ free1 ! $ move ! (8 ∷ 9 ∷ []) $ free1 ! $ move ! (6 ∷ 7 ∷ []) $ free1 ! $ move ! (4 ∷ 5 ∷ []) $ free1 ! $ free0 ! $
         keep ! (0 ∷ 1 ∷ 2 ∷ 3 ∷ []) $ by ! (exits r e (answer-is r _ is))))))))))))))))

@@ -5,48 +5,32 @@ use Rattle.totals.proofs.SumLaws.{told-no, told-yes, five, eight, by_2000, by-la
 use Rattle.totals.proofs.counted.Statement.{statement}
 use Rattle.totals.proofs.counted.Tie as tie
 
-returns : tie.Need-returns
+returns : tie.Need-returns-then-stream-gt-LONGEST
 returns c =
-    let start : tie.Start = search in
-    let a = start.args in
-    five a.table.now a.stream.now a.control-room a.property-room a.words.now _ (omega arith) c.refused.ensures
+    let a = c.args in
+    five a.table.now a.stream.now a.control_room a.property_room a.words.now _ (omega arith) c.refused.ensures
 
-returns-2 : tie.Need-returns-2
+returns-2 : tie.Need-returns-then-not-well_formed
 returns-2 c =
-    let start : tie.Start = search in
-    let judged : tie.After-well-formed = search in
-    let a = start.args in
-    eight a.table.now a.stream.now a.control-room a.property-room a.words.now _ (omega arith) (told-no _ _ judged.well-formed.ensures c.before.if2.true) c.refused2.ensures
+    let a = c.args in
+    eight a.table.now a.stream.now a.control_room a.property_room a.words.now _ (omega arith) (told-no _ _ c.well_formed-2.ensures c.if-not-well_formed.true-raw) c.refused-then-not-well_formed.ensures
 
 tally-requires : tie.Need-tally-requires
 tally-requires c κs =
-    let judged : tie.After-well-formed = search in
-    let formed : tie.Else2 = search in
-    record { formed = told-yes _ _ judged.well-formed.ensures formed.if2.left; small = omega arith }
+    let formed : tie.Else-not-well_formed = search in
+    record { formed = told-yes _ _ c.well_formed-2.ensures formed.if-not-well_formed.false-raw; small = omega arith }
 
-returns-3 : tie.Need-returns-3
+returns-3 : tie.Need-returns-then-is_2000
 returns-3 c =
-    let start : tie.Start = search in
-    let judged : tie.After-well-formed = search in
-    let formed : tie.Else2 = search in
-    let spoken : tie.After-is-2000 = search in
-    let old : tie.Then3 = search in
-    let counted : tie.After-tally = search in
-    let a = start.args in
-    by_2000 a.table.now a.stream.now a.control-room a.property-room a.words.now _ (omega arith) (told-yes _ _ judged.well-formed.ensures formed.if2.left)
-    (sym spoken.is-2000.ensures ∙ old.if3.taken) counted.tally.ensures
+    let a = c.args in
+    by_2000 a.table.now a.stream.now a.control_room a.property_room a.words.now _ (omega arith) (told-yes _ _ c.well_formed-2.ensures c.if-not-well_formed.false-raw)
+    (sym c.is_2000.ensures ∙ c.if-is_2000.true) c.tally.ensures
 
-returns-4 : tie.Need-returns-4
+returns-4 : tie.Need-returns
 returns-4 c =
-    let start : tie.Start = search in
-    let judged : tie.After-well-formed = search in
-    let formed : tie.Else2 = search in
-    let spoken : tie.After-is-2000 = search in
-    let new : tie.Else3 = search in
-    let counted : tie.After-tally2 = search in
-    let a = start.args in
-    by-later a.table.now a.stream.now a.control-room a.property-room a.words.now _ (omega arith) (told-yes _ _ judged.well-formed.ensures formed.if2.left)
-    (sym spoken.is-2000.ensures ∙ new.if3.left) counted.tally2.ensures
+    let a = c.args in
+    by-later a.table.now a.stream.now a.control_room a.property_room a.words.now _ (omega arith) (told-yes _ _ c.well_formed-2.ensures c.if-not-well_formed.false-raw)
+    (sym c.is_2000.ensures ∙ c.if-is_2000.false) c.tally-2.ensures
 
 pub counted_spec : {M : Type 1} → statement M
 counted_spec =

@@ -8,57 +8,48 @@ use Rattle.totals.proofs.SumLaws.{part-many, fit_parts, sum_is}
 use Rattle.totals.proofs.sum_of.Statement.{statement}
 use Rattle.totals.proofs.sum_of.Tie as tie
 
-add-all-requires : tie.Need-add-all-requires
+add-all-requires : tie.Need-add_all-requires
 unfolding laid
 add-all-requires c κs =
-    let start : tie.Start = search in
-    let a = start.args in
+    let a = c.args in
     let p : length a.old.answers ≡ 6 = search rules in
-    (p ∙ sym (part-many a.words.now 0 6 start.pre.0 (omega arith)), (fit_parts a.old (laid a.words.now) start.pre.1).answers)
+    (p ∙ sym (part-many a.words.now 0 6 c.requires.0 (omega arith)), (fit_parts a.old (laid a.words.now) c.requires.1).answers-1)
 
-add-all-requires-2 : tie.Need-add-all-requires-2
+add-all-requires-2 : tie.Need-add_all-requires-2
 unfolding laid
 add-all-requires-2 c κs =
-    let start : tie.Start = search in
-    let a = start.args in
+    let a = c.args in
     let p : length a.old.types ≡ 31 = search rules in
-    (p ∙ sym (part-many a.words.now 6 31 start.pre.0 (omega arith)), (fit_parts a.old (laid a.words.now) start.pre.1).types)
+    (p ∙ sym (part-many a.words.now 6 31 c.requires.0 (omega arith)), (fit_parts a.old (laid a.words.now) c.requires.1).types-1)
 
-add-all-requires-3 : tie.Need-add-all-requires-3
+add-all-requires-3 : tie.Need-add_all-requires-3
 unfolding laid
 add-all-requires-3 c κs =
-    let start : tie.Start = search in
-    let a = start.args in
+    let a = c.args in
     let p : length a.old.marks ≡ 9 = search rules in
-    (p ∙ sym (part-many a.words.now 39 9 start.pre.0 (omega arith)), (fit_parts a.old (laid a.words.now) start.pre.1).marks)
+    (p ∙ sym (part-many a.words.now 39 9 c.requires.0 (omega arith)), (fit_parts a.old (laid a.words.now) c.requires.1).marks-1)
 
-add-t27 : tie.Need-overflow-add-t27
+add-t27 : tie.Need-overflow_add-result
 unfolding laid
 add-t27 c =
-    let start : tie.Start = search in
-    let a = start.args in
-    let h : a.old.unmapped + get_or a.words.now 37 0 ≤ 4294967295 = (fit_parts a.old (laid a.words.now) start.pre.1).unmapped in
+    let a = c.args in
+    let h : a.old.unmapped + get_or a.words.now 37 0 ≤ 4294967295 = (fit_parts a.old (laid a.words.now) c.requires.1).unmapped in
     omega (arith, h)
 
-add-t30 : tie.Need-overflow-add-t30
+add-t30 : tie.Need-overflow_add-result-2
 unfolding laid
 add-t30 c =
-    let start : tie.Start = search in
-    let a = start.args in
-    let h : a.old.mapped + get_or a.words.now 38 0 ≤ 4294967295 = (fit_parts a.old (laid a.words.now) start.pre.1).mapped in
+    let a = c.args in
+    let h : a.old.mapped + get_or a.words.now 38 0 ≤ 4294967295 = (fit_parts a.old (laid a.words.now) c.requires.1).mapped in
     omega (arith, h)
 
 returns : tie.Need-returns
 unfolding laid
 returns c =
-    let start : tie.Start = search in
-    let answers : tie.After-add-all = search in
-    let types : tie.After-add-all2 = search in
-    let marks : tie.After-add-all3 = search in
-    sum_is start.args.old (laid start.args.words.now) _ answers.add-all.ensures types.add-all2.ensures marks.add-all3.ensures refl refl
+    sum_is c.args.old (laid c.args.words.now) _ c.add_all.ensures c.add_all-2.ensures c.add_all-3.ensures refl refl
 
-pub sum-of-spec : {M : Type 1} → statement M
-sum-of-spec =
+pub sum_of_spec : {M : Type 1} → statement M
+sum_of_spec =
     tie.close
     (tie.spec
     (λ c. search rules) (λ c. search rules) (λ c. search rules) (λ c. search rules)

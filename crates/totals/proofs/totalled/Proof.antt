@@ -9,52 +9,47 @@ use Rattle.totals.proofs.totalled.Statement.{statement}
 use Rattle.totals.proofs.totalled.Tie as tie
 
 -- ---- places, each from a later one
-abbrev answered-of : tie.After-fits2 → tie.After-count-answer
+abbrev answered-of : tie.After-fits2 → tie.After-count_answer
 answered-of c = search
 
-abbrev counted_of : tie.After-count-answer → tie.After-counted
+abbrev counted_of : tie.After-count_answer → tie.After-counted-answer
 counted_of c = search
 
-abbrev start_of : tie.After-counted → tie.Start
+abbrev start_of : tie.After-counted-answer → tie.Start
 start_of c = search
 
 -- what was counted is what the reading adds
-counts : (c : tie.After-count-answer)
-    → laid c.count-answer.new.0
+counts : (c : tie.After-count_answer)
+    → laid c.count_answer.new.0
     ≡ adds (is2000 (start_of (counted_of c)).args.table.now (start_of (counted_of c)).args.stream.now)
-    (outcome (start_of (counted_of c)).args.table.now (start_of (counted_of c)).args.stream.now (start_of (counted_of c)).args.control-room (start_of (counted_of c)).args.property-room)
+    (outcome (start_of (counted_of c)).args.table.now (start_of (counted_of c)).args.stream.now (start_of (counted_of c)).args.control_room (start_of (counted_of c)).args.property_room)
 counts c =
     let a = (start_of (counted_of c)).args in
-    next-adds (counted_of c).counted.ensures c.count-answer.ensures (numbered a.table.now a.stream.now a.control-room a.property-room)
+    next-adds (counted_of c).counted-answer.ensures c.count_answer.ensures (numbered a.table.now a.stream.now a.control-room a.property-room)
 
-returns : tie.Need-returns
+returns : tie.Need-returns-then-not-fits
 returns c =
     let judged : tie.After-fits2 = search in
     let answered = answered-of judged in
     let counted = counted_of answered in
     let a = (start_of counted).args in
-    let refused : tie.After-refused = search in
-    let over : tie.Then1 = search in
-    exit-no a.old a.table.now a.stream.now a.control-room a.property-room _ (counts answered) (told-no _ _ judged.fits2.ensures over.if1.taken) refused.refused.ensures
+    exit-no a.old a.table.now a.stream.now a.control-room a.property-room _ (counts answered) (told-no _ _ judged.fits2.ensures c.if-not-fits.true-raw) c.refused.ensures
 
-sum-of-requires : tie.Need-sum-of-requires
+sum-of-requires : tie.Need-sum_of-requires
 sum-of-requires c κs =
     let judged : tie.After-fits2 = search in
-    let within : tie.Else1 = search in
-    (search rules, told-yes _ _ judged.fits2.ensures within.if1.left)
+    (search rules, told-yes _ _ judged.fits2.ensures c.if-not-fits.false-raw)
 
-returns-2 : tie.Need-returns-2
+returns-2 : tie.Need-returns
 returns-2 c =
     let judged : tie.After-fits2 = search in
     let answered = answered-of judged in
     let counted = counted_of answered in
     let a = (start_of counted).args in
-    let within : tie.Else1 = search in
-    let summed : tie.After-sum-of = search in
-    exit-yes a.old a.table.now a.stream.now a.control-room a.property-room _ (counts answered) (told-yes _ _ judged.fits2.ensures within.if1.left) counted.counted.ensures.answer-is summed.sum_of.ensures
+    exit-yes a.old a.table.now a.stream.now a.control-room a.property-room _ (counts answered) (told-yes _ _ judged.fits2.ensures c.if-not-fits.false-raw) counted.counted-answer.ensures.answer-is c.sum_of.ensures
 
-pub totalled-spec : {M : Type 1} → statement M
-totalled-spec =
+pub totalled_spec : {M : Type 1} → statement M
+totalled_spec =
     tie.close
     (tie.spec
     (λ c. search rules) (λ c κs. search rules) (λ c. search rules) (λ c κs. search rules) (λ c. search rules) (λ c κs. search rules) (λ c κs. search rules)

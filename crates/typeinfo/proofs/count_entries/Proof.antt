@@ -1,4 +1,3 @@
--- `count_entries` counts the reported entries. Invariant: those found and those from `p` on are all of them.
 use Prim.Native.Nat.{◌+◌, ◌≤◌, ◌<◌}
 use native.Mathlib.Omega.{arith}
 use mathlib.Core.Path.{◌≡◌, ap}
@@ -7,39 +6,39 @@ use Rattle.typeinfo.specs.Entries.{reported_at}
 use Rattle.typeinfo.proofs.EntryLaws.{none_left, none_asked, at_most_one, inside, counted-more}
 use Rattle.typeinfo.proofs.count_entries.Statement.{statement}
 use Rattle.typeinfo.proofs.count_entries.Tie as tie
+-- `count_entries` counts the reported entries. Invariant: those found and those from `p` on are all of them.
 
-abbrev invariant-loop : tie.invariant-loop
+abbrev invariant-loop : tie.invariant-loop-left
 invariant-loop s count p₀ left₀ found₀ p left found =
     (p ≤ length s) × (found + left ≤ count) × (found + length (reported_at s p left) ≡ length (reported_at s 32 count))
 
-abbrev decreases-loop : tie.decreases-loop
+abbrev decreases-loop : tie.decreases-loop-left
 decreases-loop s count p₀ left₀ found₀ p left found = left
 
-returns : tie.Need-returns invariant-loop decreases-loop
+returns : tie.Need-returns-then-s-p-lt-ENTRY_HEAD invariant-loop decreases-loop
 returns c =
     let top = c.before.before in
-    omega (arith, ap length (none_left top.before.before.args.s.now top.loop.p top.loop.left (omega arith)))
+    omega (arith, ap length (none_left top.args.s.now top.loop-left.p top.loop-left.left (omega arith)))
 
-loop-again : tie.Need-loop-preserved invariant-loop decreases-loop
+loop-again : tie.Need-loop-left-preserved invariant-loop decreases-loop
 loop-again c =
-    let top : tie.At-loop invariant-loop decreases-loop = search in
-    let s = top.before.before.args.s.now in
-    let p = top.loop.p in
-    let left = top.loop.left in
-    let read = c.before.type-info-entry in
+    let s = c.args.s.now in
+    let p = c.loop-left.p in
+    let left = c.loop-left.left in
+    let read = c.type_info_entry-e in
     let e = read.result in
     let is = read.ensures in
     let h : p + 8 ≤ length s = omega arith in
     let k : 0 < left = omega arith in
     omega (arith, inside s p left e is h k, at_most_one e.type_code, counted-more s p left e is h k)
 
-returns-2 : tie.Need-returns-2 invariant-loop decreases-loop
+returns-2 : tie.Need-returns invariant-loop decreases-loop
 returns-2 c =
     let top = c.before in
-    omega (arith, ap length (none_asked top.before.before.args.s.now top.loop.p top.loop.left (omega arith)))
+    omega (arith, ap length (none_asked top.args.s.now top.loop-left.p top.loop-left.left (omega arith)))
 
-pub count-entries-spec : {M : Type 1} → statement M
-count-entries-spec =
+pub count_entries_spec : {M : Type 1} → statement M
+count_entries_spec =
     tie.close
     (tie.spec
     invariant-loop

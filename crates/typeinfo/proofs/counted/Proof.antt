@@ -1,15 +1,15 @@
--- `counted` adds one for each type but 0x1EFF.
 use native.Mathlib.Omega.{arith}
 use borrow.Author.Rules.{rules}
 use Rattle.typeinfo.proofs.EntryLaws.{not_one, one}
 use Rattle.typeinfo.proofs.counted.Statement.{statement}
 use Rattle.typeinfo.proofs.counted.Tie as tie
+-- `counted` adds one for each type but 0x1EFF.
 
-returns : tie.Need-returns
-returns c = omega (arith, not_one c.before.args.type-code (omega arith))
+returns : tie.Need-returns-then-type_code-eq-UNREPORTED
+returns c = omega (arith, not_one c.args.type_code (omega arith))
 
-returns-2 : tie.Need-returns-2
-returns-2 c = omega (arith, one c.before.args.type-code c.if1.false)
+returns-2 : tie.Need-returns
+returns-2 c = omega (arith, one c.args.type_code c.if-type_code-eq-UNREPORTED.false)
 
 pub counted_spec : {M : Type 1} → statement M
 counted_spec =

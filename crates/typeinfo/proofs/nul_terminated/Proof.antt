@@ -1,18 +1,18 @@
--- `nul_terminated` gives the name at `start`, ended by a NUL or by the end.
 use native.Mathlib.Omega.{arith}
 use borrow.Author.Rules.{rules}
 use Rattle.typeinfo.proofs.NulLaws.{ended-by_nul, ended-by-end}
 use Rattle.typeinfo.proofs.nul_terminated.Statement.{statement}
 use Rattle.typeinfo.proofs.nul_terminated.Tie as tie
+-- `nul_terminated` gives the name at `start`, ended by a NUL or by the end.
 
-returns : tie.Need-returns
-returns c = ended-by_nul _ _ _ c.before.nul-from.ensures (omega arith)
+returns : tie.Need-returns-then-end-s
+returns c = ended-by_nul _ _ _ c.nul_from-end.ensures (omega arith)
 
-returns-2 : tie.Need-returns-2
-returns-2 c = ended-by-end _ _ _ c.before.nul-from.ensures c.before.before.before.requires (omega arith)
+returns-2 : tie.Need-returns
+returns-2 c = ended-by-end _ _ _ c.nul_from-end.ensures c.before.before.before.requires (omega arith)
 
-pub nul-terminated-spec : {M : Type 1} → statement M
-nul-terminated-spec =
+pub nul_terminated_spec : {M : Type 1} → statement M
+nul_terminated_spec =
     tie.close
     (tie.spec
     (λ c κs. search rules) (λ c. search rules) (λ c. search rules)

@@ -1,21 +1,21 @@
--- `past_tail` passes over 36 bytes more, or to the end, where the type's low byte is 0x77.
 use native.Mathlib.Omega.{arith}
 use borrow.Author.Rules.{rules}
 use Rattle.typeinfo.proofs.EntryLaws.{tail_cut, tail_whole, no_tail}
 use Rattle.typeinfo.proofs.past_tail.Statement.{statement}
 use Rattle.typeinfo.proofs.past_tail.Tie as tie
+-- `past_tail` passes over 36 bytes more, or to the end, where the type's low byte is 0x77.
 
-returns : tie.Need-returns
-returns c = tail_cut c.before.before.args.len c.before.before.args.type-code c.before.before.args.next c.before.if1.true (omega arith) (omega arith)
+returns : tie.Need-returns-then-len-next-lt-ACTIVE_X_TAIL
+returns c = tail_cut c.args.len c.args.type_code c.args.next c.if-type_code-eq-ACTIVE_X.true (omega arith) (omega arith)
 
-returns-2 : tie.Need-returns-2
-returns-2 c = tail_whole c.before.before.args.len c.before.before.args.type-code c.before.before.args.next c.before.if1.true (omega arith) (omega arith)
+returns-2 : tie.Need-returns-then-type_code-eq-ACTIVE_X
+returns-2 c = tail_whole c.args.len c.args.type_code c.args.next c.if-type_code-eq-ACTIVE_X.true (omega arith) (omega arith)
 
-returns-3 : tie.Need-returns-3
-returns-3 c = no_tail c.before.args.len c.before.args.type-code c.before.args.next c.if1.false
+returns-3 : tie.Need-returns
+returns-3 c = no_tail c.args.len c.args.type_code c.args.next c.if-type_code-eq-ACTIVE_X.false
 
-pub past-tail-spec : {M : Type 1} → statement M
-past-tail-spec =
+pub past_tail_spec : {M : Type 1} → statement M
+past_tail_spec =
     tie.close
     (tie.spec
     (λ c. search rules)

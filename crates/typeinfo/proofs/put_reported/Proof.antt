@@ -1,31 +1,27 @@
--- `put_reported` writes the entry's row where it is reported, and nothing where it isn't.
 use native.Mathlib.Omega.{arith}
 use mathlib.Core.Path.{◌∙◌}
 use borrow.Author.Rules.{rules}
 use Rattle.typeinfo.proofs.EntryLaws.{not_one, one, put-nothing, put-row}
 use Rattle.typeinfo.proofs.put_reported.Statement.{statement}
 use Rattle.typeinfo.proofs.put_reported.Tie as tie
+-- `put_reported` writes the entry's row where it is reported, and nothing where it isn't.
 
-returns : tie.Need-returns
+returns : tie.Need-returns-then-e-eq-UNREPORTED
 returns c =
     let start = c.before.before.before in
     (omega (arith, not_one start.args.e.type_code (omega arith)), put-nothing _ _ start.args.e (omega arith))
 
-put-info-requires : tie.Need-put-info-requires
+put-info-requires : tie.Need-put_info-requires
 put-info-requires c κs =
-    let else1 : tie.Else1 = search in
-    let place-start : tie.Start = search in
-    omega (arith, one place-start.args.e.type_code else1.if1.left)
+    omega (arith, one c.args.e.type_code c.if-e-eq-UNREPORTED.false)
 
-returns-2 : tie.Need-returns-2
+returns-2 : tie.Need-returns
 returns-2 c =
-    let else1 : tie.Else1 = search in
-    let place-start : tie.Start = search in
-    let reported = else1.if1.left in
-    (omega (arith, one place-start.args.e.type_code reported), c.before.before.put-info.ensures ∙ put-row _ _ _ reported)
+    let reported = c.if-e-eq-UNREPORTED.false in
+    (omega (arith, one c.args.e.type_code reported), c.put_info.ensures ∙ put-row _ _ _ reported)
 
-pub put-reported-spec : {M : Type 1} → statement M
-put-reported-spec =
+pub put_reported_spec : {M : Type 1} → statement M
+put_reported_spec =
     tie.close
     (tie.spec
     returns

@@ -1,4 +1,3 @@
--- `type_info_count` tries the refusals in the order 5, 1, 2, 3.
 use native.Mathlib.Omega.{arith}
 use mathlib.Core.Path.{ap, ◌∙◌}
 use borrow.Author.Rules.{rules}
@@ -6,30 +5,28 @@ use Rattle.typeinfo.proofs.HeaderLaws.{too_long, too_short, other-magic, too_man
 use Rattle.typeinfo.specs.declared.Header.TheVariants.{Entries}
 use Rattle.typeinfo.proofs.type_info_count.Statement.{statement}
 use Rattle.typeinfo.proofs.type_info_count.Tie as tie
+-- `type_info_count` tries the refusals in the order 5, 1, 2, 3.
 
-returns : tie.Need-returns
-returns c = too_long c.before.before.args.s.now (omega arith)
+returns : tie.Need-returns-then-s-gt-LONGEST
+returns c = too_long c.args.s.now (omega arith)
 
-returns-2 : tie.Need-returns-2
-returns-2 c = too_short c.before.before.before.args.s.now (omega arith) (omega arith)
+returns-2 : tie.Need-returns-then-s-lt-HEADER_SIZE
+returns-2 c = too_short c.args.s.now (omega arith) (omega arith)
 
-returns-3 : tie.Need-returns-3
+returns-3 : tie.Need-returns-then-magic
 returns-3 c =
-    let start : tie.Start = search in
-    other-magic start.args.s.now (omega arith) (omega arith) c.before.before.u32-at.ensures c.if3.true
+    other-magic c.args.s.now (omega arith) (omega arith) c.u32_at-magic.ensures c.if-magic.true
 
-returns-4 : tie.Need-returns-4
+returns-4 : tie.Need-returns-then-most-asked
 returns-4 c =
-    let start : tie.Start = search in
-    too_many start.args.s.now (omega arith) (omega arith) (omega arith) (omega arith)
+    too_many c.args.s.now (omega arith) (omega arith) (omega arith) (omega arith)
 
-returns-5 : tie.Need-returns-5
+returns-5 : tie.Need-returns
 returns-5 c =
-    let start : tie.Start = search in
-    ap Entries c.before.before.u32-at2.ensures ∙ as_many start.args.s.now (omega arith) (omega arith) (omega arith) (omega arith)
+    ap Entries c.u32_at-count.ensures ∙ as_many c.args.s.now (omega arith) (omega arith) (omega arith) (omega arith)
 
-pub type-info-count-spec : {M : Type 1} → statement M
-type-info-count-spec =
+pub type_info_count_spec : {M : Type 1} → statement M
+type_info_count_spec =
     tie.close
     (tie.spec
     returns

@@ -14,46 +14,39 @@ record Counted (bytes : List ℕ) (i n : ℕ) : Type 0 where
   inside : i ≤ length bytes
   count : n + length (scalars (drop i bytes)) ≡ length (scalars bytes)
 
-abbrev invariant-loop : tie.invariant-loop
+abbrev invariant-loop : tie.invariant-loop-i
 invariant-loop bytes i₀ n₀ i n = Counted bytes i n
 
-abbrev decreases-loop : tie.decreases-loop
+abbrev decreases-loop : tie.decreases-loop-i
 decreases-loop bytes i₀ n₀ i n = length bytes - i
 
-loop-holds : tie.Need-loop-init invariant-loop decreases-loop
+loop-holds : tie.Need-loop-i-init invariant-loop decreases-loop
 loop-holds c =
-    let start : tie.Start invariant-loop decreases-loop = search in
-    let b = start.args.bytes.now in
-    let i = c.past-plain.result in
-    let e : 2 * length (scalars b) + 0 ≡ 2 * length (scalars (drop i b)) + i = c.past-plain.ensures.count in
-    record { inside = c.past-plain.ensures.inside; count = omega arith }
+    let b = c.args.bytes.now in
+    let i = c.past_plain-i.result in
+    let e : 2 * length (scalars b) + 0 ≡ 2 * length (scalars (drop i b)) + i = c.past_plain-i.ensures.count in
+    record { inside = c.past_plain-i.ensures.inside; count = omega arith }
 
-add-n : tie.Need-overflow-add-n invariant-loop decreases-loop
+add-n : tie.Need-overflow_add-n invariant-loop decreases-loop
 add-n c =
-    let at-loop : tie.At-loop invariant-loop decreases-loop = search in
-    let start : tie.Start invariant-loop decreases-loop = search in
-    let b = start.args.bytes.now in
-    let e = c.ended.ensures ∙ ap ended c.before.u16-at.ensures in
-    omega (arith, at-loop.loop.inv.count, counts b at-loop.loop.i (omega arith), e, few b)
+    let b = c.args.bytes.now in
+    let e = c.ended-n.ensures ∙ ap ended c.u16_at.ensures in
+    omega (arith, c.loop-i.invariant.count, counts b c.loop-i.i (omega arith), e, few b)
 
-loop-again : tie.Need-loop-preserved invariant-loop decreases-loop
+loop-again : tie.Need-loop-i-preserved invariant-loop decreases-loop
 loop-again c =
-    let at-loop : tie.At-loop invariant-loop decreases-loop = search in
-    let start : tie.Start invariant-loop decreases-loop = search in
-    let b = start.args.bytes.now in
-    let e = c.ended.ensures ∙ ap ended c.before.u16-at.ensures in
-    record { inside = omega arith; count = omega (arith, at-loop.loop.inv.count, counts b at-loop.loop.i (omega arith), e) }
+    let b = c.args.bytes.now in
+    let e = c.ended-n.ensures ∙ ap ended c.u16_at.ensures in
+    record { inside = omega arith; count = omega (arith, c.loop-i.invariant.count, counts b c.loop-i.i (omega arith), e) }
 
 returns : tie.Need-returns invariant-loop decreases-loop
 returns c =
-    let at-loop : tie.At-loop invariant-loop decreases-loop = search in
-    let start : tie.Start invariant-loop decreases-loop = search in
-    let b = start.args.bytes.now in
-    let i = at-loop.loop.i in
-    omega (arith, at-loop.loop.inv.count, few (drop i b), length-drop i b)
+    let b = c.args.bytes.now in
+    let i = c.loop-i.i in
+    omega (arith, c.loop-i.invariant.count, few (drop i b), length-drop i b)
 
-pub characters-spec : {M : Type 1} → statement M
-characters-spec =
+pub characters_spec : {M : Type 1} → statement M
+characters_spec =
     tie.close
     (tie.spec
     invariant-loop

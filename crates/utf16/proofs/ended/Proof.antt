@@ -5,19 +5,15 @@ use Rattle.rules.specs.Utf16.{is_high}
 use Rattle.utf16.proofs.ended.Statement.{statement}
 use Rattle.utf16.proofs.ended.Tie as tie
 
-returns : tie.Need-returns
+returns : tie.Need-returns-then-is_high
 returns c =
-    let start : tie.Start = search in
-    let asked : tie.After-is-high = search in
-    let e : is_high start.args.u ≡ true = sym asked.is-high.ensures ∙ c.if1.true in
+    let e : is_high c.args.u ≡ true = sym c.is_high.ensures ∙ c.if-is_high.true in
     rw e
 
-returns-2 : tie.Need-returns-2
+returns-2 : tie.Need-returns-else-is_high
 returns-2 c =
-    let start : tie.Start = search in
-    let asked : tie.After-is-high = search in
-    let e : is_high start.args.u ≡ false = sym asked.is-high.ensures ∙ c.if1.false in
+    let e : is_high c.args.u ≡ false = sym c.is_high.ensures ∙ c.if-is_high.false in
     rw e
 
-pub ended-spec : {M : Type 1} → statement M
-ended-spec = tie.close (tie.spec (λ c κs. search rules) returns returns-2)
+pub ended_spec : {M : Type 1} → statement M
+ended_spec = tie.close (tie.spec (λ c κs. search rules) returns returns-2)

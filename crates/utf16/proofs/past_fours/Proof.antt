@@ -7,19 +7,19 @@ use Rattle.utf16.proofs.Units.{none, onward, four-plain}
 use Rattle.utf16.proofs.past_fours.Statement.{statement}
 use Rattle.utf16.proofs.past_fours.Tie as tie
 
-abbrev invariant-loop : tie.invariant-loop
+abbrev invariant-loop : tie.invariant-loop-i
 invariant-loop bytes start i₀ i = Skipped bytes start i
 
-abbrev decreases-loop : tie.decreases-loop
+abbrev decreases-loop : tie.decreases-loop-i
 decreases-loop bytes start i₀ i = length bytes - i
 
-loop-again : tie.Need-loop-preserved invariant-loop decreases-loop
+loop-again : tie.Need-loop-i-preserved invariant-loop decreases-loop
 loop-again c =
     let l = c.before.before.before in
-    onward l.loop.invariant (four-plain _ _ (omega arith) (sym c.before.plain-four.ensures ∙ c.if1.true))
+    onward l.loop-i.invariant (four-plain _ _ (omega arith) (sym c.plain_four.ensures ∙ c.if-plain_four.true))
 
-pub past-fours-spec : {M : Type 1} → statement M
-past-fours-spec =
+pub past_fours_spec : {M : Type 1} → statement M
+past_fours_spec =
     tie.close
     (tie.spec
     invariant-loop
@@ -29,5 +29,5 @@ past-fours-spec =
     (λ c κs. omega arith)
     (λ c. omega arith) (λ c. omega arith)
     loop-again
-    (λ c. c.before.before.before.loop.invariant)
-    (λ c. c.before.loop.invariant))
+    (λ c. c.loop-i.invariant)
+    (λ c. c.loop-i.invariant))

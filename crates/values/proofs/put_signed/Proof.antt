@@ -5,19 +5,16 @@ use Rattle.values.proofs.Marks.{low_half, high_half}
 use Rattle.values.proofs.put_signed.Statement.{statement}
 use Rattle.values.proofs.put_signed.Tie as tie
 
-returns : tie.Need-returns
+returns : tie.Need-returns-then-low-lt2147483648
 returns c =
-    let start : tie.Start = search in
-    rw (low_half start.args.low (omega arith)) c.before.before.put-decimal.ensures
+    rw (low_half c.args.low (omega arith)) c.put_decimal.ensures
 
-returns-2 : tie.Need-returns-2
+returns-2 : tie.Need-returns-else-low-lt2147483648
 returns-2 c =
-    let after-put-byte : tie.After-put-byte = search in
-    let start : tie.Start = search in
-    rw (high_half start.args.low (omega arith)) (after-put-byte.put_byte.ensures ⨟ c.before.before.put-decimal2.ensures)
+    rw (high_half c.args.low (omega arith)) (c.put_byte-p.ensures ⨟ c.put_decimal-else-low-lt2147483648.ensures)
 
-pub put-signed-spec : {M : Type 1} → statement M
-put-signed-spec =
+pub put_signed_spec : {M : Type 1} → statement M
+put_signed_spec =
     tie.close
     (tie.spec
     (λ c κs. search rules) (λ c κs. search rules) (λ c. search rules) (λ c. search rules) (λ c κs. search rules) (λ c. search rules)

@@ -6,29 +6,26 @@ use borrow.Author.Rules.{rules}
 use Rattle.walk2000.proofs.length_at.Statement.{statement}
 use Rattle.walk2000.proofs.length_at.Tie as tie
 
-returns : tie.Need-returns
+returns : tie.Need-returns-then-s-at
 unfolding length_at byte_at
-returns c = simp (le-ltb _ _ c.if1.true)
+returns c = simp (le-ltb _ _ c.if-s-at.true)
 
-returns-2 : tie.Need-returns-2
+returns-2 : tie.Need-returns-in-Of
 unfolding length_at byte_at
 returns-2 c =
-    let then2 : tie.Then2 = search in
-    let else1 : tie.Else1 = search in
-    simp (lt-ltb _ _ else1.if1.left, eq-eqb _ _ then2.if2.taken, number-inside (half_at_lem _ _) _ _ c.before.before.before.u16-if-inside.ensures c.before.m.given.1)
+    simp (lt-ltb _ _ c.if-s-at.false, eq-eqb _ _ c.if-n.true, number-inside (half_at_lem _ _) _ _ c.u16_if_inside.ensures c.in-Of.is)
 
-returns-3 : tie.Need-returns-3
+returns-3 : tie.Need-returns-in-Outside
 unfolding length_at byte_at
 returns-3 c =
-    let else1 : tie.Else1 = search in
-    simp (lt-ltb _ _ else1.if1.left, eq-eqb _ _ c.before.before.before.if2.true, number_outside (half_at_lem _ _) _ c.before.before.u16-if-inside.ensures c.enum_told.given.1)
+    simp (lt-ltb _ _ c.if-s-at.false, eq-eqb _ _ c.if-n.true, number_outside (half_at_lem _ _) _ c.u16_if_inside.ensures c.in-Outside.is)
 
-returns-4 : tie.Need-returns-4
+returns-4 : tie.Need-returns-else-n
 unfolding length_at byte_at
-returns-4 c = simp (lt-ltb _ _ c.before.before.before.if1.false, ne_eqb _ _ c.before.if2.false, c.short-length.ensures)
+returns-4 c = simp (lt-ltb _ _ c.if-s-at.false, ne_eqb _ _ c.if-n.false, c.short_length.ensures)
 
-pub length-at-spec : {M : Type 1} → statement M
-length-at-spec =
+pub length_at_spec : {M : Type 1} → statement M
+length_at_spec =
     tie.close
     (tie.spec
     returns

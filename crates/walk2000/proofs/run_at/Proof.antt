@@ -7,39 +7,34 @@ use Rattle.rules.proofs.Access2000Laws.{past_end}
 use Rattle.walk2000.proofs.run_at.Statement.{statement}
 use Rattle.walk2000.proofs.run_at.Tie as tie
 
-abbrev invariant-loop : tie.invariant-loop
+abbrev invariant-loop : tie.invariant-loop-p
 invariant-loop s at p₀ n₀ p n = Passed s at n p
 
-abbrev decreases-loop : tie.decreases-loop
+abbrev decreases-loop : tie.decreases-loop-p
 decreases-loop s at p₀ n₀ p n = length s - p
 
-returns : tie.Need-returns invariant-loop decreases-loop
-returns c = passed_stop c.before.before.before.loop.invariant (stops _ _ (omega (arith, c.before.before.loop-test.true)) (omega (arith, c.if1.true)))
+returns : tie.Need-returns-then-s-p-ge-ENTRY_END invariant-loop decreases-loop
+returns c = passed_stop c.loop-p.invariant (stops _ _ (omega (arith, c.loop-p-test.true)) (omega (arith, c.if-s-p-ge-ENTRY_END.true)))
 
-add-p : tie.Need-overflow-add-p invariant-loop decreases-loop
-add-p c = omega (arith, ends _ _ _ _ _ c.before.before.before.value.ensures c.before.start.given.1)
+add-p : tie.Need-overflow_add-p invariant-loop decreases-loop
+add-p c = omega (arith, ends _ _ _ _ _ c.value.ensures c.in-At.is)
 
-loop-less : tie.Need-loop-smaller invariant-loop decreases-loop
-loop-less c = omega (arith, ends _ _ _ _ _ c.before.before.before.value.ensures c.before.start.given.1)
+loop-less : tie.Need-loop-p-smaller invariant-loop decreases-loop
+loop-less c = omega (arith, ends _ _ _ _ _ c.value.ensures c.in-At.is)
 
-loop-again : tie.Need-loop-preserved invariant-loop decreases-loop
+loop-again : tie.Need-loop-p-preserved invariant-loop decreases-loop
 loop-again c =
-    let else1 : tie.Else1 invariant-loop decreases-loop = search in
-    let in-loop : tie.In-loop invariant-loop decreases-loop = search in
-    let at-loop : tie.At-loop invariant-loop decreases-loop = search in
-    passed_more at-loop.loop.inv (starts _ _ (omega (arith, in-loop.loop-test.taken)) (omega (arith, else1.if1.left))) c.before.before.before.value.ensures c.before.start.given.1
+    passed_more c.loop-p.invariant (starts _ _ (omega (arith, c.loop-p-test.true)) (omega (arith, c.if-s-p-ge-ENTRY_END.false))) c.value.ensures c.in-At.is
 
-returns-2 : tie.Need-returns-2 invariant-loop decreases-loop
+returns-2 : tie.Need-returns-in-Bad invariant-loop decreases-loop
 returns-2 c =
-    let in-loop : tie.In-loop invariant-loop decreases-loop = search in
-    let at-loop : tie.At-loop invariant-loop decreases-loop = search in
-    passed_bad at-loop.loop.inv (starts _ _ (omega (arith, in-loop.loop-test.taken)) (omega (arith, c.before.before.before.if1.false))) c.before.before.value.ensures c.enum_told.given.1
+    passed_bad c.loop-p.invariant (starts _ _ (omega (arith, c.loop-p-test.true)) (omega (arith, c.if-s-p-ge-ENTRY_END.false))) c.value.ensures c.in-Bad.is
 
-returns-3 : tie.Need-returns-3 invariant-loop decreases-loop
-returns-3 c = passed_stop c.before.loop.invariant (past_end _ _ (omega (arith, c.loop-test.false)))
+returns-3 : tie.Need-returns invariant-loop decreases-loop
+returns-3 c = passed_stop c.loop-p.invariant (past_end _ _ (omega (arith, c.loop-p-test.false)))
 
-pub run-at-spec : {M : Type 1} → statement M
-run-at-spec =
+pub run_at_spec : {M : Type 1} → statement M
+run_at_spec =
     tie.close
     (tie.spec
     invariant-loop

@@ -11,32 +11,28 @@ use Rattle.walk2000.proofs.value.Statement.{statement}
 use Rattle.walk2000.proofs.value.Tie as tie
 
 -- the value's end is a number
-add-if1 : tie.Need-overflow-add-if1
+add-if1 : tie.Need-overflow_add-start
 add-if1 c =
-    let after-shared-slice-known : tie.After-shared-slice-known = search in
+    let after-shared-slice-known : tie.After-shared_slice_known-1 = search in
     let start : tie.Start = search in
-    let e = extent-at (extent_at _ _ _) _ _ _ c.before.before.before.extent-at.ensures c.before.start.given.1 in
-    omega (arith, every_at (Near (start.args.at + 1)) (extent_at _ _ _) _ (extent-near start.args.s.now (λ i. (after-shared-slice-known.shared-slice-known.given i).fits) _ _) e, start.pre, start.good)
+    let e = extent-at (extent_at _ _ _) _ _ _ c.extent_at.ensures c.in-At.is in
+    omega (arith, every_at (Near (start.args.at + 1)) (extent_at _ _ _) _ (extent-near start.args.s.now (λ i. (after-shared-slice-known.shared_slice_known-1.given i).fits) _ _) e, start.requires, start.well_formed)
 
-returns : tie.Need-returns
+returns : tie.Need-returns-then-s-start
 unfolding property_at
 returns c =
-    let after-extent-at : tie.After-extent-at = search in
-    let start : tie.Start = search in
-    let (place, is) = c.before.before.start.given in
-    simp (extent-at (extent_at _ _ _) _ _ _ after-extent-at.extent-at.ensures is, lt-leb (place.0 + place.1.0) (length start.args.s.now) (omega arith))
+    let (place, is) = c.start-1.given in
+    simp (extent-at (extent_at _ _ _) _ _ _ c.extent_at.ensures is, lt-leb (place.0 + place.1.0) (length c.args.s.now) (omega arith))
 
-returns-2 : tie.Need-returns-2
+returns-2 : tie.Need-returns-else-s-start
 unfolding property_at
 returns-2 c =
-    let after-extent-at : tie.After-extent-at = search in
-    let start : tie.Start = search in
-    let (place, is) = c.before.before.start.given in
-    simp (extent-at (extent_at _ _ _) _ _ _ after-extent-at.extent-at.ensures is, le-leb (place.0 + place.1.0) (length start.args.s.now) (omega arith))
+    let (place, is) = c.start-1.given in
+    simp (extent-at (extent_at _ _ _) _ _ _ c.extent_at.ensures is, le-leb (place.0 + place.1.0) (length c.args.s.now) (omega arith))
 
-returns-3 : tie.Need-returns-3
+returns-3 : tie.Need-returns-in-Bad
 unfolding property_at
-returns-3 c = simp (extent_bad (extent_at _ _ _) _ c.before.before.extent-at.ensures c.enum_told.given.1)
+returns-3 c = simp (extent_bad (extent_at _ _ _) _ c.extent_at.ensures c.in-Bad.is)
 
 pub value_spec : {M : Type 1} → statement M
 value_spec =

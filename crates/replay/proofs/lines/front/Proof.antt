@@ -5,11 +5,11 @@ use lib.Seq.{take_all, length-take-le}
 use Rattle.replay.proofs.lines.front.Statement.{statement}
 use Rattle.replay.proofs.lines.front.Tie as tie
 
-slice-aggregate-result : tie.Need-slice-aggregate-result
-slice-aggregate-result c = sym (length-take-le c.before.before.args.size c.before.before.args.s.now (omega arith))
+slice-aggregate-result : tie.Need-slice_bounds-result-end
+slice-aggregate-result c = sym (length-take-le c.args.size c.args.s.now (omega arith))
 
-returns-2 : tie.Need-returns-2
-returns-2 c = sym (take_all c.before.args.size c.before.args.s.now c.if1.false)
+returns-2 : tie.Need-returns-else-size-s
+returns-2 c = sym (take_all c.args.size c.args.s.now c.if-size-s.false)
 
-pub front-spec : {M : Type 1} → statement M
-front-spec = tie.close (tie.spec slice-aggregate-result (λ c. search rules) returns-2)
+pub front_spec : {M : Type 1} → statement M
+front_spec = tie.close (tie.spec slice-aggregate-result (λ c. search rules) returns-2)

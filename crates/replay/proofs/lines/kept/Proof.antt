@@ -3,23 +3,23 @@ use native.Mathlib.Omega.{arith}
 use Rattle.replay.proofs.lines.kept.Statement.{statement}
 use Rattle.replay.proofs.lines.kept.Tie as tie
 
-abbrev invariant-loop : tie.invariant-loop
+abbrev invariant-loop : tie.invariant-loop-i
 invariant-loop bytes old i₀ i = i ≤ 32768
 
-abbrev decreases-loop : tie.decreases-loop
+abbrev decreases-loop : tie.decreases-loop-i
 decreases-loop bytes old i₀ i = 32768 - i
 
-returns : tie.Need-returns invariant-loop decreases-loop
+returns : tie.Need-returns-then-bytes-i invariant-loop decreases-loop
 returns c = tt
 
-returns-2 : tie.Need-returns-2 invariant-loop decreases-loop
+returns-2 : tie.Need-returns-then-bytes-i-2 invariant-loop decreases-loop
 returns-2 c = tt
 
-returns-3 : tie.Need-returns-3 invariant-loop decreases-loop
+returns-3 : tie.Need-returns invariant-loop decreases-loop
 returns-3 c = tt
 
-pub kept-spec : {M : Type 1} → statement M
-kept-spec =
+pub kept_spec : {M : Type 1} → statement M
+kept_spec =
     tie.close
     (tie.spec
     invariant-loop

@@ -5,32 +5,32 @@ use lib.ListN.{length}
 use Rattle.replay.proofs.lines.print_row.Statement.{statement}
 use Rattle.replay.proofs.lines.print_row.Tie as tie
 
-abbrev invariant-loop : tie.invariant-loop
+abbrev invariant-loop : tie.invariant-loop-i
 invariant-loop letter row out₀ p₀ i₀ out p i = (i ≤ length row) × (length out ≡ length out₀)
 
-abbrev decreases-loop : tie.decreases-loop
+abbrev decreases-loop : tie.decreases-loop-i
 decreases-loop letter row out₀ p₀ i₀ out p i = length row - i
 
-put-byte-requires : tie.Need-put-byte-requires invariant-loop decreases-loop
+put-byte-requires : tie.Need-put_byte-p-requires invariant-loop decreases-loop
 put-byte-requires c κs = tt
 
-loop-holds : tie.Need-loop-init invariant-loop decreases-loop
+loop-holds : tie.Need-loop-i-init invariant-loop decreases-loop
 loop-holds c = (omega arith, omega arith)
 
-put-word-requires : tie.Need-put-word-requires invariant-loop decreases-loop
+put-word-requires : tie.Need-put_word-p-requires invariant-loop decreases-loop
 put-word-requires c κs = tt
 
-loop-again : tie.Need-loop-preserved invariant-loop decreases-loop
+loop-again : tie.Need-loop-i-preserved invariant-loop decreases-loop
 loop-again c = (omega arith, omega arith)
 
-end-line-requires : tie.Need-end-line-requires invariant-loop decreases-loop
+end-line-requires : tie.Need-end_line-requires invariant-loop decreases-loop
 end-line-requires c κs = tt
 
 returns : tie.Need-returns invariant-loop decreases-loop
 returns c = tt
 
-pub print-row-spec : {M : Type 1} → statement M
-print-row-spec =
+pub print_row_spec : {M : Type 1} → statement M
+print_row_spec =
     tie.close
     (tie.spec
     invariant-loop
