@@ -24,8 +24,8 @@ join (next x h) k = next x (join h k)
 
 pub split : {s b : List ℕ} {p e : ℕ} (a : List ℕ) → s has a ++ b from p to e → (q : ℕ) × (s has a from p to q) × (s has b from q to e)
 split [] h = (_, here, h)
-split (x ∷ a) (next y h) =
-    let r = split a h in
+split {s = s} {b = b} {p = p} {e = e} (x ∷ a) (next y h) =
+    let r = split {p = p + 1} a h in
     (r.0, next y r.1, r.2)
 
 pub byte-there : (s : List ℕ) (p : ℕ) → p < length s → byte_at s p ≡ some (get_or s p 0)

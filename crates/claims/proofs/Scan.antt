@@ -86,8 +86,8 @@ module _ (s : List ℕ) where
   abbrev six : List ℕ
   six = 0x14 ∷ 0x00 ∷ 0x0A ∷ 0x00 ∷ 0x00 ∷ 0x00 ∷ []
 
-  stands_six : {e : ℕ} (p : ℕ) → s has six from p to e → Six p
-  stands_six p (next h0 (next h1 (next h2 (next h3 (next h4 (next h5 here)))))) =
+  six_stand : (p : ℕ) {e : ℕ} → s has six from p to e → Six p
+  six_stand p (next h0 (next h1 (next h2 (next h3 (next h4 (next h5 here)))))) =
       let a : p + 1 + 1 ≡ p + 2 = omega arith in
       let b : p + 1 + 1 + 1 ≡ p + 3 = omega arith in
       let c : p + 1 + 1 + 1 + 1 ≡ p + 4 = omega arith in
@@ -101,6 +101,9 @@ module _ (s : List ℕ) where
         b4 = rw c at (byte-is s _ _ h4).1;
         b5 = rw d at (byte-is s _ _ h5).1;
       }
+
+  stands_six : {e : ℕ} (p : ℕ) → s has six from p to e → Six p
+  stands_six p h = six_stand p h
 
   byte-at : (q p b : ℕ) → q ≡ p → p < length s → byte s p ≡ b → byte_at s q ≡ some b
   byte-at q p b e l h = rw (e, byte-there s p l, h)

@@ -105,8 +105,11 @@ both {a = a} {b = b} {c = c} {d = d} x y = record {
   small = λ h. let k = small_split a c h in small-join b d (x.small k.0) (y.small k.1);
 }
 
+half_same : (n : ℕ) {a : List ℕ} → half n a → Better (half n) a (two_bytes_lem n)
+half_same n (in_turn just just) = same (in_turn just just)
+
 half_better : {a : List ℕ} (n : ℕ) → half n a → Better (half n) a (two_bytes_lem n)
-half_better n (in_turn just just) = same (in_turn just just)
+half_better n h = half_same n h
 
 size_bytes : ℕ → ℕ → List ℕ
 size_bytes id n = cond (leb id 0xBC) [] (length_bytes n)

@@ -34,7 +34,7 @@ ids_many (r ∷ t) = ap suc (ids_many t)
 -- ---- the letters of a row
 starts-many : (p : ℕ) (t : Table) → length (starts_of p t) ≡ suc (length t)
 starts-many p [] = refl
-starts-many p (r ∷ t) = ap suc (starts-many _ t)
+starts-many p (r ∷ t) = ap suc (starts-many (p + length (text r.1)) t)
 
 first-start : (p : ℕ) (t : Table) → get_or (starts_of p t) 0 0 ≡ p
 first-start p [] = refl

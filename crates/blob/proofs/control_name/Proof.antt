@@ -1,3 +1,4 @@
+-- `control_name` gives the part that document 01 says, by the mark: its bytes and its place.
 use native.Mathlib.Omega.{arith}
 use mathlib.Core.Path.{◌∙◌}
 use mathlib.Core.Logic.{inl, inr}
@@ -5,7 +6,6 @@ use Rattle.blob.proofs.PartLaws.{either, by-stream, by-label, by-none, at-stream
 use borrow.Author.Rules.{rules}
 use Rattle.blob.proofs.control_name.Statement.{statement}
 use Rattle.blob.proofs.control_name.Tie as tie
--- `control_name` gives the part that document 01 says, by the mark: its bytes and its place.
 
 part-or-requires : tie.Need-part_or-requires
 part-or-requires c κs = search rules

@@ -1,3 +1,4 @@
+-- `is_2000` asks the first byte, where there is one.
 use native.Mathlib.Omega.{arith}
 use mathlib.Core.Path.{sym}
 use lib.ListN.{length}
@@ -6,7 +7,6 @@ use Rattle.rules.specs.Blob.{is2000}
 use borrow.Author.Rules.{rules}
 use Rattle.blob.proofs.is_2000.Statement.{statement}
 use Rattle.blob.proofs.is_2000.Tie as tie
--- `is_2000` asks the first byte, where there is one.
 
 returns : tie.Need-returns-then-stream-eq0
 unfolding is2000

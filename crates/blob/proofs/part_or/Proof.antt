@@ -1,9 +1,9 @@
+-- `part_or` gives the part, or nothing where the slice does not have it; and it says where that stands.
 use native.Mathlib.Omega.{arith}
 use Rattle.blob.proofs.PartLaws.{outside, inside, outside_at, inside-at}
 use borrow.Author.Rules.{rules}
 use Rattle.blob.proofs.part_or.Statement.{statement}
 use Rattle.blob.proofs.part_or.Tie as tie
--- `part_or` gives the part, or nothing where the slice does not have it; and it says where that stands.
 
 slice-aggregate-result : tie.Need-slice_bounds-result-end
 slice-aggregate-result c = search rules

@@ -1,3 +1,4 @@
+-- `read_2000` meets the equation with `exit2000`: the refusals in their order, then the reading.
 use native.Mathlib.Omega.{arith}
 use mathlib.Core.Path.{sym, ◌∙◌}
 use Rattle.blob.proofs.ExitLaws.{not-true, not-false}
@@ -5,7 +6,6 @@ use Rattle.blob.proofs.ReaderLaws.{long_2000, bad_table_2000, other_2000, read_2
 use borrow.Author.Rules.{rules}
 use Rattle.blob.proofs.read_2000.Statement.{statement}
 use Rattle.blob.proofs.read_2000.Tie as tie
--- `read_2000` meets the equation with `exit2000`: the refusals in their order, then the reading.
 
 returns : tie.Need-returns-then-stream-gt-LONGEST
 returns c = long_2000 _ _ (omega arith) c.refused.ensures

@@ -1,10 +1,10 @@
+-- `read_blob` meets the equation with `exit`: the refusals in their order, then the layout.
 use native.Mathlib.Omega.{arith}
 use mathlib.Core.Path.{sym, ◌∙◌}
 use Rattle.blob.proofs.ExitLaws.{not-true, not-false, five, eight, by_2000, by-later}
 use borrow.Author.Rules.{rules}
 use Rattle.blob.proofs.read_blob.Statement.{statement}
 use Rattle.blob.proofs.read_blob.Tie as tie
--- `read_blob` meets the equation with `exit`: the refusals in their order, then the layout.
 
 refused-requires : tie.Need-refused-requires
 refused-requires c κs = search rules

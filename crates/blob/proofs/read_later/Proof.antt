@@ -1,10 +1,10 @@
+-- `read_later` meets the equation with `exit_later`: the refusals in their order, then the reading.
 use native.Mathlib.Omega.{arith}
 use mathlib.Core.Path.{sym, ◌∙◌}
 use Rattle.blob.proofs.ReaderLaws.{long-later, other-later, read-later}
 use borrow.Author.Rules.{rules}
 use Rattle.blob.proofs.read_later.Statement.{statement}
 use Rattle.blob.proofs.read_later.Tie as tie
--- `read_later` meets the equation with `exit_later`: the refusals in their order, then the reading.
 
 returns : tie.Need-returns-then-stream-gt-LONGEST
 returns c = long-later _ _ (omega arith) c.refused.ensures

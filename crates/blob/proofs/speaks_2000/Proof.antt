@@ -1,3 +1,4 @@
+-- `speaks_2000` asks the first byte, where there is one.
 use native.Mathlib.Omega.{arith}
 use mathlib.Core.Path.{sym}
 use lib.ListN.{length}
@@ -5,7 +6,6 @@ use borrow.Author.Tests.{lt-ltb, le-ltb}
 use borrow.Author.Rules.{rules}
 use Rattle.blob.proofs.speaks_2000.Statement.{statement}
 use Rattle.blob.proofs.speaks_2000.Tie as tie
--- `speaks_2000` asks the first byte, where there is one.
 
 returns : tie.Need-returns-then-stream-eq0
 returns c = sym (rw (le-ltb 0 (length c.args.stream.now) (omega arith)))

@@ -48,9 +48,9 @@ code-known j =
     let after-byte-number : tie.After-byte_number-kind invariant-loop decreases-loop = search in
     code_ok _ _
     (⊎_elim
-    (λ w. let e : j.u16_number-code.result ≡ 0 = omega (arith, w.1.left) in inr e)
-    (λ w. let e : after-byte-number.byte_number-kind.result ≡ 2 = omega (arith, w.left) in inl e)
-    j.if-kind-ne-LAST_SCOPE_KIND.branch)
+    (λ w. let e : j.u16_number-code.result ≡ 0 = omega (arith, w.if-code-ne0.false) in inr e)
+    (λ w. let e : after-byte-number.byte_number-kind.result ≡ 2 = omega (arith, w.if-kind-ne-LAST_SCOPE_KIND.false) in inl e)
+    j.if-kind-ne-LAST_SCOPE_KIND.branch-raw)
 
 loop-holds : tie.Need-loop-left-init invariant-loop decreases-loop
 loop-holds c = record {

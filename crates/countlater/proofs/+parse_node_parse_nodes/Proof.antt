@@ -82,13 +82,13 @@ unfolding nodes_at
     (λ c. record { few = omega arith; counts = counting-start })
     (λ c. counting_deep c.loop-k.invariant.counts c.if-left-eq0.true c.loop-k-test.true)
     (λ c. search rules) (λ c κs. omega arith) (λ c. search rules)
-    (λ c. let test : In-loop t = search in let start : At-loop t = search in counting_bad start.loop-k.invariant.counts c.if-left-eq0.false test.loop-k-test.true _ c.parse_node.ensures c.in_default.is)
+    (λ c. let test : In-loop t = search in let start : At-loop t = search in counting_bad start.loop-k.invariant.counts c.if-left-eq0.false test.loop-k-test.true _ c.parse_node.ensures c.in-Bad.is)
     (λ c. search rules)
-    (λ c. omega (arith, node-fits _ _ _ c.parse_node.ensures c.in-Of-parse_nodes.is))
-    (λ c. omega (arith, node-fits _ _ _ c.parse_node.ensures c.in-Of-parse_nodes.is))
+    (λ c. omega (arith, node-fits _ _ _ c.parse_node.ensures c.in-Of.is))
+    (λ c. omega (arith, node-fits _ _ _ c.parse_node.ensures c.in-Of.is))
     (λ c. search rules) (λ c. search rules)
     (λ c. let level : Level-left t = search in let test : In-loop t = search in let start : At-loop t = search in record {
-      few = omega (arith, node-fits _ _ _ c.parse_node.ensures c.in-Of-parse_nodes.is);
-      counts = counting_more start.loop-k.invariant.counts level.if-left-eq0.false test.loop-k-test.true _ c.parse_node.ensures _ _ _ c.in-Of-parse_nodes.is;
+      few = omega (arith, node-fits _ _ _ c.parse_node.ensures c.in-Of.is);
+      counts = counting_more start.loop-k.invariant.counts level.if-left-eq0.false test.loop-k-test.true _ c.parse_node.ensures _ _ _ c.in-Of.is;
     })
     (λ c. counting-all c.loop-k.invariant.counts c.loop-k-test.false)

@@ -25,12 +25,12 @@ place-after-requires c κs =
 
 returns : tie.Need-returns-in_default invariant-loop decreases-loop
 returns c =
-    let e = sym (ap (place_after _) c.step-s.ensures) ∙ sym c.place_after.ensures ∙ c.in_default.is in
+    let e = sym (ap (place_after c.loop-i.p) c.step-s.ensures) ∙ sym c.place_after.ensures ∙ c.in_default.is in
     ap counted_as (sym (count-refused c.loop-i.invariant c.loop-i-test.true e))
 
 loop-again : tie.Need-loop-i-preserved invariant-loop decreases-loop
 loop-again c =
-    let e = sym (ap (place_after _) c.step-s.ensures) ∙ sym c.place_after.ensures ∙ c.in-At.is in
+    let e = sym (ap (place_after c.loop-i.p) c.step-s.ensures) ∙ sym c.place_after.ensures ∙ c.in-At.is in
     count-on c.loop-i.invariant _ c.loop-i-test.true e
 
 end-requires : tie.Need-end-requires invariant-loop decreases-loop

@@ -86,7 +86,7 @@ cast-t17 c =
     record { fits = omega (arith, fields_fit else3, countable-most (room field_width (fields_of_lem else3))) }
 
 same_length : tie.Need-shape_of-fields
-same_length c = c.write.auto.out
+same_length c = c.write.auto.rows
 
 same-length-2 : tie.Need-shape_of-out
 same-length-2 c = c.write.auto.out

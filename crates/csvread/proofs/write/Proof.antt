@@ -35,12 +35,12 @@ never c =
     let after-step : tie.After-step-s invariant-loop decreases-loop = search in
     let in-loop : tie.In-loop-i invariant-loop decreases-loop = search in
     let at-loop : tie.At-loop-i invariant-loop decreases-loop = search in
-    let e = sym (ap (place_after _) after-step.step-s.ensures) ∙ sym after-place-after.place_after.ensures ∙ c.in_default.is in
+    let e = sym (ap (place_after at-loop.loop-i.p) after-step.step-s.ensures) ∙ sym after-place-after.place_after.ensures ∙ c.in_default.is in
     none-refused at-loop.loop-i.invariant in-loop.loop-i-test.true e
 
 loop-again : tie.Need-loop-i-preserved invariant-loop decreases-loop
 loop-again c =
-    let e = sym (ap (place_after _) c.step-s.ensures) ∙ sym c.place_after.ensures ∙ c.in-At.is in
+    let e = sym (ap (place_after c.loop-i.p) c.step-s.ensures) ∙ sym c.place_after.ensures ∙ c.in-At.is in
     write-on c.loop-i.invariant _ c.loop-i-test.true (rw c.step-s.ensures at c.put_step-start.ensures) e
 
 put-span-requires : tie.Need-put_span-requires invariant-loop decreases-loop

@@ -17,7 +17,7 @@ array-share-prefix-fields c =
 
 slice-aggregate-put-rows : tie.Need-slice_bounds-put_rows-end
 slice-aggregate-put-rows c =
-    sym (length-take-le _ _ (omega (arith, fields-inside (length-replicate {A = ℕ} 16 0) c.requires.short c.put_owner-size.ensures, c.put_owner-size.auto.0, length-replicate {A = ℕ} 16 0)))
+    sym (length-take-le _ _ (omega (arith, fields-inside (length-replicate {A = ℕ} 16 0) c.requires.short c.put_owner-size.ensures, c.put_owner-size.auto.out, length-replicate {A = ℕ} 16 0)))
 
 returns : tie.Need-returns
 returns c =

@@ -1,3 +1,4 @@
+-- `differences` meets the equation with `differences_exit`: the refusals in their order, then the list.
 use Prim.Native.Nat.{◌≤◌}
 use native.Mathlib.Omega.{arith}
 use mathlib.Core.Path.{◌≡◌, sym, ◌∙◌}
@@ -10,7 +11,6 @@ use Rattle.rules.specs.Differences.{succeeds}
 use Rattle.differences.proofs.Exits.{seen_some, seen_none, five, eight-older, eight-newer, nineteen, four, stream-ready, by_2000, by-later}
 use Rattle.differences.proofs.differences.Statement.{statement}
 use Rattle.differences.proofs.differences.Tie as tie
--- `differences` meets the equation with `differences_exit`: the refusals in their order, then the list.
 
 -- ---- places, each from a later one
 abbrev start_of : tie.After-well_formed-2 → tie.Start

@@ -1,3 +1,4 @@
+-- A walk of the code by hand, since the kit has none for a struct that is lent. All that was lent goes to `count_blob` for good, and its answer is handed over.
 use mathlib.Core.Path.{◌≡◌, refl, ap, ◌∙◌}
 use mathlib.Core.List.{[], ◌∷◌}
 use seplogic.Ra.Ura.{Ura}
@@ -53,7 +54,6 @@ use Rattle.oskuramos.specs.contracts.oskuramos_count_blob.Key.{name as #oskuramo
 use Rattle.oskuramos.specs.contracts.oskuramos_count_blob as f
 use Rattle.oskuramos.proofs.oskuramos_count_blob.Statement as stated
 use Rattle.oskuramos.proofs.oskuramos_count_blob.Code as code
--- A walk of the code by hand, since the kit has none for a struct that is lent. All that was lent goes to `count_blob` for good, and its answer is handed over.
 
 abbrev stayed : Stays (f.ended).signature.params (f.ended).kept
 stayed = (gave_ref (0 ∷ []) tt (plain (λ _. T.the_row)), (stay_dropped (shr_slice_of (1 ∷ []) tt (plain (λ _. u8))) yes, (stay_dropped (shr_slice_of (2 ∷ []) tt (plain (λ _. u8))) yes, (stay_dropped (plain (λ _. u32)) yes, (stay_dropped (plain (λ _. u32)) yes, tt)))))

@@ -1,3 +1,4 @@
+-- Invariant: the rows from `k` on decide.
 use Prim.Native.Nat.{◌-◌}
 use native.Mathlib.Omega.{arith}
 use borrow.Author.Rules.{rules}
@@ -8,7 +9,6 @@ use Rattle.rules.specs.Pairing.{control_ok}
 use Rattle.pairing.proofs.RowLaws.{Deciding, all_decide, judged-all, judged_bad, judged_good, control-ok}
 use Rattle.pairing.proofs.controls_ok.Statement.{statement}
 use Rattle.pairing.proofs.controls_ok.Tie as tie
--- Invariant: the rows from `k` on decide.
 
 abbrev invariant-loop : tie.invariant-loop-k
 invariant-loop s controls control-count k₀ k = Deciding control_width control-count controls all (control_ok s) k

@@ -1,3 +1,4 @@
+-- Invariant: the rows from `j` on decide.
 use Prim.Native.Nat.{◌-◌}
 use native.Mathlib.Omega.{arith}
 use borrow.Author.Rules.{rules}
@@ -8,7 +9,6 @@ use Rattle.rules.specs.Pairing.{is_named}
 use Rattle.pairing.proofs.RowLaws.{Deciding, all_decide, judged-all, judged_bad, judged_good, info_named}
 use Rattle.pairing.proofs.infos_ok.Statement.{statement}
 use Rattle.pairing.proofs.infos_ok.Tie as tie
--- Invariant: the rows from `j` on decide.
 
 abbrev invariant-loop : tie.invariant-loop-j
 invariant-loop t infos info_count j₀ j = Deciding type_info_width info_count infos all (is_named t) j

@@ -1,3 +1,4 @@
+-- Invariant: what is left to compare from letter `i` on decides.
 use Prim.Native.Nat.{ℕ, ◌+◌, ◌-◌, ◌≤◌}
 use native.Mathlib.Omega.{arith}
 use borrow.Author.Rules.{rules}
@@ -11,7 +12,6 @@ use Rattle.pairing.specs.declared.Wanted.{Wanted}
 use Rattle.pairing.proofs.NameLaws.{left, whole, letter-same, letter-other, no-letter}
 use Rattle.pairing.proofs.same_name.Statement.{statement}
 use Rattle.pairing.proofs.same_name.Tie as tie
--- Invariant: what is left to compare from letter `i` on decides.
 
 record Kept (s : List ℕ) (name : Wanted) (t : List ℕ) (at i : ℕ) : Type 0 where
   within : i ≤ name.letters

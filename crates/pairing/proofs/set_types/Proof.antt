@@ -1,3 +1,4 @@
+-- Invariant: the types of the first `k` rows are set.
 use Prim.Native.Nat.{ℕ, ◌*◌, ◌-◌, ◌≤◌}
 use native.Mathlib.Omega.{arith}
 use borrow.Author.Rules.{rules}
@@ -11,7 +12,6 @@ use Rattle.rows.specs.Get.{ControlOf}
 use Rattle.pairing.proofs.TypeLaws.{types-none, types-next, next-ok, next-type}
 use Rattle.pairing.proofs.set_types.Statement.{statement}
 use Rattle.pairing.proofs.set_types.Tie as tie
--- Invariant: the types of the first `k` rows are set.
 
 record Kept (s old now t infos : List ℕ) (n m k : ℕ) : Type 0 where
   within : k ≤ n

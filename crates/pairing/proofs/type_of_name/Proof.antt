@@ -1,3 +1,4 @@
+-- Invariant: what is found from row `j` on is found.
 use Prim.Native.Nat.{ℕ, ◌-◌}
 use native.Mathlib.Omega.{arith}
 use borrow.Author.Rules.{rules}
@@ -13,7 +14,6 @@ use Rattle.pairing.specs.declared.Wanted.{Wanted}
 use Rattle.pairing.proofs.RowLaws.{Deciding, all_decide, found_nowhere, found_here, found-later, each_row, info_name, info_named}
 use Rattle.pairing.proofs.type_of_name.Statement.{statement}
 use Rattle.pairing.proofs.type_of_name.Tie as tie
--- Invariant: what is found from row `j` on is found.
 
 abbrev wanted : List ℕ → Wanted → List ℕ → List ℕ → Bool
 wanted s name t = has_name t (some (name_of s name))

@@ -1,3 +1,4 @@
+-- Invariant: the names before row `j` decide.
 use Prim.Native.Nat.{ℕ}
 use native.Mathlib.Omega.{arith}
 use borrow.Author.Rules.{rules}
@@ -6,7 +7,6 @@ use Rattle.rules.specs.Bytes.{part}
 use Rattle.panel.proofs.NameLaws.{Seeking, name-there, name-other, name_new}
 use Rattle.panel.proofs.is_new.Statement.{statement}
 use Rattle.panel.proofs.is_new.Tie as tie
--- Invariant: the names before row `j` decide.
 
 abbrev invariant-loop : tie.invariant-loop-j
 invariant-loop s controls n start size j₀ j = Seeking s controls n (part s start size) j

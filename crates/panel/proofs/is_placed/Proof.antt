@@ -1,3 +1,4 @@
+-- Invariant: the places from row `j` on decide.
 use Prim.Native.Nat.{ℕ, ◌-◌}
 use native.Mathlib.Omega.{arith}
 use borrow.Author.Rules.{rules}
@@ -10,7 +11,6 @@ use Rattle.rows.proofs.GetLaws.{property-shown}
 use Rattle.panel.proofs.PropertyLaws.{Placing, place_bad, place_good, places-end}
 use Rattle.panel.proofs.is_placed.Statement.{statement}
 use Rattle.panel.proofs.is_placed.Tie as tie
--- Invariant: the places from row `j` on decide.
 
 abbrev invariant-loop : tie.invariant-loop-j
 invariant-loop properties from to j₀ j = Placing properties from to j

@@ -1,3 +1,4 @@
+-- Invariant: the rows from `i` on decide; those before it name bytes of the stream, and are marked.
 use Prim.Native.Nat.{ℕ, ◌-◌}
 use native.Mathlib.Omega.{arith}
 use borrow.Author.Rules.{rules}
@@ -7,7 +8,6 @@ use Rattle.panel.proofs.MarkLaws.{Marking, none-marked}
 use Rattle.panel.proofs.RuleLaws.{judging_start, row-broken, row_kept, all-kept}
 use Rattle.panel.proofs.judge.Statement.{statement}
 use Rattle.panel.proofs.judge.Tie as tie
--- Invariant: the rows from `i` on decide; those before it name bytes of the stream, and are marked.
 
 abbrev invariant-loop : tie.invariant-loop-i
 invariant-loop stream controls properties count index letters marks₀ i₀ marks i = Marking stream controls properties count i marks

@@ -1,3 +1,4 @@
+-- Invariant: the sources from row `j` on are all.
 use Prim.Native.Nat.{ℕ, ◌-◌}
 use native.Mathlib.Omega.{arith}
 use borrow.Author.Rules.{rules}
@@ -5,7 +6,6 @@ use mathlib.Core.Path.{refl, sym, ◌∙◌}
 use Rattle.panel.proofs.PropertyLaws.{Seeking, source-here, source-later, no_source}
 use Rattle.panel.proofs.next_source.Statement.{statement}
 use Rattle.panel.proofs.next_source.Tie as tie
--- Invariant: the sources from row `j` on are all.
 
 abbrev invariant-loop : tie.invariant-loop-j
 invariant-loop properties from to j₀ j = Seeking properties from to j

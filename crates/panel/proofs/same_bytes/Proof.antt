@@ -1,3 +1,4 @@
+-- Invariant: the first `k` bytes decide.
 use Prim.Native.Nat.{ℕ}
 use native.Mathlib.Omega.{arith}
 use mathlib.Core.Path.{refl}
@@ -5,7 +6,6 @@ use borrow.Author.Rules.{rules}
 use Rattle.panel.proofs.NameLaws.{Comparing, bytes-other, bytes_same, bytes-all}
 use Rattle.panel.proofs.same_bytes.Statement.{statement}
 use Rattle.panel.proofs.same_bytes.Tie as tie
--- Invariant: the first `k` bytes decide.
 
 abbrev invariant-loop : tie.invariant-loop-k
 invariant-loop s one other size k₀ k = Comparing s one other size k

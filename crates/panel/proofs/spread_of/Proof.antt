@@ -1,9 +1,9 @@
+-- Invariant: the bytes from the k-th on are spread.
 use native.Mathlib.Omega.{arith}
 use borrow.Author.Rules.{rules}
 use Rattle.panel.proofs.MarkLaws.{Spreading, spreading_start, number_small, spreading_next, spread-all}
 use Rattle.panel.proofs.spread_of.Statement.{statement}
 use Rattle.panel.proofs.spread_of.Tie as tie
--- Invariant: the bytes from the k-th on are spread.
 
 abbrev invariant-loop : tie.invariant-loop-k
 invariant-loop s start size from n₀ k₀ n k = Spreading s start size k n

@@ -1,3 +1,4 @@
+-- `count_entries` counts the reported entries. Invariant: those found and those from `p` on are all of them.
 use Prim.Native.Nat.{◌+◌, ◌≤◌, ◌<◌}
 use native.Mathlib.Omega.{arith}
 use mathlib.Core.Path.{◌≡◌, ap}
@@ -6,7 +7,6 @@ use Rattle.typeinfo.specs.Entries.{reported_at}
 use Rattle.typeinfo.proofs.EntryLaws.{none_left, none_asked, at_most_one, inside, counted-more}
 use Rattle.typeinfo.proofs.count_entries.Statement.{statement}
 use Rattle.typeinfo.proofs.count_entries.Tie as tie
--- `count_entries` counts the reported entries. Invariant: those found and those from `p` on are all of them.
 
 abbrev invariant-loop : tie.invariant-loop-left
 invariant-loop s count p₀ left₀ found₀ p left found =

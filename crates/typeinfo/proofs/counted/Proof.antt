@@ -1,9 +1,9 @@
+-- `counted` adds one for each type but 0x1EFF.
 use native.Mathlib.Omega.{arith}
 use borrow.Author.Rules.{rules}
 use Rattle.typeinfo.proofs.EntryLaws.{not_one, one}
 use Rattle.typeinfo.proofs.counted.Statement.{statement}
 use Rattle.typeinfo.proofs.counted.Tie as tie
--- `counted` adds one for each type but 0x1EFF.
 
 returns : tie.Need-returns-then-type_code-eq-UNREPORTED
 returns c = omega (arith, not_one c.args.type_code (omega arith))

@@ -1,3 +1,4 @@
+-- `nul_from` stops where the bytes before the NUL end. Invariant: from `i` on it would stop at the same place.
 use Prim.Native.Nat.{◌+◌, ◌-◌, ◌≤◌}
 use native.Mathlib.Omega.{arith}
 use mathlib.Core.Path.{◌≡◌, refl}
@@ -6,7 +7,6 @@ use Rattle.rules.specs.TypeInfo.{before_nul}
 use Rattle.typeinfo.proofs.NulLaws.{nul_here, nul_next, nul_end}
 use Rattle.typeinfo.proofs.nul_from.Statement.{statement}
 use Rattle.typeinfo.proofs.nul_from.Tie as tie
--- `nul_from` stops where the bytes before the NUL end. Invariant: from `i` on it would stop at the same place.
 
 abbrev invariant-loop : tie.invariant-loop-i
 invariant-loop s start i₀ i = (i ≤ length s) × (i + before_nul (drop i s) ≡ start + before_nul (drop start s))

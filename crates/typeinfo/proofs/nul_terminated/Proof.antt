@@ -1,9 +1,9 @@
+-- `nul_terminated` gives the name at `start`, ended by a NUL or by the end.
 use native.Mathlib.Omega.{arith}
 use borrow.Author.Rules.{rules}
 use Rattle.typeinfo.proofs.NulLaws.{ended-by_nul, ended-by-end}
 use Rattle.typeinfo.proofs.nul_terminated.Statement.{statement}
 use Rattle.typeinfo.proofs.nul_terminated.Tie as tie
--- `nul_terminated` gives the name at `start`, ended by a NUL or by the end.
 
 returns : tie.Need-returns-then-end-s
 returns c = ended-by_nul _ _ _ c.nul_from-end.ensures (omega arith)

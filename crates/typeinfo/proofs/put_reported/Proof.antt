@@ -1,10 +1,10 @@
+-- `put_reported` writes the entry's row where it is reported, and nothing where it isn't.
 use native.Mathlib.Omega.{arith}
 use mathlib.Core.Path.{◌∙◌}
 use borrow.Author.Rules.{rules}
 use Rattle.typeinfo.proofs.EntryLaws.{not_one, one, put-nothing, put-row}
 use Rattle.typeinfo.proofs.put_reported.Statement.{statement}
 use Rattle.typeinfo.proofs.put_reported.Tie as tie
--- `put_reported` writes the entry's row where it is reported, and nothing where it isn't.
 
 returns : tie.Need-returns-then-e-eq-UNREPORTED
 returns c =

@@ -1,3 +1,4 @@
+-- `read_type_info` meets `type_info_exit`: a refusal leaves the rows, and with number 0 all reported entries are written.
 use Prim.Native.Nat.{◌≤◌}
 use native.Mathlib.Omega.{arith}
 use mathlib.Core.Path.{◌≡◌, sym, ◌∙◌}
@@ -10,7 +11,6 @@ use Rattle.typeinfo.proofs.EntryLaws.{at_most}
 use Rattle.typeinfo.proofs.ExitLaws.{accepted, refused, too_few, enough, no_room, all-written}
 use Rattle.typeinfo.proofs.read_type_info.Statement.{statement}
 use Rattle.typeinfo.proofs.read_type_info.Tie as tie
--- `read_type_info` meets `type_info_exit`: a refusal leaves the rows, and with number 0 all reported entries are written.
 
 -- the header gives the count that the arm binds
 accepts : (c : tie.In-Entries) →
@@ -26,13 +26,13 @@ fits : (c : tie.In-Whole) →
 fits c = enough _ _ _ c.room_for.ensures c.in-Whole.is
 
 room-for-requires : tie.Need-room_for-requires
-room-for-requires c κs = (accepted _ _ (accepts c.before)).header-1
+room-for-requires c κs = let entries : tie.In-Entries = search in (accepted _ _ (accepts entries)).header
 
 write-entries-requires : tie.Need-write_entries-found-requires
 write-entries-requires c κs =
     let after-header2 : tie.In-Entries = search in
     let told = accepted _ _ (accepts after-header2) in
-    record { header = told.header-1; not_long = told.not_long; all-rows = omega (arith, fits c.before) }
+    record { header = told.header; not_long = told.not_long; all-rows = omega (arith, fits c.before) }
 
 cast-t15 : tie.Need-overflow_cast-result
 cast-t15 c =

@@ -1,10 +1,10 @@
+-- `room_for` counts where the header's count doesn't settle it.
 use native.Mathlib.Omega.{arith}
 use borrow.Author.Rules.{rules}
 use Rattle.typeinfo.proofs.EntryLaws.{at_most}
 use Rattle.typeinfo.proofs.ExitLaws.{whole, short}
 use Rattle.typeinfo.proofs.room_for.Statement.{statement}
 use Rattle.typeinfo.proofs.room_for.Tie as tie
--- `room_for` counts where the header's count doesn't settle it.
 
 returns : tie.Need-returns-then-count-room
 returns c =

@@ -1,3 +1,4 @@
+-- `type_info_count` tries the refusals in the order 5, 1, 2, 3.
 use native.Mathlib.Omega.{arith}
 use mathlib.Core.Path.{ap, ◌∙◌}
 use borrow.Author.Rules.{rules}
@@ -5,7 +6,6 @@ use Rattle.typeinfo.proofs.HeaderLaws.{too_long, too_short, other-magic, too_man
 use Rattle.typeinfo.specs.declared.Header.TheVariants.{Entries}
 use Rattle.typeinfo.proofs.type_info_count.Statement.{statement}
 use Rattle.typeinfo.proofs.type_info_count.Tie as tie
--- `type_info_count` tries the refusals in the order 5, 1, 2, 3.
 
 returns : tie.Need-returns-then-s-gt-LONGEST
 returns c = too_long c.args.s.now (omega arith)

@@ -1,10 +1,10 @@
+-- `type_info_entry` gives the entry at `at`, and the place after it.
 use native.Mathlib.Omega.{arith}
 use borrow.Author.Rules.{rules}
 use Rattle.typeinfo.proofs.NulLaws.{next_of}
 use Rattle.typeinfo.proofs.EntryLaws.{EntryRead, uses_first, uses_second}
 use Rattle.typeinfo.proofs.type_info_entry.Statement.{statement}
 use Rattle.typeinfo.proofs.type_info_entry.Tie as tie
--- `type_info_entry` gives the entry at `at`, and the place after it.
 
 -- what the calls have given where the names are chosen
 read : (c : tie.After-past_tail-next) →

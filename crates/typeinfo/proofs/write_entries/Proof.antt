@@ -1,3 +1,4 @@
+-- `write_entries` writes a row for each reported entry. Invariant: the rows from `p` on, put from row `at` on, are all that is left to write.
 use Prim.Native.Nat.{ℕ, ◌+◌, ◌-◌, ◌≤◌, ◌<◌}
 use native.Mathlib.Omega.{arith}
 use mathlib.Core.Path.{◌≡◌, refl, sym, ap₂, ◌∙◌}
@@ -10,7 +11,6 @@ use Rattle.typeinfo.specs.Entries.{reported_at}
 use Rattle.typeinfo.proofs.EntryLaws.{none_left, none_asked, at-end, inside, counted-more, put-more, row_room}
 use Rattle.typeinfo.proofs.write_entries.Statement.{statement}
 use Rattle.typeinfo.proofs.write_entries.Tie as tie
--- `write_entries` writes a row for each reported entry. Invariant: the rows from `p` on, put from row `at` on, are all that is left to write.
 
 record Kept (s : List ℕ) (count : ℕ) (rows₀ rows : List ℕ) (p left at : ℕ) : Type 0 where
   inside : p ≤ length s

@@ -21,14 +21,12 @@ add-if1 c =
 returns : tie.Need-returns-then-s-start
 unfolding property_at
 returns c =
-    let (place, is) = c.start-1.given in
-    simp (extent-at (extent_at _ _ _) _ _ _ c.extent_at.ensures is, lt-leb (place.0 + place.1.0) (length c.args.s.now) (omega arith))
+    simp (extent-at (extent_at _ _ _) _ _ _ c.extent_at.ensures c.in-At.is, lt-leb (c.in-At.start + c.in-At.size) (length c.args.s.now) (omega arith))
 
 returns-2 : tie.Need-returns-else-s-start
 unfolding property_at
 returns-2 c =
-    let (place, is) = c.start-1.given in
-    simp (extent-at (extent_at _ _ _) _ _ _ c.extent_at.ensures is, le-leb (place.0 + place.1.0) (length c.args.s.now) (omega arith))
+    simp (extent-at (extent_at _ _ _) _ _ _ c.extent_at.ensures c.in-At.is, le-leb (c.in-At.start + c.in-At.size) (length c.args.s.now) (omega arith))
 
 returns-3 : tie.Need-returns-in-Bad
 unfolding property_at
