@@ -9,7 +9,7 @@ slice-aggregate-result : tie.Need-slice_bounds-result-end
 slice-aggregate-result c = search rules
 
 returns : tie.Need-returns-then-s-start
-returns c = let a = c.args in (outside a.s.now a.start a.length (omega arith), outside_at a.s.now a.s.ref_ptr a.start a.length a.other.ptr (omega arith))
+returns c = let a = c.args in (outside a.s.now a.start a.length (omega arith), outside_at a.s.now a.s.ref_ptr a.start a.length a.other.ref_ptr (omega arith))
 
 sub-if2 : tie.Need-overflow_sub-s
 sub-if2 c = search rules
@@ -18,7 +18,7 @@ slice-aggregate-result-2 : tie.Need-slice_bounds-result-end-then-s-start-2
 slice-aggregate-result-2 c = search rules
 
 returns-2 : tie.Need-returns-then-s-start-2
-returns-2 c = let a = c.args in (outside a.s.now a.start a.length (omega arith), outside_at a.s.now a.s.ref_ptr a.start a.length a.other.ptr (omega arith))
+returns-2 c = let a = c.args in (outside a.s.now a.start a.length (omega arith), outside_at a.s.now a.s.ref_ptr a.start a.length a.other.ref_ptr (omega arith))
 
 add-result : tie.Need-overflow_add-result
 add-result c = search rules
@@ -33,7 +33,7 @@ part-result-end : tie.Need-slice_bounds-result-end
 part-result-end c = search rules
 
 returns-3 : tie.Need-returns
-returns-3 c = let a = c.args in (inside a.s.now a.start a.length (omega arith), inside-at a.s.now a.s.ref_ptr a.start a.length a.other.ptr (omega arith))
+returns-3 c = let a = c.args in (inside a.s.now a.start a.length (omega arith), inside-at a.s.now a.s.ref_ptr a.start a.length a.other.ref_ptr (omega arith))
 
 pub part_or_spec : {M : Type 1} → statement M
 part_or_spec =

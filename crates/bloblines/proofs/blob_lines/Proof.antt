@@ -26,7 +26,7 @@ known_of c = search
 returns : tie.Need-returns-then-a-ne0
 unfolding start_of read_of controls-of properties-of answered-of
 returns c =
-    let known = c.before in
+    let known : tie.After-struct_known-1 = search in
     let r = read_of known in
     let a = (start_of r).args in
     blob-refused a.table.now a.stream.now a.controls-1.now a.properties-1.now _ _ _ r.read_blob-a.ensures

@@ -24,7 +24,7 @@ returns : tie.Need-returns-then-scopes-near
 unfolding as_found
 returns c =
     record {
-      is = λ L e a. ap as_found (sym (hit (turn c.before.before L e) c.if-scopes-near.true a));
+      is = λ L e a. ap as_found (sym (hit (turn (let place : tie.Then-near-n = search in place) L e) c.if-scopes-near.true a));
       inside = λ i e.
           let q : c.args.near ≡ i = cc in
           omega (arith, c.if-near-n.true);

@@ -47,7 +47,7 @@ same_length c =
     c.loop-i.invariant.filled.long ∙ sym c.requires
 
 returns : tie.Need-returns-then-i-ge-MOST_SCOPES invariant-loop decreases-loop
-returns c = all_listed (counts c.before.before.before) c.loop-i.invariant.filled (inr (omega arith))
+returns c = all_listed (counts (let place : tie.After-byte_number invariant-loop decreases-loop = search in place)) c.loop-i.invariant.filled (inr (omega arith))
 
 -- three words fit after those of the scopes before
 write-second : tie.Need-bounds-scopes-k-in-loop-i invariant-loop decreases-loop
@@ -67,7 +67,7 @@ same-length-2 c =
     c.loop-i.invariant.filled.long ∙ sym c.requires
 
 returns-2 : tie.Need-returns invariant-loop decreases-loop
-returns-2 c = all_listed (counts c.before.before) c.loop-i.invariant.filled (inl (omega arith))
+returns-2 c = all_listed (counts (let place : tie.After-byte_number invariant-loop decreases-loop = search in place)) c.loop-i.invariant.filled (inl (omega arith))
 
 pub list_scopes_spec : {M : Type 1} → statement M
 list_scopes_spec =
@@ -79,15 +79,15 @@ list_scopes_spec =
     (λ c. let start : tie.Start invariant-loop decreases-loop = search in record { filled = filled_none _ _ _ _ start.requires; few = omega arith })
     same_length
     returns
-    (λ c κs. search rules) (λ c. omega (arith, c.byte_number-in-loop-i.ensures.small)) (λ c. omega (arith, (small c.before).at_small)) (λ c κs. omega (arith, (small c.before).at_small))
-    (λ c. omega (arith, c.byte_number-in-loop-i.ensures.small, c.u16_number.ensures.small)) (λ c. omega (arith, (small c.before.before).at_small)) (λ c κs. omega (arith, (small c.before.before).at_small))
+    (λ c κs. search rules) (λ c. omega (arith, c.byte_number-in-loop-i.ensures.small)) (λ c. omega (arith, (small (let place : tie.Else-i-ge-MOST_SCOPES invariant-loop decreases-loop = search in place)).at_small)) (λ c κs. omega (arith, (small (let place : tie.Else-i-ge-MOST_SCOPES invariant-loop decreases-loop = search in place)).at_small))
+    (λ c. omega (arith, c.byte_number-in-loop-i.ensures.small, c.u16_number.ensures.small)) (λ c. omega (arith, (small (let place : tie.Else-i-ge-MOST_SCOPES invariant-loop decreases-loop = search in place)).at_small)) (λ c κs. omega (arith, (small (let place : tie.Else-i-ge-MOST_SCOPES invariant-loop decreases-loop = search in place)).at_small))
     (λ c. omega arith)
     (λ c. omega (arith, c.byte_number-in-loop-i.ensures.small, c.u16_number.ensures.small)) (λ c. omega arith) (λ c. let at-loop : tie.At-loop-i invariant-loop decreases-loop = search in omega (arith, at-loop.loop-i.invariant.filled.long))
-    (λ c. omega (arith, (small c.before.before.before).body-small)) (λ c. omega arith) (λ c. omega arith)
+    (λ c. omega (arith, (small (let place : tie.Else-i-ge-MOST_SCOPES invariant-loop decreases-loop = search in place)).body-small)) (λ c. omega arith) (λ c. omega arith)
     write-second
     (λ c. omega (arith, c.u16_number-count.ensures.small)) (λ c. omega arith) (λ c. omega arith)
     write-third
-    (λ c. omega (arith, c.u16_number-count.ensures.small)) (λ c. omega (arith, (small c.before.before.before).body-small, c.u16_number-count.ensures.small)) (λ c. omega (arith, (small c.before.before.before).at_small))
+    (λ c. omega (arith, c.u16_number-count.ensures.small)) (λ c. omega (arith, (small (let place : tie.Else-i-ge-MOST_SCOPES invariant-loop decreases-loop = search in place)).body-small, c.u16_number-count.ensures.small)) (λ c. omega (arith, (small (let place : tie.Else-i-ge-MOST_SCOPES invariant-loop decreases-loop = search in place)).at_small))
     (λ c. omega arith) (λ c. omega arith)
     loop-again
     same-length-2

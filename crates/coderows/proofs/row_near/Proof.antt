@@ -43,7 +43,7 @@ returns-4 c =
 
 returns-5 : tie.Need-returns-then-byte_number-wanted
 returns-5 c =
-    glance_untied c.args.table.now (go_up (turn-before c.before) (omega (arith, c.if-byte_number-wanted.true))) (omega arith)
+    glance_untied c.args.table.now (go_up (turn-before (let place : tie.After-byte_number = search in place)) (omega (arith, c.if-byte_number-wanted.true))) (omega arith)
 
 pub row_near_spec : {M : Type 1} → statement M
 row_near_spec =

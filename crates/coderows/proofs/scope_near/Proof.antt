@@ -32,15 +32,15 @@ returns c =
     λ L. finds _ _ _ _ (λ F. absurd (omega (arith, (formed c.args.table.now F).few-scopes)))
 
 returns-2 : tie.Need-returns-in_default
-returns-2 c = λ L. finds _ _ _ _ (λ F. rw c.missing-in_default.ensures (missing_rows (sought c.before.before.before L) F c.in_default.is))
+returns-2 c = λ L. finds _ _ _ _ (λ F. rw c.missing-in_default.ensures (missing_rows (sought (let place : tie.After-find_index = search in place) L) F c.in_default.is))
 
 returns-3 : tie.Need-returns
 returns-3 c = λ L.
     let i = c.before.before.before in
     let k = i.in-At.index in
-    let s = sought i.before.before L in
+    let s = sought (let place : tie.After-find_index = search in place) L in
     let w = listed-words L s.scopes-is k (within i) (omega arith) in
-    finds _ _ _ _ (λ F. rw (w.start, w.count) (listed-rows s F k i.in-At.is))
+    finds _ _ _ _ (λ F. rw (w.start, w.count) (listed-rows s F k c.in-At.is))
 
 pub scope_near_spec : {M : Type 1} → statement M
 scope_near_spec =
@@ -50,6 +50,6 @@ scope_near_spec =
     returns
     (λ c. search rules) (λ c. search rules) (λ c κs. search rules) (λ c. search rules) (λ c. search rules) (λ c κs. search rules)
     returns-2
-    (λ c. omega (arith, within c.before)) (λ c. omega (arith, within c.before)) (λ c. omega (arith, within c.before)) (λ c. omega (arith, within c.before))
-    (λ c. omega (arith, within c.before.before)) (λ c. omega (arith, within c.before.before)) (λ c. omega (arith, within c.before.before))
+    (λ c. omega (arith, within (let place : tie.In-At = search in place))) (λ c. omega (arith, within (let place : tie.In-At = search in place))) (λ c. omega (arith, within (let place : tie.In-At = search in place))) (λ c. omega (arith, within (let place : tie.In-At = search in place)))
+    (λ c. omega (arith, within (let place : tie.In-At = search in place))) (λ c. omega (arith, within (let place : tie.In-At = search in place))) (λ c. omega (arith, within (let place : tie.In-At = search in place)))
     returns-3)

@@ -34,13 +34,13 @@ turn c = record { so_far = (head c).loop-rows.invariant.narrowed; fits = omega (
 returns : tie.Need-returns-then-id-wanted invariant-loop decreases-loop
 returns c =
     let r = c.read_row-row.ensures in
-    row_hit c.args.table.now (turn c.before.before.before) _ _ c.if-id-wanted.true r.target.is r.kind.is
+    row_hit c.args.table.now (turn (let place : tie.After-read_row-row invariant-loop decreases-loop = search in place)) _ _ c.if-id-wanted.true r.target.is r.kind.is
 
 loop-again : tie.Need-loop-rows-preserved-then-id-wanted-2 invariant-loop decreases-loop
-loop-again c = record { narrowed = go_up (turn c.before.before) (omega arith); at_small = omega arith; from_start = omega arith }
+loop-again c = record { narrowed = go_up (turn (let place : tie.After-read_row-row invariant-loop decreases-loop = search in place)) (omega arith); at_small = omega arith; from_start = omega arith }
 
 loop-again-2 : tie.Need-loop-rows-preserved invariant-loop decreases-loop
-loop-again-2 c = record { narrowed = go_down (turn c.before.before) (omega arith); at_small = omega arith; from_start = omega arith }
+loop-again-2 c = record { narrowed = go_down (turn (let place : tie.After-read_row-row invariant-loop decreases-loop = search in place)) (omega arith); at_small = omega arith; from_start = omega arith }
 
 returns-2 : tie.Need-returns invariant-loop decreases-loop
 returns-2 c = row-none c.args.table.now c.loop-rows.invariant.narrowed (omega arith)

@@ -38,14 +38,14 @@ loop-holds c = record { narrowed = begin (λ i. i) _ 1 0 _ _; inside = omega ari
 returns : tie.Need-returns-then-key-wanted invariant-loop decreases-loop
 unfolding as_found
 returns c =
-    let t = turn c.before in
+    let t = turn (let place : tie.After-u16_number invariant-loop decreases-loop = search in place) in
     record { is = λ a. ap as_found (sym (hit t c.if-key-wanted.true a)); inside = λ i e. let q : c.loop-scopes.first + c.loop-scopes.scopes / 2 ≡ i = cc in omega arith }
 
 loop-again : tie.Need-loop-scopes-preserved-then-key-wanted-2 invariant-loop decreases-loop
-loop-again c = record { narrowed = go_up (turn c.before.before) (omega arith); inside = omega arith }
+loop-again c = record { narrowed = go_up (turn (let place : tie.After-u16_number invariant-loop decreases-loop = search in place)) (omega arith); inside = omega arith }
 
 loop-again-2 : tie.Need-loop-scopes-preserved invariant-loop decreases-loop
-loop-again-2 c = record { narrowed = go_down (turn c.before.before) (omega arith); inside = omega arith }
+loop-again-2 c = record { narrowed = go_down (turn (let place : tie.After-u16_number invariant-loop decreases-loop = search in place)) (omega arith); inside = omega arith }
 
 returns-2 : tie.Need-returns invariant-loop decreases-loop
 unfolding as_found

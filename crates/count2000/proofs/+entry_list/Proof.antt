@@ -89,8 +89,7 @@ list-loop-again t c =
     let else1 : list-lts.Else-left-eq0 (list-calls t) (list_at t) list.Post list-Inv-loop list-μ-loop = search in
     let in-loop : list-lts.In-loop-k (list-calls t) (list_at t) list.Post list-Inv-loop list-μ-loop = search in
     let at-loop : list-lts.At-loop-k (list-calls t) (list_at t) list.Post list-Inv-loop list-μ-loop = search in
-    let b3 = c.before.before.before in
-    record { few = omega (arith, at-loop.loop-k.invariant.few, entry-room b3.entry.ensures c.in-Of.is); counts = counting_more at-loop.loop-k.invariant.counts else1.if-left-eq0.false in-loop.loop-k-test.true _ (whole_is b3.entry.ensures) _ _ _ (ap whole c.in-Of.is) }
+    record { few = omega (arith, at-loop.loop-k.invariant.few, entry-room c.entry.ensures c.in-Of.is); counts = counting_more at-loop.loop-k.invariant.counts else1.if-left-eq0.false in-loop.loop-k-test.true _ (whole_is c.entry.ensures) _ _ _ (ap whole c.in-Of.is) }
 
 list-returns-3 : (t : ℕ) → list-lts.Need-returns (list-calls t) (list_at t) list.Post list-Inv-loop list-μ-loop
 unfolding entries_at

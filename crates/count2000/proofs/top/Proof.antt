@@ -36,9 +36,9 @@ loop-again c =
     let more = c.loop-k-test.true in
     let of = c.in-Of.is in
     ⊎_elim
-    (λ w. rw (w.1, w.2) (top_kept inv more c.entry.ensures of w.0.taken))
-    (λ w. rw (w.1, w.2) (top_left inv more c.entry.ensures of w.0.left))
-    c.if-kept.branch
+    (λ w. rw (w.all-is, w.theirs-is) (top_kept inv more c.entry.ensures of w.if-kept.true))
+    (λ w. rw (w.all-is, w.theirs-is) (top_left inv more c.entry.ensures of w.if-kept.false))
+    c.if-kept.branch-raw
 
 returns-2 : tie.Need-returns invariant-loop decreases-loop
 unfolding entries_at

@@ -14,7 +14,5 @@ count_spec =
     (λ c κs. let after-count2 : tie.In-Ended = search in let after-parse-group : tie.After-parse_group = search in let place-start : tie.Start = search in omega (arith, within-ended _ place-start.requires after-parse-group.parse_group.ensures after-count2.in-Ended.is))
     (λ c. search rules)
     (λ c. let after-parse-group : tie.After-parse_group = search in let place-start : tie.Start = search in counted_open _ place-start.requires after-parse-group.parse_group.ensures c.in-Unended.is c.count_scanned.ensures)
-    (λ c. let at-controls-of-tree = c.before.before.before in let at-count2 = at-controls-of-tree.before.before in let at-parse-group = at-count2.before.before in let start = at-parse-group.before.before in
-    counted-scan _ start.requires at-parse-group.parse_group.ensures at-count2.in-Ended.is at-controls-of-tree.controls_of_tree.ensures c.in-Bad.is c.count_scanned-in-Bad.ensures)
-    (λ c. let at-controls-of-tree = c.before.before.before in let at-count2 = at-controls-of-tree.before.before in let at-parse-group = at-count2.before.before in let start = at-parse-group.before.before in
-    counted-tree _ start.requires at-parse-group.parse_group.ensures at-count2.in-Ended.is at-controls-of-tree.controls_of_tree.ensures c.in-Of.is))
+    (λ c. counted-scan _ c.requires c.parse_group.ensures c.in-Ended.is c.controls_of_tree.ensures c.in-Bad.is c.count_scanned-in-Bad.ensures)
+    (λ c. counted-tree _ c.requires c.parse_group.ensures c.in-Ended.is c.controls_of_tree.ensures c.in-Of.is))

@@ -41,7 +41,6 @@ top_nodes_spec =
     (λ c. record {
       few = omega (arith, node-fits _ _ _ c.parse_node.ensures c.in-Of.is);
       chosen =
-          let at-parse-node = c.before.before.before in let at-enum-told = at-parse-node.before in let at-section-at = at-enum-told.before.before in let in_turn = at-section-at.before in let turn = in_turn.before in
-          choosing_more turn.loop-k.invariant.chosen (eqb-false 256 0 refl) in_turn.loop-k-test.true _ (at-parse-node.parse_node.ensures ∙ sym (kept-tally _ _ _ at-section-at.top_node_at.ensures at-enum-told.in-Reported.is)) _ _ _ c.in-Of.is;
+          choosing_more c.loop-k.invariant.chosen (eqb-false 256 0 refl) c.loop-k-test.true _ (c.parse_node.ensures ∙ sym (kept-tally _ _ _ c.top_node_at.ensures c.in-Reported.is)) _ _ _ c.in-Of.is;
     })
     (λ c. choosing_all c.loop-k.invariant.chosen c.loop-k-test.false))

@@ -22,13 +22,13 @@ add-run-left c =
 run-left-requires : tie.Need-run_left-requires
 run-left-requires c κs =
     let scope : tie.After-find_scope-body = search in
-    let pre = (start_of scope).pre in
+    let pre = (start_of scope).requires in
     record { small = pre.known.small; sorted = (found scope).sorted pre.known.formed; there = pre.there; lent = pre.lent }
 
 returns : tie.Need-returns
 returns c =
     let scope : tie.After-find_scope-body = search in
-    node_done (start_of scope).pre (start_of scope).args.n (start_of scope).args.all (type-of scope).u16_at-entry_type.ensures (found scope) c.is_report.ensures c.type_code.ensures c.owner_size-owner.ensures c.run_left.ensures
+    node_done (start_of scope).requires (start_of scope).args.n (start_of scope).args.all (type-of scope).u16_at-entry_type.ensures (found scope) c.is_report.ensures c.type_code.ensures c.owner_size-owner.ensures c.run_left.ensures
 
 pub node_left_spec : {M : Type 1} → statement M
 node_left_spec =

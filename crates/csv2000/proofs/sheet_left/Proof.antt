@@ -40,7 +40,7 @@ found c = c.find_scope-body.ensures (listed_of c).list_scopes.ensures
 run-left-requires : tie.Need-run_left-own-requires
 run-left-requires c κs =
     let scope : tie.After-find_scope-body = search in
-    own-ready (start_of scope).pre (object_of scope).object_scope.ensures (found scope)
+    own-ready (start_of scope).requires (object_of scope).object_scope.ensures (found scope)
 
 cast-top-left : tie.Need-overflow_cast-count
 cast-top-left c =
@@ -55,7 +55,7 @@ top-left-requires c κs =
     let headed = head_of listed in
     let ran = ran-of headed in
     let scope = scope_of ran in
-    top_ready (start_of scope).pre (object_of scope).object_scope.ensures (found scope) (start_of scope).args.all (sized_of ran).owner_size-owner.ensures ran.run_left-own.ensures headed.head.ensures listed.in-Listed.is (listed_of scope).list_scopes.ensures
+    top_ready (start_of scope).requires (object_of scope).object_scope.ensures (found scope) (start_of scope).args.all (sized_of ran).owner_size-owner.ensures ran.run_left-own.ensures headed.head.ensures listed.in-Listed.is (listed_of scope).list_scopes.ensures
 
 returns : tie.Need-returns-in-Listed
 returns c =
@@ -63,21 +63,21 @@ returns c =
     let headed = head_of listed in
     let ran = ran-of headed in
     let scope = scope_of ran in
-    whole-done (start_of scope).pre (object_of scope).object_scope.ensures (found scope) (start_of scope).args.all (sized_of ran).owner_size-owner.ensures ran.run_left-own.ensures headed.head.ensures listed.in-Listed.is c.top_left.ensures
+    whole-done (start_of scope).requires (object_of scope).object_scope.ensures (found scope) (start_of scope).args.all (sized_of ran).owner_size-owner.ensures ran.run_left-own.ensures headed.head.ensures listed.in-Listed.is c.top_left.ensures
 
 returns-2 : tie.Need-returns-in-Plain
 returns-2 c =
     let headed : tie.After-head = search in
     let ran = ran-of headed in
     let scope = scope_of ran in
-    absurd (never-plain (is (start_of scope).pre) (own-end (start_of scope).pre (object_of scope).object_scope.ensures (found scope) (start_of scope).args.all (sized_of ran).owner_size-owner.ensures ran.run_left-own.ensures) headed.head.ensures c.in-Plain.is)
+    absurd (never-plain (is (start_of scope).requires) (own-end (start_of scope).requires (object_of scope).object_scope.ensures (found scope) (start_of scope).args.all (sized_of ran).owner_size-owner.ensures ran.run_left-own.ensures) headed.head.ensures c.in-Plain.is)
 
 returns-3 : tie.Need-returns-in-Bad
 returns-3 c =
     let headed : tie.After-head = search in
     let ran = ran-of headed in
     let scope = scope_of ran in
-    absurd (never_bad (is (start_of scope).pre) (own-end (start_of scope).pre (object_of scope).object_scope.ensures (found scope) (start_of scope).args.all (sized_of ran).owner_size-owner.ensures ran.run_left-own.ensures) headed.head.ensures c.in-Bad.is)
+    absurd (never_bad (is (start_of scope).requires) (own-end (start_of scope).requires (object_of scope).object_scope.ensures (found scope) (start_of scope).args.all (sized_of ran).owner_size-owner.ensures ran.run_left-own.ensures) headed.head.ensures c.in-Bad.is)
 
 pub sheet_left_spec : {M : Type 1} → statement M
 sheet_left_spec =

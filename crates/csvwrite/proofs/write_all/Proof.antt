@@ -29,19 +29,19 @@ first_small c = omega arith
 put-sheet-requires : tie.Need-put_sheet-size-requires
 put-sheet-requires c κs =
     let named : tie.After-letters-letters = search in
-    let h = all-ready (start_of named).pre (read_of named).read_blob-a.ensures (omega (arith, (told_of named).if-a-ne-READ.false)) (first_small named) (record { index_is = (index_of named).index-index.ensures; letters-are = named.letters-letters.ensures }) in
+    let h = all-ready (start_of named).requires (read_of named).read_blob-a.ensures (omega (arith, (told_of named).if-a-ne-READ.false)) (first_small named) (record { index_is = (index_of named).index-index.ensures; letters-are = named.letters-letters.ensures }) in
     sheet-ready h (read_of named).read_blob-a.ensures (omega arith) (omega arith)
 
 cast-wrote : tie.Need-overflow_cast-size
 cast-wrote c =
     let named : tie.After-letters-letters = search in
-    let h = all-ready (start_of named).pre (read_of named).read_blob-a.ensures (omega (arith, (told_of named).if-a-ne-READ.false)) (first_small named) (record { index_is = (index_of named).index-index.ensures; letters-are = named.letters-letters.ensures }) in
+    let h = all-ready (start_of named).requires (read_of named).read_blob-a.ensures (omega (arith, (told_of named).if-a-ne-READ.false)) (first_small named) (record { index_is = (index_of named).index-index.ensures; letters-are = named.letters-letters.ensures }) in
     omega (arith, size_small h (read_of named).read_blob-a.ensures c.put_sheet-size.ensures)
 
 returns-2 : tie.Need-returns
 returns-2 c =
     let named : tie.After-letters-letters = search in
-    let h = all-ready (start_of named).pre (read_of named).read_blob-a.ensures (omega (arith, (told_of named).if-a-ne-READ.false)) (first_small named) (record { index_is = (index_of named).index-index.ensures; letters-are = named.letters-letters.ensures }) in
+    let h = all-ready (start_of named).requires (read_of named).read_blob-a.ensures (omega (arith, (told_of named).if-a-ne-READ.false)) (first_small named) (record { index_is = (index_of named).index-index.ensures; letters-are = named.letters-letters.ensures }) in
     written-exit h (read_of named).read_blob-a.ensures c.put_sheet-size.ensures c.wrote.ensures
 
 pub write_all_spec : {M : Type 1} → statement M

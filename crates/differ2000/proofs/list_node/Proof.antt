@@ -25,12 +25,12 @@ found-newer c = c.find_scope-in_newer.ensures (start_of c).requires.known.newer-
 list-run-requires : tie.Need-list_run-requires
 list-run-requires c κs =
     let scope : tie.After-find_scope-in_newer = search in
-    node-run (start_of scope).pre (coded-of scope).u16_at-code.ensures (found-older scope) (found-newer scope)
+    node-run (start_of scope).requires (coded-of scope).u16_at-code.ensures (found-older scope) (found-newer scope)
 
 returns : tie.Need-returns
 returns c =
     let scope : tie.After-find_scope-in_newer = search in
-    node_done (start_of scope).pre (coded-of scope).u16_at-code.ensures (found-older scope) (found-newer scope) c.list_run.ensures
+    node_done (start_of scope).requires (coded-of scope).u16_at-code.ensures (found-older scope) (found-newer scope) c.list_run.ensures
 
 pub list_node_spec : {M : Type 1} → statement M
 list_node_spec =

@@ -52,7 +52,7 @@ found-newer c = c.find_scope-in_newer.ensures (listed_of c).list_scopes-2.ensure
 list-run-requires : tie.Need-list_run-own-requires
 list-run-requires c κs =
     let scope : tie.After-find_scope-in_newer = search in
-    own-ready (began_of scope).pre (kind-of (first_of scope)).object_scope-kind.ensures (found-older scope) (found-newer scope)
+    own-ready (began_of scope).requires (kind-of (first_of scope)).object_scope-kind.ensures (found-older scope) (found-newer scope)
 
 cast-list-top : tie.Need-overflow_cast-count
 cast-list-top c =
@@ -67,7 +67,7 @@ list-top-requires c κs =
     let headed = head_of listed in
     let ran = ran-of headed in
     let scope = scope_of ran in
-    top_ready (began_of scope).pre (kind-of (first_of scope)).object_scope-kind.ensures (found-older scope) (found-newer scope) ran.list_run-own.ensures headed.head.ensures listed.in-Listed.is (olds_of (listed_of scope)).list_scopes.ensures (listed_of scope).list_scopes-2.ensures
+    top_ready (began_of scope).requires (kind-of (first_of scope)).object_scope-kind.ensures (found-older scope) (found-newer scope) ran.list_run-own.ensures headed.head.ensures listed.in-Listed.is (olds_of (listed_of scope)).list_scopes.ensures (listed_of scope).list_scopes-2.ensures
 
 returns : tie.Need-returns-in-Listed
 returns c =
@@ -75,21 +75,21 @@ returns c =
     let headed = head_of listed in
     let ran = ran-of headed in
     let scope = scope_of ran in
-    top-done (began_of scope).pre (kind-of (first_of scope)).object_scope-kind.ensures (found-older scope) (found-newer scope) ran.list_run-own.ensures headed.head.ensures listed.in-Listed.is c.list_top.ensures
+    top-done (began_of scope).requires (kind-of (first_of scope)).object_scope-kind.ensures (found-older scope) (found-newer scope) ran.list_run-own.ensures headed.head.ensures listed.in-Listed.is c.list_top.ensures
 
 returns-2 : tie.Need-returns-in-Plain
 returns-2 c =
     let headed : tie.After-head = search in
     let ran = ran-of headed in
     let scope = scope_of ran in
-    absurd (never-plain (is (began_of scope).pre) (own-end (began_of scope).pre (kind-of (first_of scope)).object_scope-kind.ensures (found-older scope) (found-newer scope) ran.list_run-own.ensures) headed.head.ensures c.in-Plain.is)
+    absurd (never-plain (is (began_of scope).requires) (own-end (began_of scope).requires (kind-of (first_of scope)).object_scope-kind.ensures (found-older scope) (found-newer scope) ran.list_run-own.ensures) headed.head.ensures c.in-Plain.is)
 
 returns-3 : tie.Need-returns-in-Bad
 returns-3 c =
     let headed : tie.After-head = search in
     let ran = ran-of headed in
     let scope = scope_of ran in
-    absurd (never_bad (is (began_of scope).pre) (own-end (began_of scope).pre (kind-of (first_of scope)).object_scope-kind.ensures (found-older scope) (found-newer scope) ran.list_run-own.ensures) headed.head.ensures c.in-Bad.is)
+    absurd (never_bad (is (began_of scope).requires) (own-end (began_of scope).requires (kind-of (first_of scope)).object_scope-kind.ensures (found-older scope) (found-newer scope) ran.list_run-own.ensures) headed.head.ensures c.in-Bad.is)
 
 pub list_stream_spec : {M : Type 1} → statement M
 list_stream_spec =

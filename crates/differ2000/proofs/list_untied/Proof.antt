@@ -40,7 +40,7 @@ returns-2 c =
     let joined = joined_of wrote in
     let small = small_of joined in
     let showed = showed-of joined in
-    learnt (start_of showed).pre showed.property-shown.ensures (omega (arith, small.if-shown-ge-UNMAPPED.false)) joined.bit_or.ensures wrote.put_fit.ensures
+    learnt (start_of showed).requires showed.property-shown.ensures (omega (arith, small.if-shown-ge-UNMAPPED.false)) joined.bit_or.ensures wrote.put_fit.ensures
 
 pub list_untied_spec : {M : Type 1} → statement M
 list_untied_spec =

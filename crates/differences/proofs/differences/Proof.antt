@@ -19,7 +19,7 @@ start_of c = search
 abbrev older-of : tie.Else-not-well_formed → tie.After-well_formed-2
 older-of c = search
 
-abbrev newer-of : tie.Else-not-well_formed-2 → tie.After-well_formed-2
+abbrev newer-of : tie.Else-not-well_formed-2 → tie.After-well_formed-3
 newer-of c = search
 
 abbrev formed-of : tie.Else-not-well_formed-2 → tie.Else-not-well_formed
@@ -45,7 +45,7 @@ older-formed : (c : tie.Else-not-well_formed) → well_formed_lem (start_of (old
 older-formed c = sym (older-of c).well_formed-2.ensures ∙ not-false _ c.if-not-well_formed.false-raw
 
 newer-formed : (c : tie.Else-not-well_formed-2) → well_formed_lem (start-at c).args.newer.now ≡ true
-newer-formed c = sym (newer-of c).well_formed-2.ensures ∙ not-false _ c.if-not-well_formed-2.false-raw
+newer-formed c = sym (newer-of c).well_formed-3.ensures ∙ not-false _ c.if-not-well_formed-2.false-raw
 
 succeeds-it : (c : tie.Else-not-succeeds) → succeeds (start-at (tables-of c)).args.older.now (start-at (tables-of c)).args.newer.now ≡ true
 succeeds-it c = sym (judged-of c).succeeds.ensures ∙ not-false _ c.if-not-succeeds.false-raw
@@ -61,7 +61,7 @@ returns-2 c =
 returns-3 : tie.Need-returns-then-not-well_formed-2
 returns-3 c =
     let formed : tie.Else-not-well_formed = search in
-    eight-newer _ _ _ _ (omega arith) (older-formed formed) (sym c.well_formed-2.ensures ∙ not-true _ c.if-not-well_formed-2.true-raw) c.refused-then-not-well_formed-2.ensures
+    eight-newer _ _ _ _ (omega arith) (older-formed formed) (sym c.well_formed-3.ensures ∙ not-true _ c.if-not-well_formed-2.true-raw) c.refused-then-not-well_formed-2.ensures
 
 succeeds-requires : tie.Need-succeeds-requires
 succeeds-requires c κs =

@@ -23,7 +23,7 @@ judge-requires c κs =
 
 returns-2 : tie.Need-returns-then-a-ne0
 returns-2 c =
-    let judged = c.before.before in
+    let judged : tie.After-judge-a = search in
     let all = all_of judged in
     read-refused _ _ _ _ all.count.ensures all.in-Of.is judged.judge-a.ensures c.if-a-ne0.true
 
@@ -31,7 +31,7 @@ write-requires : tie.Need-write-requires
 write-requires c κs =
     let judged : tie.After-judge-a = search in
     let all = all_of judged in
-    read-ready _ _ _ _ all.count.ensures all.in-Of.is judged.judge-a.ensures c.if-a-ne0.false (start_of all).pre
+    read-ready _ _ _ _ all.count.ensures all.in-Of.is judged.judge-a.ensures c.if-a-ne0.false (start_of all).requires
 
 returns-3 : tie.Need-returns
 returns-3 c =

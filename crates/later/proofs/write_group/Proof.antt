@@ -32,7 +32,7 @@ add-n c =
 
 same-length-2 : tie.Need-shape_of-rows-then-ends_group invariant-loop decreases-loop
 same-length-2 c =
-    c.put_property.auto.0 ∙ writing_same c.loop-size.invariant
+    c.put_property.auto.rows ∙ writing_same c.loop-size.invariant
 
 returns-2 : tie.Need-returns-then-ends_group invariant-loop decreases-loop
 returns-2 c =

@@ -25,28 +25,27 @@ found c = c.find_scope-body.ensures (start_of c).requires.ready.known.listed
 properties-requires : tie.Need-properties-own-requires
 properties-requires c κs =
     let scope : tie.After-find_scope-body = search in
-    node-run-ready (start_of scope).pre scope.u16_at-entry_type.ensures (found scope) c.name_id.ensures
+    node-run-ready (start_of scope).requires scope.u16_at-entry_type.ensures (found scope) c.name_id.ensures
 
 sub-control-row : tie.Need-overflow_sub-next
 sub-control-row c =
     let ran : tie.After-properties-own = search in
     let scope = scope_of ran in
-    omega (arith, node-rows (start_of scope).pre scope.u16_at-entry_type.ensures (found scope) (named-of ran).name_id.ensures ran.properties-own.ensures)
+    omega (arith, node-rows (start_of scope).requires scope.u16_at-entry_type.ensures (found scope) (named-of ran).name_id.ensures ran.properties-own.ensures)
 
 cast-control-row-3 : tie.Need-overflow_cast-next
 cast-control-row-3 c =
     let ran : tie.After-properties-own = search in
     let scope = scope_of ran in
-    omega (arith, node-rows (start_of scope).pre scope.u16_at-entry_type.ensures (found scope) (named-of ran).name_id.ensures ran.properties-own.ensures)
+    omega (arith, node-rows (start_of scope).requires scope.u16_at-entry_type.ensures (found scope) (named-of ran).name_id.ensures ran.properties-own.ensures)
 
 returns : tie.Need-returns
 returns c =
     let rowed : tie.After-control_row-row = search in
-    let coded = rowed.before in
     let ran = ran-of rowed in
     let scope = scope_of ran in
-    node_done (start_of scope).pre scope.u16_at-entry_type.ensures (found scope) (named-of ran).name_id.ensures ran.properties-own.ensures
-    coded.is_report.ensures coded.type_code-code.ensures rowed.control_row-row.ensures c.put_control.ensures
+    node_done (start_of scope).requires scope.u16_at-entry_type.ensures (found scope) (named-of ran).name_id.ensures ran.properties-own.ensures
+    rowed.is_report.ensures rowed.type_code-code.ensures rowed.control_row-row.ensures c.put_control.ensures
 
 pub put_node_spec : {M : Type 1} → statement M
 put_node_spec =

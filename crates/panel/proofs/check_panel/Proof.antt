@@ -14,7 +14,7 @@ start_of c = search
 returns : tie.Need-returns-then-a-ne0
 unfolding read_of start_of
 returns c =
-    let r = read_of c.before in
+    let r = read_of (let place : tie.After-struct_known-1 = search in place) in
     let a = (start_of r).args in
     handed-on a.table.now a.stream.now a.controls-1.now a.properties-1.now _ _ _ r.read_blob-a.ensures (λ e. omega (arith, e))
 
@@ -31,7 +31,7 @@ judge-requires c κs =
 returns-2 : tie.Need-returns
 unfolding read_of start_of
 returns-2 c =
-    let r = read_of c.before in
+    let r = read_of (let place : tie.After-struct_known-1 = search in place) in
     let a = (start_of r).args in
     judged-on a.table.now a.stream.now a.controls-1.now a.properties-1.now _ _ _ r.read_blob-a.ensures (omega (arith, c.if-a-ne0.false)) _ c.judge.ensures
 

@@ -31,10 +31,10 @@ judged c =
     sym (c.is_placing.ensures ∙ ap is_placing (property-shown got.get_property.ensures))
 
 returns : tie.Need-returns-then-not-is_placing invariant-loop decreases-loop
-returns c = place_bad c.loop-j.invariant (omega arith) (judged c.before ∙ not-true _ c.if-not-is_placing.true-raw)
+returns c = place_bad c.loop-j.invariant (omega arith) (judged (let place : tie.After-is_placing invariant-loop decreases-loop = search in place) ∙ not-true _ c.if-not-is_placing.true-raw)
 
 loop-again : tie.Need-loop-j-preserved invariant-loop decreases-loop
-loop-again c = place_good c.loop-j.invariant (omega arith) (judged c.before ∙ not-false _ c.if-not-is_placing.false-raw)
+loop-again c = place_good c.loop-j.invariant (omega arith) (judged (let place : tie.After-is_placing invariant-loop decreases-loop = search in place) ∙ not-false _ c.if-not-is_placing.false-raw)
 
 returns-2 : tie.Need-returns invariant-loop decreases-loop
 returns-2 c = places-end c.loop-j.invariant (omega arith)

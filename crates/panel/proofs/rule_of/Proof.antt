@@ -62,7 +62,7 @@ note-name-requires c κs =
 
 returns-3 : tie.Need-returns-then-not-note_name
 returns-3 c =
-    let noted : tie.After-note_name = c.before in
+    let noted : tie.After-note_name = search in
     let a = (start_of noted).args in
     tried_broken 3 (omega arith)
     (rule_3 a.stream.now a.controls.now a.properties.now a.i _ (got_of noted).get_control-row.ensures (typed noted) (in-text noted)
@@ -80,7 +80,7 @@ add-to c =
 
 returns-4 : tie.Need-returns-then-not-is_filled
 returns-4 c =
-    let filled : tie.After-is_filled = c.before in
+    let filled : tie.After-is_filled = search in
     let kept3 : tie.Else-not-note_name = filled.before.before in
     let noted : tie.After-note_name = kept3.before in
     let a = (start_of noted).args in
@@ -90,7 +90,7 @@ returns-4 c =
 
 returns-5 : tie.Need-returns-then-not-is_placed
 returns-5 c =
-    let placed : tie.After-is_placed = c.before in
+    let placed : tie.After-is_placed = search in
     let noted = noted_of placed in
     let a = (start_of noted).args in
     tried_broken 5 (omega arith)
@@ -100,7 +100,7 @@ returns-5 c =
 
 returns-6 : tie.Need-returns-then-row-gt-DEEPEST
 returns-6 c =
-    let kept5 : tie.Else-not-is_placed = c.before.before in
+    let kept5 : tie.Else-not-is_placed = search in
     let placed : tie.After-is_placed = kept5.before in
     let noted = noted_of placed in
     let a = (start_of noted).args in
@@ -111,7 +111,7 @@ returns-6 c =
 
 returns-7 : tie.Need-returns
 returns-7 c =
-    let kept5 : tie.Else-not-is_placed = c.before.before in
+    let kept5 : tie.Else-not-is_placed = search in
     let placed : tie.After-is_placed = kept5.before in
     let noted = noted_of placed in
     let a = (start_of noted).args in

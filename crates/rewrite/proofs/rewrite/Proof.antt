@@ -34,7 +34,7 @@ size-of-requires c κs = accepted c
 returns-3 : tie.Need-returns-then-out-size
 returns-3 c =
     let read : tie.In-Of = search in
-    let z = c.type_size.ensures in
+    let z = c.size_of-size.ensures in
     shown (exit-text _ _ (accepted read) ∙ no-room-exit _ _ (omega (arith, size_is _ z, c.if-out-size.true))) c.refused-then-out-size.ensures
 
 put-pieces-requires : tie.Need-put_pieces-requires
@@ -45,7 +45,7 @@ put-pieces-requires c κs =
 returns-4 : tie.Need-returns
 returns-4 c =
     let read : tie.In-Of = search in
-    let z = size_is _ c.type_size.ensures in
+    let z = size_is _ c.size_of-size.ensures in
     let w = c.put_part-at.ensures ⨟ c.put_pieces.ensures in
     shown (exit-text _ _ (accepted read) ∙ room-exit _ _ w (omega (arith, z, c.if-out-size.false))) (c.wrote.ensures ∙ ap (λ (n : ℕ). answer 0 n 0 0) z)
 

@@ -31,8 +31,7 @@ goes c = starts _ _ (omega (arith, c.loop-p-test.true)) (omega (arith, c.if-id-g
 
 loop-holds : tie.Need-loop-p-init invariant-loop decreases-loop
 loop-holds c =
-    let start = c.before.before.before in
-    record { left = left-start start.requires.fits; named = named_start (RunFits start.args.rows.now start.args.first) start.requires.fits }
+    record { left = left-start c.requires.fits; named = named_start (RunFits c.args.rows.now c.args.first) c.requires.fits }
 
 returns : tie.Need-returns-then-id-gt-LAST_ID invariant-loop decreases-loop
 returns c =
@@ -84,9 +83,9 @@ loop-again c =
     record {
       left = left-more i.left g v k c.property-shown.ensures c.put_property.ensures;
       named = ⊎_elim
-          (λ w. named_more i.named g v k (omega (arith, else1.if-id-gt-LAST_ID.false)) (w.2 ∙ w.1.ensures))
-          (λ w. named_past i.named g v k c.requires.above (omega (arith, w.0.left)) w.1)
-          c.if-id-gt-LAST_SIZED_ID.branch;
+          (λ w. named_more i.named g v k (omega (arith, else1.if-id-gt-LAST_ID.false)) (w.naming-is ∙ w.next_name-naming.ensures))
+          (λ w. named_past i.named g v k c.requires.above (omega (arith, w.if-id-gt-LAST_SIZED_ID.false)) w.naming-is)
+          c.if-id-gt-LAST_SIZED_ID.branch-raw;
     }
 
 returns-3 : tie.Need-returns invariant-loop decreases-loop

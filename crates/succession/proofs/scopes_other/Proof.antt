@@ -43,7 +43,7 @@ loop-holds c = no-scope_tried _ _ (record { headers-is = c.byte_number.ensures.i
 rows-other-requires : tie.Need-rows_other-lack-requires invariant-loop decreases-loop
 unfolding body_rows
 rows-other-requires c κs =
-    record { ends = omega arith; theirs-end = omega arith; sorted = (theirs c.before.before.before).sorted c.requires.formed }
+    record { ends = omega arith; theirs-end = omega arith; sorted = (theirs (let place : tie.After-scope_near-scope invariant-loop decreases-loop = search in place)).sorted c.requires.formed }
 
 returns : tie.Need-returns-then-lack invariant-loop decreases-loop
 unfolding body_rows

@@ -38,7 +38,7 @@ loop-again c =
     }
 
 returns : tie.Need-returns invariant-loop decreases-loop
-returns c = let l = c.before in done l.loop-left.invariant.rest (scopes-done l.args.table.now l.loop-left.place l.loop-left.body l.loop-left.left (omega arith))
+returns c = done c.loop-left.invariant.rest (scopes-done c.args.table.now c.loop-left.place c.loop-left.body c.loop-left.left (omega arith))
 
 pub put_scopes_spec : {M : Type 1} → statement M
 put_scopes_spec =

@@ -19,13 +19,13 @@ found c = c.find_scope-body.ensures (start_of c).requires.known.listed
 count-run-requires : tie.Need-count_run-end-requires
 count-run-requires c κs =
     let scope : tie.After-find_scope-body = search in
-    node-run (start_of scope).pre scope.u16_at-entry_type.ensures (found scope)
+    node-run (start_of scope).requires scope.u16_at-entry_type.ensures (found scope)
 
 returns : tie.Need-returns
 returns c =
     let ran : tie.After-count_run-end = search in
     let scope = scope_of ran in
-    node_done (start_of scope).pre scope.u16_at-entry_type.ensures (found scope) ran.count_run-end.ensures c.is_report.ensures c.type_code.ensures c.count_type.ensures
+    node_done (start_of scope).requires scope.u16_at-entry_type.ensures (found scope) ran.count_run-end.ensures c.is_report.ensures c.type_code.ensures c.count_type.ensures
 
 pub count_node_spec : {M : Type 1} → statement M
 count_node_spec =

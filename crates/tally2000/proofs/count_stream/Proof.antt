@@ -34,7 +34,7 @@ found c = c.find_scope-body.ensures (listed_of c).list_scopes.ensures
 count-run-requires : tie.Need-count_run-end-requires
 count-run-requires c κs =
     let scope : tie.After-find_scope-body = search in
-    own-ready (start_of scope).pre scope.object_scope.ensures (found scope)
+    own-ready (start_of scope).requires scope.object_scope.ensures (found scope)
 
 cast-count-top : tie.Need-overflow_cast-count
 cast-count-top c =
@@ -49,7 +49,7 @@ count-top-requires c κs =
     let headed = head_of listed in
     let ran = ran-of headed in
     let scope = scope_of ran in
-    top_ready (start_of scope).pre scope.object_scope.ensures (found scope) ran.count_run-end.ensures headed.head.ensures listed.in-Listed.is (listed_of scope).list_scopes.ensures
+    top_ready (start_of scope).requires scope.object_scope.ensures (found scope) ran.count_run-end.ensures headed.head.ensures listed.in-Listed.is (listed_of scope).list_scopes.ensures
 
 returns : tie.Need-returns-in-Listed
 returns c =
@@ -57,21 +57,21 @@ returns c =
     let headed = head_of listed in
     let ran = ran-of headed in
     let scope = scope_of ran in
-    top-done (start_of scope).pre scope.object_scope.ensures (found scope) ran.count_run-end.ensures headed.head.ensures listed.in-Listed.is c.count_top.ensures
+    top-done (start_of scope).requires scope.object_scope.ensures (found scope) ran.count_run-end.ensures headed.head.ensures listed.in-Listed.is c.count_top.ensures
 
 returns-2 : tie.Need-returns-in-Plain
 returns-2 c =
     let headed : tie.After-head = search in
     let ran = ran-of headed in
     let scope = scope_of ran in
-    absurd (never-plain (is (start_of scope).pre) (own-end (start_of scope).pre scope.object_scope.ensures (found scope) ran.count_run-end.ensures) headed.head.ensures c.in-Plain.is)
+    absurd (never-plain (is (start_of scope).requires) (own-end (start_of scope).requires scope.object_scope.ensures (found scope) ran.count_run-end.ensures) headed.head.ensures c.in-Plain.is)
 
 returns-3 : tie.Need-returns-in-Bad
 returns-3 c =
     let headed : tie.After-head = search in
     let ran = ran-of headed in
     let scope = scope_of ran in
-    absurd (never_bad (is (start_of scope).pre) (own-end (start_of scope).pre scope.object_scope.ensures (found scope) ran.count_run-end.ensures) headed.head.ensures c.in-Bad.is)
+    absurd (never_bad (is (start_of scope).requires) (own-end (start_of scope).requires scope.object_scope.ensures (found scope) ran.count_run-end.ensures) headed.head.ensures c.in-Bad.is)
 
 pub count_stream_spec : {M : Type 1} → statement M
 count_stream_spec =

@@ -27,7 +27,7 @@ property-at-requires c κs =
 
 same-length-2 : tie.Need-shape_of-words-then-ends_group invariant-loop decreases-loop
 same-length-2 c =
-    c.count_property.auto.0 ∙ grouping_fact c.loop-size.invariant (λ _ e. e)
+    c.count_property.auto.words ∙ grouping_fact c.loop-size.invariant (λ _ e. e)
 
 returns-2 : tie.Need-returns-then-ends_group invariant-loop decreases-loop
 returns-2 c =
