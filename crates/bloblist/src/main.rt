@@ -8,7 +8,6 @@ ghost use Rattle.inputs.specs.Begun.{Begun};
 ghost use Rattle.bloblines.specs.Blobs.{control_room, property_room, longest_input, blob_listing, listed_in_lem, most_in};
 ghost use Rattle.bloblist.specs.Space.{Roomy};
 
-use libc::{STDIN_FILENO, STDOUT_FILENO};
 use rows::{CONTROL_WIDTH, PROPERTY_WIDTH};
 
 // Of the large arrays only the length is told, since a proof that computed with their elements would not end.
@@ -43,18 +42,18 @@ fn large_lines() -> [u8; 26394675]
 }
 
 // Prints the listing of standard input, of which `input` was read and `more` tells whether bytes came after it.
-fn print(input: &[u8], more: bool, listed: &[u8])
+fn print(rt: &HostRuntime, input: &[u8], more: bool, listed: &[u8])
     requires { (whole : List ℕ) → Begun input.now more whole → listed.now ≡ blob_listing whole }
 {
-    io::write_all(STDOUT_FILENO, listed);
+    streams::write_all(rt, listed);
 }
 
-fn refuse(input: &[u8])
+fn refuse(rt: &HostRuntime, input: &[u8])
     requires { longest_input ≤ length input.now }
 {
     let mut out = [0; 64];
     let end = listing::refusal_line(&mut out, 5);
-    print(input, true, &out[..end]);
+    print(rt, input, true, &out[..end]);
 }
 
 // Writes the listing with the names of the directory.
@@ -66,50 +65,56 @@ fn write(input: &[u8], controls: &mut [u32], properties: &mut [u32], out: &mut [
     bloblines::write_listing(input, controls, properties, &index, &letters, out)
 }
 
-fn list(input: &[u8], controls: &mut [u32], properties: &mut [u32], out: &mut [u8])
+fn list(
+    rt: &HostRuntime,
+    input: &[u8],
+    controls: &mut [u32],
+    properties: &mut [u32],
+    out: &mut [u8],
+)
     requires { Roomy input.now controls.old properties.old out.old }
 {
     let end = write(input, controls, properties, out);
-    print(input, false, &out[..end]);
+    print(rt, input, false, &out[..end]);
 }
 
 // So short an input has no Blob with more controls and properties than there is room for.
-fn list_small(input: &[u8])
+fn list_small(rt: &HostRuntime, input: &[u8])
     requires { length input.now < 16384 }
 {
     let mut controls = [0; 5461 * CONTROL_WIDTH];
     let mut properties = [0; 16384 * PROPERTY_WIDTH];
     let mut out = small_lines();
-    list(input, &mut controls, &mut properties, &mut out);
+    list(rt, input, &mut controls, &mut properties, &mut out);
 }
 
 // Of a longer input `head` is the start; `more` says that it is the longest that is read, and that bytes came after it.
 // As it calls itself it is compiled apart, so that no shorter input needs its stack of 37 MB.
-fn list_large(head: &[u8], more: bool)
+fn list_large(rt: &HostRuntime, head: &[u8], more: bool)
     requires { more ≡ true → longest_input ≤ length head.now }
 {
     if more {
-        refuse(head);
+        refuse(rt, head);
         return;
     }
     let mut space = large_input();
     let mut controls = large_controls();
     let mut properties = large_properties();
     let mut out = large_lines();
-    let size = inputs::fill(&mut space, head);
-    if inputs::has_more(size, 4259844) {
-        list_large(&space, true);
+    let size = inputs::fill(rt, &mut space, head);
+    if inputs::has_more(rt, size, 4259844) {
+        list_large(rt, &space, true);
         return;
     }
-    list(&space[..size], &mut controls, &mut properties, &mut out);
+    list(rt, &space[..size], &mut controls, &mut properties, &mut out);
 }
 
-fn main() {
+fn main(rt: HostRuntime) {
     let mut head = [0; 16384];
-    let size = io::read_full(STDIN_FILENO, &mut head);
+    let size = streams::read_full(&rt, &mut head);
     if size < 16384 {
-        list_small(&head[..size]);
+        list_small(&rt, &head[..size]);
     } else {
-        list_large(&head, false);
+        list_large(&rt, &head, false);
     }
 }

@@ -6,7 +6,6 @@ ghost use Rattle.rules.specs.Rows.{control_width, property_width};
 ghost use Rattle.inputs.specs.Begun.{Begun};
 ghost use Rattle.csvout.specs.Sheets.{control_room, property_room, text_room, longest_input, sheet_for, text_size, Refused, Parted};
 
-use libc::{STDIN_FILENO, STDOUT_FILENO};
 use rows::{CONTROL_WIDTH, PROPERTY_WIDTH};
 use rules::{BAD_TABLE, READ, TOO_LONG};
 
@@ -42,26 +41,26 @@ fn large_text() -> [u8; 33554432]
 }
 
 // Prints what is said of standard input, of which `input` was read and `more` tells whether bytes came after it: a line, and the text after it.
-fn print(input: &[u8], more: bool, line: &[u8], text: &[u8])
+fn print(rt: &HostRuntime, input: &[u8], more: bool, line: &[u8], text: &[u8])
     requires { (whole : List ℕ) → Begun input.now more whole → line.now ++ text.now ≡ sheet_for whole }
 {
-    io::write_all(STDOUT_FILENO, line);
-    io::write_all(STDOUT_FILENO, text);
+    streams::write_all(rt, line);
+    streams::write_all(rt, text);
 }
 
-fn refuse(input: &[u8], more: bool, number: u32)
+fn refuse(rt: &HostRuntime, input: &[u8], more: bool, number: u32)
     requires { Refused input.now more number }
 {
     let mut line = [0; LINE];
     let end = listing::refusal_line(&mut line, number);
-    print(input, more, &line[..end], &input[..0]);
+    print(rt, input, more, &line[..end], &input[..0]);
 }
 
 // So few bytes have no length of a code table.
-fn refuse_few(input: &[u8])
+fn refuse_few(rt: &HostRuntime, input: &[u8])
     requires { length input.now < 4 }
 {
-    refuse(input, false, BAD_TABLE);
+    refuse(rt, input, false, BAD_TABLE);
 }
 
 // How many bytes of text an answer says were written.
@@ -71,7 +70,7 @@ fn text_size(number: u32, first: usize) -> usize
     if number == READ { first } else { 0 }
 }
 
-fn put_sheet(input: &[u8], table: &[u8], stream: &[u8])
+fn put_sheet(rt: &HostRuntime, input: &[u8], table: &[u8], stream: &[u8])
     requires { Parted input.now table.now stream.now }
 {
     let mut controls = large_controls();
@@ -81,53 +80,53 @@ fn put_sheet(input: &[u8], table: &[u8], stream: &[u8])
     let mut line = [0; LINE];
     let end = listing::answer_line(&mut line, 0, a);
     let size = text_size(a.number, a.first as usize);
-    print(input, false, &line[..end], &out[..size]);
+    print(rt, input, false, &line[..end], &out[..size]);
 }
 
-fn put(input: &[u8])
+fn put(rt: &HostRuntime, input: &[u8])
     requires { length input.now ≤ longest_input }
 {
     if input.len() < 4 {
-        refuse_few(input);
+        refuse_few(rt, input);
         return;
     }
     let size = numbers::u32_at(input, 0) as usize;
     if input.len() - 4 < size {
-        refuse(input, false, BAD_TABLE);
+        refuse(rt, input, false, BAD_TABLE);
         return;
     }
     let start = 4 + size;
     if LONGEST_BLOB < input.len() - start {
-        refuse(input, false, TOO_LONG);
+        refuse(rt, input, false, TOO_LONG);
         return;
     }
-    put_sheet(input, &input[4..start], &input[start..]);
+    put_sheet(rt, input, &input[4..start], &input[start..]);
 }
 
 // `head` is the start of the input; `more` says that it is the longest that is read, and that bytes came after it.
 // As it calls itself it is compiled apart, so that an input of a few bytes doesn't need its stack of 45 MB.
-fn put_large(head: &[u8], more: bool)
+fn put_large(rt: &HostRuntime, head: &[u8], more: bool)
     requires { more ≡ true → longest_input ≤ length head.now }
 {
     if more {
-        refuse(head, true, TOO_LONG);
+        refuse(rt, head, true, TOO_LONG);
         return;
     }
     let mut space = large_input();
-    let size = inputs::fill(&mut space, head);
-    if inputs::has_more(size, 4259844) {
-        put_large(&space, true);
+    let size = inputs::fill(rt, &mut space, head);
+    if inputs::has_more(rt, size, 4259844) {
+        put_large(rt, &space, true);
         return;
     }
-    put(&space[..size]);
+    put(rt, &space[..size]);
 }
 
-fn main() {
+fn main(rt: HostRuntime) {
     let mut head = [0; 4];
-    let size = io::read_full(STDIN_FILENO, &mut head);
+    let size = streams::read_full(&rt, &mut head);
     if size < 4 {
-        refuse_few(&head[..size]);
+        refuse_few(&rt, &head[..size]);
     } else {
-        put_large(&head, false);
+        put_large(&rt, &head, false);
     }
 }

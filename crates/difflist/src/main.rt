@@ -17,7 +17,6 @@ use blob::read_blob;
 use differ2000::DIFFERENCE_WIDTH;
 use differences::{NO_SUCCESSOR, differences};
 use fields::put_end;
-use libc::{STDIN_FILENO, STDOUT_FILENO};
 use listing::{answer_line, refusal_line};
 use numbers::u32_at;
 use rows::{CONTROL_WIDTH, PROPERTY_WIDTH};
@@ -264,13 +263,14 @@ fn write_listed(
 
 // ---- standard input and output
 // Prints what is said of all that standard input has, of which `input` was read.
-fn print(input: &[u8], text: &[u8])
+fn print(rt: &HostRuntime, input: &[u8], text: &[u8])
     requires { (all : List ℕ) → Began most_read input.now all → text.now ≡ listed_of all }
 {
-    io::write_all(STDOUT_FILENO, text);
+    streams::write_all(rt, text);
 }
 
 fn list(
+    rt: &HostRuntime,
     input: &[u8],
     rows: &mut [u32],
     controls: &mut [u32],
@@ -280,22 +280,29 @@ fn list(
     requires { Ready input.now rows.old controls.old properties.old out.old }
 {
     let end = write_listed(input, rows, controls, properties, out);
-    print(input, &out[..end]);
+    print(rt, input, &out[..end]);
 }
 
-fn list_small(input: &[u8])
+fn list_small(rt: &HostRuntime, input: &[u8])
     requires { length input.now < 16384 }
 {
     let mut rows = small_rows();
     let mut controls = small_controls();
     let mut properties = small_properties();
     let mut out = small_said();
-    list(input, &mut rows, &mut controls, &mut properties, &mut out);
+    list(
+        rt,
+        input,
+        &mut rows,
+        &mut controls,
+        &mut properties,
+        &mut out,
+    );
 }
 
 // Of a longer input `head` is the start; `whole` says that it is all that is read.
 // As it calls itself it is compiled apart, so that no shorter input needs its stack of 99 MB.
-fn list_large(head: &[u8], whole: bool)
+fn list_large(rt: &HostRuntime, head: &[u8], whole: bool)
     requires { (16384 ≤ length head.now) × (length head.now ≤ most_read) }
 {
     if whole {
@@ -303,20 +310,27 @@ fn list_large(head: &[u8], whole: bool)
         let mut controls = large_controls();
         let mut properties = large_properties();
         let mut out = large_said();
-        list(head, &mut rows, &mut controls, &mut properties, &mut out);
+        list(
+            rt,
+            head,
+            &mut rows,
+            &mut controls,
+            &mut properties,
+            &mut out,
+        );
         return;
     }
     let mut space = large_input();
-    let size = inputs::fill(&mut space, head);
-    list_large(&space[..size], true);
+    let size = inputs::fill(rt, &mut space, head);
+    list_large(rt, &space[..size], true);
 }
 
-fn main() {
+fn main(rt: HostRuntime) {
     let mut head = [0; SHORT];
-    let size = io::read_full(STDIN_FILENO, &mut head);
+    let size = streams::read_full(&rt, &mut head);
     if size < SHORT {
-        list_small(&head[..size]);
+        list_small(&rt, &head[..size]);
     } else {
-        list_large(&head, false);
+        list_large(&rt, &head, false);
     }
 }

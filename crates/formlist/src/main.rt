@@ -8,31 +8,30 @@ ghost use Rattle.inputs.specs.Begun.{Begun};
 ghost use Rattle.formlist.specs.Space.{Roomy};
 
 use bloblines::LONGEST_LISTING;
-use libc::{STDIN_FILENO, STDOUT_FILENO};
 
 // Prints the listing of standard input, of which `input` was read and `more` tells whether bytes came after it.
-fn print(input: &[u8], more: bool, listed: &[u8])
+fn print(rt: &HostRuntime, input: &[u8], more: bool, listed: &[u8])
     requires { (whole : List ℕ) → Begun input.now more whole → listed.now ≡ listing whole }
 {
-    io::write_all(STDOUT_FILENO, listed);
+    streams::write_all(rt, listed);
 }
 
 // Fills `space` from standard input and prints the listing of all that standard input has.
-fn list(index: &[u32], letters: &[u8], space: &mut [u8], out: &mut [u8])
+fn list(rt: &HostRuntime, index: &[u32], letters: &[u8], space: &mut [u8], out: &mut [u8])
     requires lent { Lent index.now letters.now }
     requires roomy { Roomy space.old out.old }
 {
-    let size = io::read_full(STDIN_FILENO, space);
-    let more = inputs::has_more(size, space.len());
+    let size = streams::read_full(rt, space);
+    let more = inputs::has_more(rt, size, space.len());
     let input = &space[..size];
     let end = bloblines::write_form_listing(input, more, index, letters, out);
-    print(input, more, &out[..end]);
+    print(rt, input, more, &out[..end]);
 }
 
-fn main() {
+fn main(rt: HostRuntime) {
     let index = nametables::index();
     let letters = nametables::letters();
     let mut space = [0; 32768];
     let mut out = [0; LONGEST_LISTING];
-    list(&index, &letters, &mut space, &mut out);
+    list(&rt, &index, &letters, &mut space, &mut out);
 }

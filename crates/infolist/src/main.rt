@@ -7,7 +7,6 @@ ghost use Rattle.inputs.specs.Begun.{Begun};
 ghost use Rattle.infolines.specs.Infos.{longest_info, info_listing};
 ghost use Rattle.infolist.specs.Space.{Roomy};
 
-use libc::{STDIN_FILENO, STDOUT_FILENO};
 use rows::INFO_WIDTH;
 
 // Of the large arrays only the length is told, since a proof that computed with their elements would not end.
@@ -30,63 +29,63 @@ fn large_lines() -> [u8; 33554483]
 }
 
 // Prints the listing of standard input, of which `input` was read and `more` tells whether bytes came after it.
-fn print(input: &[u8], more: bool, listed: &[u8])
+fn print(rt: &HostRuntime, input: &[u8], more: bool, listed: &[u8])
     requires { (whole : List ℕ) → Begun input.now more whole → listed.now ≡ info_listing whole }
 {
-    io::write_all(STDOUT_FILENO, listed);
+    streams::write_all(rt, listed);
 }
 
-fn refuse(input: &[u8])
+fn refuse(rt: &HostRuntime, input: &[u8])
     requires { longest_info ≤ length input.now }
 {
     let mut out = [0; 64];
     let end = listing::refusal_line(&mut out, 5);
-    print(input, true, &out[..end]);
+    print(rt, input, true, &out[..end]);
 }
 
-fn list(input: &[u8], rows: &mut [u32], out: &mut [u8])
+fn list(rt: &HostRuntime, input: &[u8], rows: &mut [u32], out: &mut [u8])
     requires { Roomy input.now rows.old out.old }
 {
     let index = nametables::index();
     let letters = nametables::letters();
     let end = infolines::write_infos(input, rows, &index, &letters, out);
-    print(input, false, &out[..end]);
+    print(rt, input, false, &out[..end]);
 }
 
-fn list_small(input: &[u8])
+fn list_small(rt: &HostRuntime, input: &[u8])
     requires { length input.now ≤ 65536 }
 {
     let mut rows = [0; 8188 * INFO_WIDTH];
     let mut out = [0; 524339];
-    list(input, &mut rows, &mut out);
+    list(rt, input, &mut rows, &mut out);
 }
 
 // Of a longer stream `head` is the start; `more` says that it is the longest that is read, and that bytes came after it.
 // As it calls itself it is compiled apart, so that no shorter stream needs its stack of 46 MB.
-fn list_large(head: &[u8], more: bool)
+fn list_large(rt: &HostRuntime, head: &[u8], more: bool)
     requires { more ≡ true → longest_info ≤ length head.now }
 {
     if more {
-        refuse(head);
+        refuse(rt, head);
         return;
     }
     let mut space = large_stream();
     let mut rows = large_rows();
     let mut out = large_lines();
-    let size = inputs::fill(&mut space, head);
-    if inputs::has_more(size, 4194304) {
-        list_large(&space, true);
+    let size = inputs::fill(rt, &mut space, head);
+    if inputs::has_more(rt, size, 4194304) {
+        list_large(rt, &space, true);
         return;
     }
-    list(&space[..size], &mut rows, &mut out);
+    list(rt, &space[..size], &mut rows, &mut out);
 }
 
-fn main() {
+fn main(rt: HostRuntime) {
     let mut head = [0; 65536];
-    let size = io::read_full(STDIN_FILENO, &mut head);
+    let size = streams::read_full(&rt, &mut head);
     if size < 65536 {
-        list_small(&head[..size]);
+        list_small(&rt, &head[..size]);
     } else {
-        list_large(&head, false);
+        list_large(&rt, &head, false);
     }
 }

@@ -8,7 +8,6 @@ ghost use Rattle.listing.specs.Written.{Written};
 ghost use Rattle.tabletext.specs.Input.{Began};
 ghost use Rattle.panelsay.specs.Judged.{row_line, said, judged, judged_of, most_read, most_said, zeros, small_controls, small_properties, large_controls, large_properties, Ready};
 
-use libc::{STDIN_FILENO, STDOUT_FILENO};
 use listing::{answer_line, numbers_line, refusal_line};
 use numbers::u32_at;
 use rows::{CONTROL_WIDTH, ControlRow, PROPERTY_WIDTH, get_control};
@@ -104,50 +103,50 @@ fn write_judged(input: &[u8], controls: &mut [u32], properties: &mut [u32], out:
 }
 
 // Prints what is said of all that standard input has, of which `input` was read.
-fn print(input: &[u8], text: &[u8])
+fn print(rt: &HostRuntime, input: &[u8], text: &[u8])
     requires { (all : List ℕ) → Began most_read input.now all → text.now ≡ judged_of all }
 {
-    io::write_all(STDOUT_FILENO, text);
+    streams::write_all(rt, text);
 }
 
-fn judge(input: &[u8], controls: &mut [u32], properties: &mut [u32])
+fn judge(rt: &HostRuntime, input: &[u8], controls: &mut [u32], properties: &mut [u32])
     requires { Ready input.now controls.old properties.old }
 {
     let mut out = [0; SAID];
     let end = write_judged(input, controls, properties, &mut out);
-    print(input, &out[..end]);
+    print(rt, input, &out[..end]);
 }
 
-fn judge_small(input: &[u8])
+fn judge_small(rt: &HostRuntime, input: &[u8])
     requires { length input.now < 16384 }
 {
     let mut controls = small_controls();
     let mut properties = small_properties();
-    judge(input, &mut controls, &mut properties);
+    judge(rt, input, &mut controls, &mut properties);
 }
 
 // Of a longer input `head` is the start; `whole` says that it is all that is read.
 // As it calls itself it is compiled apart, so that no shorter input needs its stack of 48 MB.
-fn judge_large(head: &[u8], whole: bool)
+fn judge_large(rt: &HostRuntime, head: &[u8], whole: bool)
     requires { (16384 ≤ length head.now) × (length head.now ≤ most_read) }
 {
     if whole {
         let mut controls = large_controls();
         let mut properties = large_properties();
-        judge(head, &mut controls, &mut properties);
+        judge(rt, head, &mut controls, &mut properties);
         return;
     }
     let mut space = large_input();
-    let size = inputs::fill(&mut space, head);
-    judge_large(&space[..size], true);
+    let size = inputs::fill(rt, &mut space, head);
+    judge_large(rt, &space[..size], true);
 }
 
-fn main() {
+fn main(rt: HostRuntime) {
     let mut head = [0; SHORT];
-    let size = io::read_full(STDIN_FILENO, &mut head);
+    let size = streams::read_full(&rt, &mut head);
     if size < SHORT {
-        judge_small(&head[..size]);
+        judge_small(&rt, &head[..size]);
     } else {
-        judge_large(&head, false);
+        judge_large(&rt, &head, false);
     }
 }

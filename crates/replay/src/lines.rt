@@ -1,7 +1,6 @@
 // A line is put into a lent buffer from its start on, and the part that was written is printed.
 ghost use Rattle.std.specs.Prelude.{◌≡◌, take, drop};
 
-use libc::STDOUT_FILENO;
 use rules::Answer;
 use text::{put_byte, put_decimal, put_hex};
 
@@ -29,32 +28,39 @@ fn put_word(out: &mut [u8], at: usize, n: u32) -> usize {
     put_decimal(out, p, n)
 }
 
-fn end_line(out: &mut [u8], at: usize) {
+fn end_line(rt: &HostRuntime, out: &mut [u8], at: usize) {
     let n = put_byte(out, at, b'\n');
-    io::write_all(STDOUT_FILENO, front(out, n));
+    streams::write_all(rt, front(out, n));
 }
 
-pub fn print_answer(a: Answer, out: &mut [u8]) {
+pub fn print_answer(rt: &HostRuntime, a: Answer, out: &mut [u8]) {
     let p = put_byte(out, 0, b'A');
     let p = put_word(out, p, a.number);
     let p = put_word(out, p, a.first);
     let p = put_word(out, p, a.second);
     let p = put_word(out, p, a.third);
-    end_line(out, p);
+    end_line(rt, out, p);
 }
 
-fn print_row(letter: u8, row: &[u32], out: &mut [u8]) {
+fn print_row(rt: &HostRuntime, letter: u8, row: &[u32], out: &mut [u8]) {
     let mut p = put_byte(out, 0, letter);
     let mut i = 0;
     while i < row.len() {
         p = put_word(out, p, row[i]);
         i += 1;
     }
-    end_line(out, p);
+    end_line(rt, out, p);
 }
 
 // The first `count` rows, each of `width` words; no more than there are.
-pub fn print_rows(letter: u8, rows: &[u32], width: usize, count: u32, out: &mut [u8]) {
+pub fn print_rows(
+    rt: &HostRuntime,
+    letter: u8,
+    rows: &[u32],
+    width: usize,
+    count: u32,
+    out: &mut [u8],
+) {
     let mut left = count;
     let mut at = 0;
     while 0 < left {
@@ -62,14 +68,14 @@ pub fn print_rows(letter: u8, rows: &[u32], width: usize, count: u32, out: &mut 
             return;
         }
         let end = at + width;
-        print_row(letter, &rows[at..end], out);
+        print_row(rt, letter, &rows[at..end], out);
         at = end;
         left -= 1;
     }
 }
 
 // The B line: each byte in hex after a blank.
-pub fn print_bytes(bytes: &[u8], out: &mut [u8]) {
+pub fn print_bytes(rt: &HostRuntime, bytes: &[u8], out: &mut [u8]) {
     let mut p = put_byte(out, 0, b'B');
     let mut i = 0;
     while i < bytes.len() {
@@ -77,7 +83,7 @@ pub fn print_bytes(bytes: &[u8], out: &mut [u8]) {
         p = put_hex(out, p, 2, wide(bytes[i]));
         i += 1;
     }
-    end_line(out, p);
+    end_line(rt, out, p);
 }
 
 fn wide(b: u8) -> u32 {
@@ -103,8 +109,8 @@ fn kept(bytes: &[u8], old: u8) -> u32 {
 }
 
 // The K line.
-pub fn print_kept(bytes: &[u8], old: u8, out: &mut [u8]) {
+pub fn print_kept(rt: &HostRuntime, bytes: &[u8], old: u8, out: &mut [u8]) {
     let p = put_byte(out, 0, b'K');
     let p = put_word(out, p, kept(bytes, old));
-    end_line(out, p);
+    end_line(rt, out, p);
 }

@@ -6,7 +6,6 @@ ghost use Rattle.rules.specs.Answer.{longest};
 ghost use Rattle.inputs.specs.Begun.{Begun};
 ghost use Rattle.respell.specs.Respelled.{respelled};
 
-use libc::{STDIN_FILENO, STDOUT_FILENO};
 use rules::{LONGEST, TOO_LONG};
 
 // A shorter stream than this is read into little room.
@@ -23,63 +22,63 @@ fn large_stream() -> [u8; LONGEST]
 }
 
 // Prints what is said of standard input, of which `input` was read and `more` tells whether bytes came after it: a line, and the bytes after it.
-fn print(input: &[u8], more: bool, line: &[u8], bytes: &[u8])
+fn print(rt: &HostRuntime, input: &[u8], more: bool, line: &[u8], bytes: &[u8])
     requires { (whole : List ℕ) → Begun input.now more whole → line.now ++ bytes.now ≡ respelled whole }
 {
-    io::write_all(STDOUT_FILENO, line);
-    io::write_all(STDOUT_FILENO, bytes);
+    streams::write_all(rt, line);
+    streams::write_all(rt, bytes);
 }
 
-fn refuse(input: &[u8])
+fn refuse(rt: &HostRuntime, input: &[u8])
     requires { longest ≤ length input.now }
 {
     let mut line = [0; LINE];
     let end = listing::refusal_line(&mut line, TOO_LONG);
-    print(input, true, &line[..end], &input[..0]);
+    print(rt, input, true, &line[..end], &input[..0]);
 }
 
-fn respell(input: &[u8], out: &mut [u8])
+fn respell(rt: &HostRuntime, input: &[u8], out: &mut [u8])
     requires { length input.now ≤ length out.old }
 {
     let a = rewrite::rewrite(input, out);
     let mut line = [0; LINE];
     let end = listing::answer_line(&mut line, 0, a);
     let size = a.first as usize;
-    print(input, false, &line[..end], &out[..size]);
+    print(rt, input, false, &line[..end], &out[..size]);
 }
 
-fn respell_small(input: &[u8])
+fn respell_small(rt: &HostRuntime, input: &[u8])
     requires { length input.now < 65536 }
 {
     let mut out = [0; SHORT];
-    respell(input, &mut out);
+    respell(rt, input, &mut out);
 }
 
 // Of a longer stream `head` is the start; `more` says that it is the longest that is read, and that bytes came after it.
 // As it calls itself it is compiled apart, so that no shorter stream needs its stack of 33 MB.
-fn respell_large(head: &[u8], more: bool)
+fn respell_large(rt: &HostRuntime, head: &[u8], more: bool)
     requires { more ≡ true → longest ≤ length head.now }
 {
     if more {
-        refuse(head);
+        refuse(rt, head);
         return;
     }
     let mut space = large_stream();
     let mut out = large_stream();
-    let size = inputs::fill(&mut space, head);
-    if inputs::has_more(size, LONGEST) {
-        respell_large(&space, true);
+    let size = inputs::fill(rt, &mut space, head);
+    if inputs::has_more(rt, size, LONGEST) {
+        respell_large(rt, &space, true);
         return;
     }
-    respell(&space[..size], &mut out);
+    respell(rt, &space[..size], &mut out);
 }
 
-fn main() {
+fn main(rt: HostRuntime) {
     let mut head = [0; SHORT];
-    let size = io::read_full(STDIN_FILENO, &mut head);
+    let size = streams::read_full(&rt, &mut head);
     if size < SHORT {
-        respell_small(&head[..size]);
+        respell_small(&rt, &head[..size]);
     } else {
-        respell_large(&head, false);
+        respell_large(&rt, &head, false);
     }
 }

@@ -6,7 +6,6 @@ ghost use Rattle.rules.specs.Answer.{longest};
 ghost use Rattle.text.specs.Writer.{Wrote};
 ghost use Rattle.roomlist.specs.Rooms.{Small, blob_bytes, info_bytes, blob_line, info_line, length_line, room_lines};
 
-use libc::{STDIN_FILENO, STDOUT_FILENO};
 use rules::Room;
 use text::{put_decimal, put_text};
 
@@ -85,17 +84,17 @@ fn put_rooms(out: &mut [u8], length: u32) -> usize
 }
 
 // Prints what there is to say of a length.
-fn print(length: u32, lines: &[u8])
+fn print(rt: &HostRuntime, length: u32, lines: &[u8])
     requires { lines.now ≡ room_lines length }
 {
-    io::write_all(STDOUT_FILENO, lines);
+    streams::write_all(rt, lines);
 }
 
-fn main() {
+fn main(rt: HostRuntime) {
     let mut input = [0; LENGTH_SIZE];
-    io::read_full(STDIN_FILENO, &mut input);
+    streams::read_full(&rt, &mut input);
     let length = numbers::u32_at(&input, 0);
     let mut out = [0; LINES_ROOM];
     let end = put_rooms(&mut out, length);
-    print(length, &out[..end]);
+    print(&rt, length, &out[..end]);
 }

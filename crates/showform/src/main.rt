@@ -6,7 +6,6 @@ ghost use Rattle.text.specs.Writer.{Wrote};
 ghost use Rattle.tabletext.specs.Input.{Began};
 ghost use Rattle.showform.specs.Printed.{parts_shown, shown_in, zeros, small_infos, small_controls, small_properties, large_infos, large_controls, large_properties, printed, most_read, Ready, Refused};
 
-use libc::{STDIN_FILENO, STDOUT_FILENO};
 use listing::refusal_line;
 use numbers::u32_at;
 use rows::{CONTROL_WIDTH, INFO_WIDTH, PROPERTY_WIDTH};
@@ -147,71 +146,77 @@ fn write_shown(
 
 // ---- printed
 // Prints what is shown of all that standard input has, of which `input` was read.
-fn print(input: &[u8], shown: &[u8])
+fn print(rt: &HostRuntime, input: &[u8], shown: &[u8])
     requires { (all : List ℕ) → Began most_read input.now all → shown.now ≡ printed all }
 {
-    io::write_all(STDOUT_FILENO, shown);
+    streams::write_all(rt, shown);
 }
 
 // What is shown has no room.
-fn refuse(input: &[u8])
+fn refuse(rt: &HostRuntime, input: &[u8])
     requires { Refused input.now }
 {
     let mut line = [0; LINE];
     let end = refusal_line(&mut line, NO_ROOM_FOR_TEXT);
-    print(input, &line[..end]);
+    print(rt, input, &line[..end]);
 }
 
-fn show(input: &[u8], infos: &mut [u32], controls: &mut [u32], properties: &mut [u32])
+fn show(
+    rt: &HostRuntime,
+    input: &[u8],
+    infos: &mut [u32],
+    controls: &mut [u32],
+    properties: &mut [u32],
+)
     requires { Ready input.now infos.old controls.old properties.old }
 {
     let mut out = large_text();
     let end = write_shown(input, infos, controls, properties, &mut out);
     if TEXT_ROOM < end {
-        refuse(input);
+        refuse(rt, input);
         return;
     }
-    print(input, &out[..end]);
+    print(rt, input, &out[..end]);
 }
 
-fn show_short(input: &[u8])
+fn show_short(rt: &HostRuntime, input: &[u8])
     requires { length input.now < 16384 }
 {
     let mut infos = small_infos();
     let mut controls = small_controls();
     let mut properties = small_properties();
-    show(input, &mut infos, &mut controls, &mut properties);
+    show(rt, input, &mut infos, &mut controls, &mut properties);
 }
 
-fn show_long(input: &[u8])
+fn show_long(rt: &HostRuntime, input: &[u8])
     requires { (16384 ≤ length input.now) × (length input.now ≤ most_read) }
 {
     let mut infos = large_infos();
     let mut controls = large_controls();
     let mut properties = large_properties();
-    show(input, &mut infos, &mut controls, &mut properties);
+    show(rt, input, &mut infos, &mut controls, &mut properties);
 }
 
 // `head` is the start of the input; `whole` says that it is all that is read.
 // As it calls itself it is compiled apart, so that a small form doesn't need its stack of 85 MB.
-fn show_large(head: &[u8], whole: bool)
+fn show_large(rt: &HostRuntime, head: &[u8], whole: bool)
     requires { length head.now ≤ most_read }
 {
     if whole {
         if head.len() < SHORT {
-            show_short(head);
+            show_short(rt, head);
             return;
         }
-        show_long(head);
+        show_long(rt, head);
         return;
     }
     let mut space = large_input();
-    let size = inputs::fill(&mut space, head);
-    show_large(&space[..size], true);
+    let size = inputs::fill(rt, &mut space, head);
+    show_large(rt, &space[..size], true);
 }
 
 // So short an input most often has a short text.
-fn show_small(input: &[u8])
+fn show_small(rt: &HostRuntime, input: &[u8])
     requires { length input.now < 16384 }
 {
     let mut infos = small_infos();
@@ -220,18 +225,18 @@ fn show_small(input: &[u8])
     let mut out = small_text();
     let end = write_shown(input, &mut infos, &mut controls, &mut properties, &mut out);
     if end < SMALL_TEXT {
-        print(input, &out[..end]);
+        print(rt, input, &out[..end]);
         return;
     }
-    show_large(input, true);
+    show_large(rt, input, true);
 }
 
-fn main() {
+fn main(rt: HostRuntime) {
     let mut head = [0; SHORT];
-    let size = io::read_full(STDIN_FILENO, &mut head);
+    let size = streams::read_full(&rt, &mut head);
     if size < SHORT {
-        show_small(&head[..size]);
+        show_small(&rt, &head[..size]);
     } else {
-        show_large(&head, false);
+        show_large(&rt, &head, false);
     }
 }

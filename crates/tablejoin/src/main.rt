@@ -9,7 +9,6 @@ ghost use Rattle.tabletext.specs.Input.{Began};
 ghost use Rattle.tablejoin.specs.Said.{said, join_said, Lent};
 
 use codetable::LONGEST_TABLE;
-use libc::{STDIN_FILENO, STDOUT_FILENO};
 use listing::answer_line;
 use rules::BAD_TABLE;
 use text::{put_text, refused};
@@ -61,24 +60,24 @@ fn write_input(input: &[u8], out: &mut [u8]) -> usize
 }
 
 // Prints what is said of all that standard input has, of which `input` was read into room for `room` bytes.
-fn print(input: &[u8], room: usize, text: &[u8])
+fn print(rt: &HostRuntime, input: &[u8], room: usize, text: &[u8])
     requires { (all : List ℕ) → Began room input.now all → text.now ≡ join_said all }
 {
-    io::write_all(STDOUT_FILENO, text);
+    streams::write_all(rt, text);
 }
 
-fn run(space: &mut [u8], out: &mut [u8])
+fn run(rt: &HostRuntime, space: &mut [u8], out: &mut [u8])
     requires { Lent space.old out.old }
 {
     let room = space.len();
-    let size = io::read_full(STDIN_FILENO, space);
+    let size = streams::read_full(rt, space);
     let input = &space[..size];
     let end = write_input(input, out);
-    print(input, room, &out[..end]);
+    print(rt, input, room, &out[..end]);
 }
 
-fn main() {
+fn main(rt: HostRuntime) {
     let mut space = [0; SPACE];
     let mut out = [0; LONGEST_SAID];
-    run(&mut space, &mut out);
+    run(&rt, &mut space, &mut out);
 }

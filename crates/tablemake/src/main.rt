@@ -5,8 +5,6 @@ ghost use Rattle.std.specs.Prelude.{◌≡◌, List, ◌++◌, ℕ, length};
 ghost use Rattle.tabletext.specs.Input.{Began};
 ghost use Rattle.tablemake.specs.Printed.{printed, MakeReady};
 
-use libc::{STDIN_FILENO, STDOUT_FILENO};
-
 // A text has at most 2,097,152 bytes: one more is read, so that a longer one is told.
 const INPUT_ROOM: usize = 2097153;
 
@@ -16,45 +14,45 @@ const TABLE_ROOM: usize = 65100;
 const LINE_ROOM: usize = 128;
 
 // Prints all that is printed of standard input, of which `text` was read into room for `room` bytes: a line, then a table.
-fn print_table(text: &[u8], room: usize, line: &[u8], table: &[u8])
+fn print_table(rt: &HostRuntime, text: &[u8], room: usize, line: &[u8], table: &[u8])
     requires { (all : List ℕ) → Began room text.now all → line.now ++ table.now ≡ printed all }
 {
-    io::write_all(STDOUT_FILENO, line);
-    io::write_all(STDOUT_FILENO, table);
+    streams::write_all(rt, line);
+    streams::write_all(rt, table);
 }
 
 // The same, where it is a line alone.
-fn print_refusal(text: &[u8], room: usize, line: &[u8])
+fn print_refusal(rt: &HostRuntime, text: &[u8], room: usize, line: &[u8])
     requires { (all : List ℕ) → Began room text.now all → line.now ≡ printed all }
 {
-    io::write_all(STDOUT_FILENO, line);
+    streams::write_all(rt, line);
 }
 
-fn make(text: &[u8], room: usize, out: &mut [u8], line: &mut [u8])
+fn make(rt: &HostRuntime, text: &[u8], room: usize, out: &mut [u8], line: &mut [u8])
     requires { MakeReady out.old line.old room }
 {
     let made = tablemaking::make_table(text, out);
     let size = made.size;
     if made.error == 0 {
         let end = tablewhy::size_line(size as u32, line);
-        print_table(text, room, &line[..end], &out[..size]);
+        print_table(rt, text, room, &line[..end], &out[..size]);
     } else {
         let end = tablewhy::why_line(made.error, made.line, line);
-        print_refusal(text, room, &line[..end]);
+        print_refusal(rt, text, room, &line[..end]);
     }
 }
 
-fn run(input: &mut [u8], out: &mut [u8], line: &mut [u8])
+fn run(rt: &HostRuntime, input: &mut [u8], out: &mut [u8], line: &mut [u8])
     requires { MakeReady out.old line.old (length input.old) }
 {
     let room = input.len();
-    let size = io::read_full(STDIN_FILENO, input);
-    make(&input[..size], room, out, line);
+    let size = streams::read_full(rt, input);
+    make(rt, &input[..size], room, out, line);
 }
 
-fn main() {
+fn main(rt: HostRuntime) {
     let mut input = [0; INPUT_ROOM];
     let mut out = [0; TABLE_ROOM];
     let mut line = [0; LINE_ROOM];
-    run(&mut input, &mut out, &mut line);
+    run(&rt, &mut input, &mut out, &mut line);
 }

@@ -5,8 +5,6 @@ ghost use Rattle.std.specs.Prelude.{◌≡◌, List, ℕ};
 ghost use Rattle.tabletext.specs.Input.{Began};
 ghost use Rattle.tableshow.specs.Shown.{shown_text, ShownIn, ShowReady};
 
-use libc::{STDIN_FILENO, STDOUT_FILENO};
-
 // A table has at most 65,100 bytes: one more is read, so that a longer one is told.
 const INPUT_ROOM: usize = 65101;
 
@@ -25,24 +23,24 @@ fn show_table(table: &[u8], out: &mut [u8]) -> usize
 }
 
 // Prints what is shown of all that standard input has, of which `table` was read into room for `room` bytes.
-fn print(table: &[u8], room: usize, shown: &[u8])
+fn print(rt: &HostRuntime, table: &[u8], room: usize, shown: &[u8])
     requires { (all : List ℕ) → Began room table.now all → shown.now ≡ shown_text all }
 {
-    io::write_all(STDOUT_FILENO, shown);
+    streams::write_all(rt, shown);
 }
 
-fn show(input: &mut [u8], out: &mut [u8])
+fn show(rt: &HostRuntime, input: &mut [u8], out: &mut [u8])
     requires { ShowReady input.old out.old }
 {
     let room = input.len();
-    let size = io::read_full(STDIN_FILENO, input);
+    let size = streams::read_full(rt, input);
     let table = &input[..size];
     let end = show_table(table, out);
-    print(table, room, &out[..end]);
+    print(rt, table, room, &out[..end]);
 }
 
-fn main() {
+fn main(rt: HostRuntime) {
     let mut input = [0; INPUT_ROOM];
     let mut out = [0; SHOWN_ROOM];
-    show(&mut input, &mut out);
+    show(&rt, &mut input, &mut out);
 }

@@ -7,7 +7,6 @@ ghost use Rattle.tabletext.specs.Input.{Began};
 ghost use Rattle.listing.specs.Written.{Written};
 ghost use Rattle.totalling.specs.Counted.{numbers_at, record_in, four_bytes_lem, number_bytes, record_bytes, said_for, counted, most_read, most_said, counted_of_lem};
 
-use libc::{STDIN_FILENO, STDOUT_FILENO};
 use listing::{answer_line, refusal_line};
 use numbers::u32_at;
 use rules::{BAD_TABLE, LONGEST, Totals};
@@ -142,40 +141,40 @@ fn write_counted(input: &[u8], out: &mut [u8]) -> usize
 }
 
 // Prints what is said of all that standard input has, of which `input` was read.
-fn print(input: &[u8], text: &[u8])
+fn print(rt: &HostRuntime, input: &[u8], text: &[u8])
     requires { (all : List ℕ) → Began most_read input.now all → text.now ≡ counted_of_lem all }
 {
-    io::write_all(STDOUT_FILENO, text);
+    streams::write_all(rt, text);
 }
 
-fn count(input: &[u8])
+fn count(rt: &HostRuntime, input: &[u8])
     requires { length input.now ≤ most_read }
 {
     let mut out = [0; SAID];
     let end = write_counted(input, &mut out);
-    print(input, &out[..end]);
+    print(rt, input, &out[..end]);
 }
 
 // Of a longer input `head` is the start; `whole` says that it is all that is read.
 // As it calls itself it is compiled apart, so that no shorter input needs its stack of 34 MB.
-fn count_large(head: &[u8], whole: bool)
+fn count_large(rt: &HostRuntime, head: &[u8], whole: bool)
     requires { whole ≡ true → length head.now ≤ most_read }
 {
     if whole {
-        count(head);
+        count(rt, head);
         return;
     }
     let mut space = large_input();
-    let size = inputs::fill(&mut space, head);
-    count_large(&space[..size], true);
+    let size = inputs::fill(rt, &mut space, head);
+    count_large(rt, &space[..size], true);
 }
 
-fn main() {
+fn main(rt: HostRuntime) {
     let mut head = [0; SHORT];
-    let size = io::read_full(STDIN_FILENO, &mut head);
+    let size = streams::read_full(&rt, &mut head);
     if size < SHORT {
-        count(&head[..size]);
+        count(&rt, &head[..size]);
     } else {
-        count_large(&head, false);
+        count_large(&rt, &head, false);
     }
 }

@@ -7,11 +7,10 @@ use Rattle.formlist.proofs.main.Statement.{statement}
 use Rattle.formlist.proofs.main.Tie as tie
 
 list-requires : tie.Need-list-requires
-list-requires c κs =
-    (
-      record { index_is = c.index-index.ensures; letters-are = c.letters-letters.ensures },
-      record { for_input = length-replicate {A = ℕ} 32768 0; for_lines = simp length-replicate (omega (arith, bound)) },
-    )
+list-requires c κs = (
+  record { index_is = c.index-index.ensures; letters-are = c.letters-letters.ensures },
+  record { for_input = length-replicate {A = ℕ} 32768 0; for_lines = simp length-replicate (omega (arith, bound)) },
+)
 
 pub main_spec : {M : Type 1} → statement M
 main_spec =

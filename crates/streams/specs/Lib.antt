@@ -1,0 +1,2 @@
+-- What the clauses of the standard streams cite.
+pub mod Counts
