@@ -17,7 +17,7 @@ returns : tie.Need-returns
 returns c =
     let p = c.put_text-at in
     let r = c.read_full in
-    filled p.ensures (length p.last.0 - p.result) r.new.1.0 r.result (omega (arith, within p.ensures))
+    filled p.ensures (length p.new.out - p.result) r.new.buf r.result (omega (arith, within p.ensures))
 
 pub fill_spec : {M : Type 1} → statement M
 fill_spec =
