@@ -42,7 +42,7 @@ print-table-requires c κs =
     let m = c.make_table-made in
     let p = c.requires in
     let e : m.result.error ≡ 0 = omega arith in
-    let small : Word32 m.result.size = omega (arith, made.size e, m.kept, p.table-room) in
+    let small : Word32 m.result.size = omega (arith, made.size e, m.auto, p.table-room) in
     λ all b. made.table e _ (whole-size m.result.size small c.size_line-end.ensures p.line-room) ∙ all-printed p.all_read b
 
 -- ---- a refusal
@@ -57,8 +57,8 @@ print-refusal-requires c κs =
     let made = makes c.args.text.now c.args.out.now c.make_table-made.ensures c.requires.table-room in
     let m = c.make_table-made in
     let p = c.requires in
-    let small : Word32 m.result.line = omega (arith, m.ok) in
-    λ all b. whole-why m.result.error m.result.line small c.why_line-end.ensures p.line-room ∙ made.line-1 c.if-made-eq0.false ∙ all-printed p.all_read b
+    let small : Word32 m.result.line = omega (arith, m.type_inv) in
+    λ all b. whole-why m.result.error m.result.line small c.why_line-end.ensures p.line-room ∙ made.line c.if-made-eq0.false ∙ all-printed p.all_read b
 
 pub make_spec : {M : Type 1} → statement M
 make_spec =

@@ -18,7 +18,7 @@ returns-2 c =
     let t = c.args.table.now in
     let f = c.first_break-found in
     let some : f.result.rule ≡ 0 → ⊥ = λ e. omega arith in
-    let small : Words32 f.result = record { at = omega (arith, f.ok); scope = omega (arith, f.ok); row = omega (arith, f.ok); found = omega (arith, f.ok) } in
+    let small : Words32 f.result = record { at = omega (arith, f.type_inv); scope = omega (arith, f.type_inv); row = omega (arith, f.type_inv); found = omega (arith, f.type_inv) } in
     record { wrote = rw (shows_break t f.ensures some) c.break_line.ensures; short = break_fits t f.ensures some small }
 
 pub show_table_spec : {M : Type 1} → statement M
