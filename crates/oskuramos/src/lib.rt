@@ -1,4 +1,4 @@
-// The functions that C and Rust call: each hands its arguments on to a proved function.
+// What C and Rust call, as a library: each function hands its arguments on to a proved one. `oskuramos_c` exports them.
 #![tactic(auto)]
 
 ghost use Rattle.std.specs.Prelude.{◌≡◌};
@@ -93,8 +93,7 @@ fn handed_room(r: rules::Room) -> Room
 }
 
 // ---- streams
-#[unsafe(no_mangle)]
-pub extern "C" fn oskuramos_read_blob(
+pub fn oskuramos_read_blob(
     table: &[u8],
     stream: &[u8],
     controls: &mut [u32],
@@ -108,8 +107,7 @@ pub extern "C" fn oskuramos_read_blob(
 }
 
 // For whoever knows which layout a Blob has: a wrong first byte is noticed.
-#[unsafe(no_mangle)]
-pub extern "C" fn oskuramos_read_2000(
+pub fn oskuramos_read_2000(
     table: &[u8],
     stream: &[u8],
     controls: &mut [u32],
@@ -122,8 +120,7 @@ pub extern "C" fn oskuramos_read_2000(
     handed_answer(blob::read_2000(table, stream, controls, properties))
 }
 
-#[unsafe(no_mangle)]
-pub extern "C" fn oskuramos_read_later(
+pub fn oskuramos_read_later(
     layout: u32,
     stream: &[u8],
     controls: &mut [u32],
@@ -137,8 +134,7 @@ pub extern "C" fn oskuramos_read_later(
 }
 
 // Reads a Blob and judges it by the rules of panels.
-#[unsafe(no_mangle)]
-pub extern "C" fn oskuramos_check_panel(
+pub fn oskuramos_check_panel(
     table: &[u8],
     stream: &[u8],
     controls: &mut [u32],
@@ -151,8 +147,7 @@ pub extern "C" fn oskuramos_check_panel(
     handed_answer(panel::check_panel(table, stream, controls, properties))
 }
 
-#[unsafe(no_mangle)]
-pub extern "C" fn oskuramos_read_type_info(stream: &[u8], rows: &mut [u32]) -> Answer
+pub fn oskuramos_read_type_info(stream: &[u8], rows: &mut [u32]) -> Answer
     ensures value { result ≡ handed_answer (type_info_exit stream.now rows.old).answer }
     ensures rows_after { rows.new ≡ (type_info_exit stream.now rows.old).rows }
 {
@@ -160,8 +155,7 @@ pub extern "C" fn oskuramos_read_type_info(stream: &[u8], rows: &mut [u32]) -> A
 }
 
 // ---- controls paired with TypeInfo
-#[unsafe(no_mangle)]
-pub extern "C" fn oskuramos_pair(
+pub fn oskuramos_pair(
     stream: &[u8],
     controls: &mut [u32],
     control_count: u32,
@@ -183,8 +177,7 @@ pub extern "C" fn oskuramos_pair(
 }
 
 // ---- comma-separated text
-#[unsafe(no_mangle)]
-pub extern "C" fn oskuramos_write_csv(
+pub fn oskuramos_write_csv(
     table: &[u8],
     stream: &[u8],
     controls: &mut [u32],
@@ -199,18 +192,17 @@ pub extern "C" fn oskuramos_write_csv(
     handed_answer(csvwrite::write_csv(table, stream, controls, properties, out))
 }
 
-#[unsafe(no_mangle)]
-pub extern "C" fn oskuramos_read_csv(text: &[u8], fields: &mut [u32], out: &mut [u8]) -> Answer
+pub fn oskuramos_read_csv(text: &[u8], fields: &mut [u32], out: &mut [u8]) -> Answer
     ensures value { result ≡ handed_answer (fields_exit text.now fields.old out.old).answer }
     ensures fields_after { fields.new ≡ (fields_exit text.now fields.old out.old).rows }
     ensures out_after { out.new ≡ (fields_exit text.now fields.old out.old).out }
 {
     handed_answer(csvread::read_csv(text, fields, out))
 }
+
 // ---- running totals over many streams
 // The record is lent, and altered where it lies.
-#[unsafe(no_mangle)]
-pub extern "C" fn oskuramos_count_blob(
+pub fn oskuramos_count_blob(
     totals: &mut Totals,
     table: &[u8],
     stream: &[u8],
@@ -223,8 +215,7 @@ pub extern "C" fn oskuramos_count_blob(
 }
 
 // ---- code tables
-#[unsafe(no_mangle)]
-pub extern "C" fn oskuramos_well_formed(table: &[u8]) -> bool
+pub fn oskuramos_well_formed(table: &[u8]) -> bool
     ensures { result ≡ well_formed_lem table.now }
 {
     codetable::well_formed(table)
@@ -232,29 +223,25 @@ pub extern "C" fn oskuramos_well_formed(table: &[u8]) -> bool
 
 // ---- room for every stream of at most so many bytes
 // Of either layout.
-#[unsafe(no_mangle)]
-pub extern "C" fn oskuramos_room(length: usize) -> Room
+pub fn oskuramos_room(length: usize) -> Room
     ensures { result ≡ handed_room (room_for length) }
 {
     handed_room(room::room_for(length))
 }
 
-#[unsafe(no_mangle)]
-pub extern "C" fn oskuramos_room_2000(length: usize) -> Room
+pub fn oskuramos_room_2000(length: usize) -> Room
     ensures { result ≡ handed_room (room2000 length) }
 {
     handed_room(room::room_2000(length))
 }
 
-#[unsafe(no_mangle)]
-pub extern "C" fn oskuramos_room_later(length: usize) -> Room
+pub fn oskuramos_room_later(length: usize) -> Room
     ensures { result ≡ handed_room (room_later_lem length) }
 {
     handed_room(room::room_later(length))
 }
 
-#[unsafe(no_mangle)]
-pub extern "C" fn oskuramos_type_info_room(length: usize) -> u32
+pub fn oskuramos_type_info_room(length: usize) -> u32
     ensures { result ≡ type_info_room_lem length }
 {
     room::type_info_room(length)
@@ -280,8 +267,7 @@ fn part_or(source: u32, size: usize, start: u32, length: u32) -> Part
 }
 
 // Where the name of a control stands, by the words of its row: in the stream, or in the label for a numbered one.
-#[unsafe(no_mangle)]
-pub extern "C" fn oskuramos_control_name(
+pub fn oskuramos_control_name(
     stream: &[u8],
     label: &[u8],
     mark: u32,
@@ -298,8 +284,7 @@ pub extern "C" fn oskuramos_control_name(
 }
 
 // ---- two code tables joined
-#[unsafe(no_mangle)]
-pub extern "C" fn oskuramos_join(one: &[u8], other: &[u8], out: &mut [u8]) -> Answer
+pub fn oskuramos_join(one: &[u8], other: &[u8], out: &mut [u8]) -> Answer
     ensures value { result ≡ handed_answer (join_exit one.now other.now out.old).answer }
     ensures out_after { out.new ≡ (join_exit one.now other.now out.old).out }
 {
@@ -307,13 +292,7 @@ pub extern "C" fn oskuramos_join(one: &[u8], other: &[u8], out: &mut [u8]) -> An
 }
 
 // ---- what a newer code table changes
-#[unsafe(no_mangle)]
-pub extern "C" fn oskuramos_differences(
-    older: &[u8],
-    newer: &[u8],
-    stream: &[u8],
-    rows: &mut [u32],
-) -> Answer
+pub fn oskuramos_differences(older: &[u8], newer: &[u8], stream: &[u8], rows: &mut [u32]) -> Answer
     ensures value { result ≡ handed_answer (differences_exit older.now newer.now stream.now rows.old).answer }
     ensures rows_after { rows.new ≡ (differences_exit older.now newer.now stream.now rows.old).rows }
 {
@@ -321,8 +300,7 @@ pub extern "C" fn oskuramos_differences(
 }
 
 // ---- an Access 2000 stream in its short spelling
-#[unsafe(no_mangle)]
-pub extern "C" fn oskuramos_rewrite(stream: &[u8], out: &mut [u8]) -> Answer
+pub fn oskuramos_rewrite(stream: &[u8], out: &mut [u8]) -> Answer
     ensures value { result ≡ handed_answer (rewrite_exit stream.now out.old).answer }
     ensures out_after { out.new ≡ (rewrite_exit stream.now out.old).out }
 {
@@ -330,64 +308,56 @@ pub extern "C" fn oskuramos_rewrite(stream: &[u8], out: &mut [u8]) -> Answer
 }
 
 // ---- text
-#[unsafe(no_mangle)]
-pub extern "C" fn oskuramos_guid_text(guid: &[u8], out: &mut [u8]) -> Answer
+pub fn oskuramos_guid_text(guid: &[u8], out: &mut [u8]) -> Answer
     ensures value { result ≡ handed_answer (guid_exit guid.now out.old).answer }
     ensures out_after { out.new ≡ (guid_exit guid.now out.old).out }
 {
     handed_answer(text::guid_text(guid, out))
 }
 
-#[unsafe(no_mangle)]
-pub extern "C" fn oskuramos_label_text(n: u32, out: &mut [u8]) -> Answer
+pub fn oskuramos_label_text(n: u32, out: &mut [u8]) -> Answer
     ensures value { result ≡ handed_answer (label_exit n out.old).answer }
     ensures out_after { out.new ≡ (label_exit n out.old).out }
 {
     handed_answer(text::label_text(n, out))
 }
 
-#[unsafe(no_mangle)]
-pub extern "C" fn oskuramos_is_utf16(bytes: &[u8]) -> bool
+pub fn oskuramos_is_utf16(bytes: &[u8]) -> bool
     ensures { result ≡ is_utf16_lem bytes.now }
 {
     utf16::is_utf16(bytes)
 }
 
 // ---- names by id, written into the buffer that is lent
-#[unsafe(no_mangle)]
-pub extern "C" fn oskuramos_text_name(id: u16, out: &mut [u8]) -> Answer
+pub fn oskuramos_text_name(id: u16, out: &mut [u8]) -> Answer
     ensures value { result ≡ handed_answer (name_exit text_names id out.old).answer }
     ensures out_after { out.new ≡ (name_exit text_names id out.old).out }
 {
     handed_answer(names::text_name(id, out))
 }
 
-#[unsafe(no_mangle)]
-pub extern "C" fn oskuramos_number_name(id: u16, out: &mut [u8]) -> Answer
+pub fn oskuramos_number_name(id: u16, out: &mut [u8]) -> Answer
     ensures value { result ≡ handed_answer (name_exit number_names id out.old).answer }
     ensures out_after { out.new ≡ (name_exit number_names id out.old).out }
 {
     handed_answer(names::number_name(id, out))
 }
 
-#[unsafe(no_mangle)]
-pub extern "C" fn oskuramos_bytes_name(id: u16, out: &mut [u8]) -> Answer
+pub fn oskuramos_bytes_name(id: u16, out: &mut [u8]) -> Answer
     ensures value { result ≡ handed_answer (name_exit bytes_names id out.old).answer }
     ensures out_after { out.new ≡ (name_exit bytes_names id out.old).out }
 {
     handed_answer(names::bytes_name(id, out))
 }
 
-#[unsafe(no_mangle)]
-pub extern "C" fn oskuramos_control_type_name(id: u16, out: &mut [u8]) -> Answer
+pub fn oskuramos_control_type_name(id: u16, out: &mut [u8]) -> Answer
     ensures value { result ≡ handed_answer (name_exit control_type_names id out.old).answer }
     ensures out_after { out.new ≡ (name_exit control_type_names id out.old).out }
 {
     handed_answer(names::control_type_name(id, out))
 }
 
-#[unsafe(no_mangle)]
-pub extern "C" fn oskuramos_value_name(mark: u32, id: u16, out: &mut [u8]) -> Answer
+pub fn oskuramos_value_name(mark: u32, id: u16, out: &mut [u8]) -> Answer
     ensures value { result ≡ handed_answer (name_exit (names_for mark) id out.old).answer }
     ensures out_after { out.new ≡ (name_exit (names_for mark) id out.old).out }
 {
@@ -395,22 +365,19 @@ pub extern "C" fn oskuramos_value_name(mark: u32, id: u16, out: &mut [u8]) -> An
 }
 
 // ---- values
-#[unsafe(no_mangle)]
-pub extern "C" fn oskuramos_entry_value(type_code: u32, bytes: &[u8]) -> Value
+pub fn oskuramos_entry_value(type_code: u32, bytes: &[u8]) -> Value
     ensures { result ≡ handed_value (entry_value_lem type_code bytes.now) }
 {
     handed_value(propvalue::entry_value(type_code, bytes))
 }
 
-#[unsafe(no_mangle)]
-pub extern "C" fn oskuramos_stored_value(id: u8, bytes: &[u8]) -> Value
+pub fn oskuramos_stored_value(id: u8, bytes: &[u8]) -> Value
     ensures { result ≡ handed_value (stored_value_lem id bytes.now) }
 {
     handed_value(propvalue::stored_value(id, bytes))
 }
 
-#[unsafe(no_mangle)]
-pub extern "C" fn oskuramos_value_as(kind: u8, id: u8, bytes: &[u8]) -> Value
+pub fn oskuramos_value_as(kind: u8, id: u8, bytes: &[u8]) -> Value
     ensures { result ≡ handed_value (value_as_lem kind id bytes.now) }
 {
     handed_value(propvalue::value_as(kind, id, bytes))
