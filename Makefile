@@ -1,6 +1,6 @@
 # The library for C.
 #
-#     make                                proves what is left to prove and writes target/staticlib/liboskuramos.a (needs `rt`)
+#     make                                proves what is left to prove and writes out/liboskuramos.a (needs `rt`)
 #     make install PREFIX=$HOME/.local    header, archive, code table, pkg-config file, manual page and bash completion; DESTDIR goes before every path
 #     make uninstall PREFIX=$HOME/.local
 #     make check                          calls the archive from C and from Rust
@@ -14,7 +14,7 @@ DATADIR ?= $(PREFIX)/share
 MANDIR ?= $(DATADIR)/man
 INSTALL ?= install
 
-archive = target/staticlib/liboskuramos.a
+archive = out/liboskuramos.a
 version = $(shell sed -n 's/^.define OSKURAMOS_VERSION "\(.*\)"$$/\1/p' include/oskuramos.h)
 
 header = $(DESTDIR)$(INCLUDEDIR)/oskuramos.h
@@ -27,14 +27,14 @@ completion = $(DESTDIR)$(DATADIR)/bash-completion/completions/oskuramos
 
 .PHONY: all check install uninstall
 all:
-	rt staticlib oskuramos
+	tools/archive
 
 check:
 	tests/library
 
 # `make install` needs no `rt` where the archive is there.
 $(archive):
-	rt staticlib oskuramos
+	tools/archive
 
 install: $(archive)
 	@case "$(PREFIX)" in /*) ;; *) echo "PREFIX must be a whole path, from / on: $(PREFIX) isn't" >&2; exit 2 ;; esac

@@ -102,10 +102,10 @@ write_whole() { # SOURCE SIZE TO [KEEP]
 }
 
 # ---- the proved programs
-# The crates of the repository that CRATE is built of, itself among them.
-crates_of() { # CRATE
+# How many crates are to be proved for CRATE: itself, and those that it is built of but for the libraries that are built already.
+crates_left() { # CRATE
     awk -F: -v want="$1" '
-        { uses[$1] = $2 }
+        { split($1, head, " "); uses[head[1]] = $2 }
         function add(c,    n, i, part) {
             if (!(c in uses) || (c in seen)) return
             seen[c] = 1
@@ -113,50 +113,57 @@ crates_of() { # CRATE
             n = split(uses[c], part, " ")
             for (i = 1; i <= n; i++) add(part[i])
         }
-        END { add(want) }' "$root/crates.txt"
+        END { add(want) }' "$root/crates.txt" | while IFS= read -r crate; do
+        [ -f "$root/crates/$crate/out/rlib/stamp" ] || echo "$crate"
+    done | wc -l | tr -d ' '
 }
 
-# Passes `rt check`'s output on as one line for each crate: which of how many, and about how long it will take yet.
+# Passes `rt run`'s output on as one line for each crate: which of how many, and about how long it will take yet.
 show_progress() { # TOTAL START
     done=0
+    crate=
     while IFS= read -r line; do
         case $line in
-        "rt: "*" proved ("*)
+        "crate "*": modules "*)
+            crate=${line#crate }
+            crate=${crate%%:*}
+            ;;
+        "logic=proved "*)
             done=$((done + 1))
+            total=$1
+            [ "$done" -le "$total" ] || total=$done
             now=$(date +%s)
-            left=$((($1 - done) * (now - $2) / done))
-            crate=${line#rt: }
-            printf '%s: %s of %s proved (%s), about %s:%02d minutes left\n' "$name" "$done" "$1" "${crate%% *}" $((left / 60)) $((left % 60))
+            left=$(((total - done) * (now - $2) / done))
+            printf '%s: %s of %s proved (%s), about %s:%02d minutes left\n' "$name" "$done" "$total" "$crate" $((left / 60)) $((left % 60))
             ;;
         esac
     done
 }
 
-# The programs are for x86-64, with the kit's loader and C library; on another processor the kit has an emulator. Found once.
+# The programs are for x86-64, and run with the kit's loader and C library. Found once.
 loader=
 find_loader() {
     [ -z "$loader" ] || return 0
     command -v rt >/dev/null || die "the Rattle kit's command rt is not in PATH; CONTRIBUTING.md, \"What you need\", says what it is"
-    tools=$(dirname "$(dirname "$(rt doc)")")/on/$(uname -m)/toolchain
+    tools=$(dirname "$(rt doc)")/toolchain
     loader=$tools/lib/ld-linux-x86-64.so.2
-    emulator=$tools/bin/qemu-x86_64
     [ -e "$loader" ] || die "the kit has no loader at $loader"
-    [ -x "$emulator" ] || emulator=
 }
 
-# Proves and builds a program where it is missing or older than a source.
+# Proves and builds a program where it is missing or older than a source. `rt run` runs it too, on the crate's own input.
 make_ready() { # CRATE
     find_loader
-    program=$root/target/bin/$1
-    if [ -x "$program" ] && [ -z "$(find "$root/crates" "$root/crates.txt" -newer "$program" -type f | head -n 1)" ]; then
+    program=$root/crates/$1/out/$1
+    if [ -x "$program" ] && [ -z "$(cd "$root" && find crates crates.txt \( -path 'crates/*/out' ! -path 'crates/*/*/out' \) -prune -o -newer "$program" -type f -print | head -n 1)" ]; then
         return
     fi
-    total=$(crates_of "$1" | wc -l | tr -d ' ')
-    log=$root/target/$1.log
+    total=$(crates_left "$1")
+    mkdir -p "$root/out"
+    log=$root/out/$1.log
     printf '%s: proving and building it first, %s crates; this takes some minutes, once\n' "$name" "$total" >&2
-    mkdir -p "$root/target"
-    { (cd "$root" && rt check "$1" 2>&1) || echo "rt: not built"; } | tee "$log" | show_progress "$total" "$(date +%s)" >&2
-    if grep -q '^rt: not built$' "$log" || [ ! -x "$program" ]; then
+    rm -f "$program"
+    (cd "$root/crates/$1" && rt run <stdin 2>&1 >/dev/null) | tee "$log" | show_progress "$total" "$(date +%s)" >&2
+    if [ ! -x "$program" ]; then
         tail -n 20 "$log" >&2
         die "it could not be built; all that was printed stands in $log"
     fi
@@ -165,7 +172,7 @@ make_ready() { # CRATE
 
 # Runs a built program.
 run_program() { # CRATE
-    ${emulator:+"$emulator"} "$loader" --library-path "$tools/lib" "$root/target/bin/$1"
+    "$loader" --library-path "$tools/lib" "$root/crates/$1/out/$1"
 }
 
 # Runs a program on standard input and passes on what it prints; its first line is `answer` and a number, and the status is 1 where that isn't 0.

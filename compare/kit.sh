@@ -24,21 +24,20 @@ build_compare() {
     built=${CARGO_TARGET_DIR:-compare/target}/$1
 }
 
-# `launch` has the words that start a program for x86-64: with the kit's loader and C library, and on another processor the kit's emulator.
+# `launch` has the words that start a program: with the kit's loader and C library.
 find_launch() {
     local tools
     command -v rt >/dev/null || die "the Rattle kit's command rt is not in PATH"
-    tools=$(dirname "$(dirname "$(rt doc)")")/on/$(uname -m)/toolchain
+    tools=$(dirname "$(rt doc)")/toolchain
     [ -e "$tools/lib/ld-linux-x86-64.so.2" ] || die "the kit has no loader in $tools/lib"
     launch=("$tools/lib/ld-linux-x86-64.so.2" --library-path "$tools/lib")
-    if [ -x "$tools/bin/qemu-x86_64" ]; then launch=("$tools/bin/qemu-x86_64" "${launch[@]}"); fi
 }
 
 # Proves and builds `replay` where it is missing or older than a source.
 ready_replay() {
-    local program=target/bin/replay
-    if [ ! -x $program ] || [ -n "$(find crates crates.txt -newer $program -type f | head -n 1)" ]; then
-        rt check replay >&2 || die "replay could not be built"
+    local program=crates/replay/out/replay
+    if [ ! -x $program ] || [ -n "$(find crates crates.txt \( -path 'crates/*/out' ! -path 'crates/*/*/out' \) -prune -o -newer $program -type f -print | head -n 1)" ]; then
+        (cd crates/replay && rt run <stdin >/dev/null) || die "replay could not be built"
         touch $program
     fi
 }
@@ -56,18 +55,10 @@ link_by() {
         die "compare/c/$4.c could not be linked"
 }
 
-# Links NAME PROFILE [WORDS..] for x86-64.
-# On another processor this takes Debian's gcc-x86-64-linux-gnu, and a rustc (RUSTC) with the standard library for x86-64.
+# Links NAME PROFILE [WORDS..].
 link_c() {
-    local target=x86_64-unknown-linux-gnu cc=${CC:-cc} folder=${CARGO_TARGET_DIR:-compare/target}
-    [ -n "${OSKURAMOS_ARCHIVE-}" ] || rt staticlib oskuramos >&2 || die "the library could not be built"
-    if [ "$(uname -m)" != x86_64 ]; then
-        cc=x86_64-linux-gnu-gcc
-        [ -d "$("${RUSTC:-rustc}" --print target-libdir --target $target)" ] || die "${RUSTC:-rustc} has no standard library for x86-64 (set RUSTC)"
-        export CARGO_BUILD_TARGET=$target
-        folder=$folder/$target
-    fi
-    link_by "$cc" "$folder" "${OSKURAMOS_ARCHIVE:-target/staticlib/liboskuramos.a}" "$@"
+    [ -n "${OSKURAMOS_ARCHIVE-}" ] || tools/archive >&2 || die "the library could not be built"
+    link_by "${CC:-cc}" "${CARGO_TARGET_DIR:-compare/target}" "${OSKURAMOS_ARCHIVE:-out/liboskuramos.a}" "$@"
 }
 
 # Copies ARCHIVE to COPY with each function at a multiple of 64 bytes: where one happens to stand moves its time by up to a fifth. The words go to objcopy.
@@ -77,22 +68,11 @@ aligned() {
     objcopy --set-section-alignment '.text.*=64' "${@:3}" "$1" "$2"
 }
 
-# Links NAME PROFILE [WORDS..] for this machine's own processor. All functions stand at multiples of 64 bytes, those of jetdb and of the library.
-link_own() {
+# Links NAME PROFILE [WORDS..]. All functions stand at multiples of 64 bytes, those of jetdb and of the library.
+link_aligned() {
     export RUSTFLAGS="-C llvm-args=-align-all-functions=6"
-    if [ "$(uname -m)" = x86_64 ]; then
-        [ -n "${OSKURAMOS_ARCHIVE-}" ] || rt staticlib oskuramos >&2 || die "the library could not be built"
-        mkdir -p target/native
-        aligned "${OSKURAMOS_ARCHIVE:-target/staticlib/liboskuramos.a}" target/native/liboskuramos.a
-        OSKURAMOS_ARCHIVE=target/native/liboskuramos.a link_c "$@"
-    else
-        [ -n "${OSKURAMOS_ARCHIVE-}" ] || compare/native || exit
-        link_by "${CC:-cc}" "${CARGO_TARGET_DIR:-compare/target}" "${OSKURAMOS_ARCHIVE:-target/native/liboskuramos.a}" "$@"
-    fi
-}
-
-# Runs the program that was linked for x86-64: with this machine's C library, or with the kit's where it is emulated.
-run_linked() {
-    find_launch
-    if [ "$(uname -m)" = x86_64 ]; then "$linked" "$@"; else "${launch[@]}" "$linked" "$@"; fi
+    [ -n "${OSKURAMOS_ARCHIVE-}" ] || tools/archive >&2 || die "the library could not be built"
+    mkdir -p out
+    aligned "${OSKURAMOS_ARCHIVE:-out/liboskuramos.a}" out/aligned.a
+    OSKURAMOS_ARCHIVE=out/aligned.a link_c "$@"
 }

@@ -1,5 +1,5 @@
 //! Finds liboskuramos.a and has it linked, or says why that can't be. It is looked for in the folder that OSKURAMOS_LIB_DIR names, else in the
-//! repository (where `rt staticlib oskuramos` writes it), else where pkg-config knows it (where `make install` has put it).
+//! repository (where `make` writes it, or tools/archive), else where pkg-config knows it (where `make install` has put it).
 
 use std::env;
 use std::fs;
@@ -37,7 +37,7 @@ fn find() -> Result<PathBuf, String> {
         return if archive.exists() { Ok(folder) } else { Err(format!("OSKURAMOS_LIB_DIR is set, and there is no {}", archive.display())) };
     }
     let crate_folder = PathBuf::from(env::var("CARGO_MANIFEST_DIR").unwrap());
-    let beside = crate_folder.parent().unwrap_or(&crate_folder).join("target/staticlib");
+    let beside = crate_folder.parent().unwrap_or(&crate_folder).join("out");
     let archive = beside.join(FILE);
     println!("cargo::rerun-if-changed={}", archive.display());
     if archive.exists() {
@@ -45,7 +45,7 @@ fn find() -> Result<PathBuf, String> {
     }
     installed().unwrap_or_else(|| {
         Err(format!(
-            "there is no {}, and pkg-config knows no oskuramos.\nRun `rt staticlib oskuramos` in the repository, or `make install` there, or name \
+            "there is no {}, and pkg-config knows no oskuramos.\nRun `make` in the repository, or `make install` there, or name \
              the folder that has {FILE} in OSKURAMOS_LIB_DIR",
             archive.display()
         ))

@@ -232,13 +232,10 @@ def damaged_text(rng, text):
 
 # ---- the programs
 def programs():
-    kit = os.path.dirname(os.path.dirname(subprocess.run(["rt", "doc"], stdout=subprocess.PIPE, text=True, check=True).stdout.strip()))
-    tools = os.path.join(kit, "on", os.uname().machine, "toolchain")
-    words = [os.path.join(tools, "lib/ld-linux-x86-64.so.2"), "--library-path", os.path.join(tools, "lib")]
-    emulator = os.path.join(tools, "bin/qemu-x86_64")
-    if os.access(emulator, os.X_OK):
-        words.insert(0, emulator)
-    return lambda name, data: subprocess.run(words + [os.path.join(ROOT, "target/bin", name)], input=data, stdout=subprocess.PIPE, check=True).stdout
+    kit = os.path.dirname(subprocess.run(["rt", "doc"], stdout=subprocess.PIPE, text=True, check=True).stdout.strip())
+    folder = os.path.join(kit, "toolchain/lib")
+    words = [os.path.join(folder, "ld-linux-x86-64.so.2"), "--library-path", folder]
+    return lambda name, data: subprocess.run(words + [os.path.join(ROOT, "crates", name, "out", name)], input=data, stdout=subprocess.PIPE, check=True).stdout
 
 
 def fail(number, what, **shown):
