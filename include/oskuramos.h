@@ -1,12 +1,7 @@
 /* Oskuramos: the reader of Access form design streams. A program for x86-64 Linux links it:
 
        cc panel.c $(pkg-config --cflags --libs oskuramos)                   where `make install` has put it
-       cc -Iinclude panel.c target/staticlib/liboskuramos.a                 in the repository, after `rt staticlib oskuramos`
-
-   On Arm the archive is the same. A cross compiler links it, and an emulator of x86-64 runs the program; the Rattle kit has one:
-
-       x86_64-linux-gnu-gcc panel.c $(pkg-config --cflags --libs oskuramos) -o panel
-       KIT/bin/qemu-x86_64 KIT/lib/ld-linux-x86-64.so.2 --library-path KIT/lib ./panel      where KIT is on/aarch64/toolchain of the kit
+       cc -Iinclude panel.c out/liboskuramos.a                              in the repository, after `make`
 
    Length. A slice is a pointer and, after it, a length that counts elements: bytes, or words of 32 bits.
    Ownership. A slice is lent for the call alone. Nothing is kept, allocated or freed, and no state is left between calls, so threads may call at
