@@ -5,32 +5,11 @@ use borrow.Author.Rules.{rules}
 use Rattle.blob.proofs.part_or.Statement.{statement}
 use Rattle.blob.proofs.part_or.Tie as tie
 
-slice-aggregate-result : tie.Need-slice_bounds-result-end
-slice-aggregate-result c = search rules
-
 returns : tie.Need-returns-then-s-start
 returns c = let a = c.args in (outside a.s.now a.start a.length (omega arith), outside_at a.s.now a.s.ref_ptr a.start a.length a.other.ref_ptr (omega arith))
 
-sub-if2 : tie.Need-overflow_sub-s
-sub-if2 c = search rules
-
-slice-aggregate-result-2 : tie.Need-slice_bounds-result-end-then-s-start-2
-slice-aggregate-result-2 c = search rules
-
 returns-2 : tie.Need-returns-then-s-start-2
 returns-2 c = let a = c.args in (outside a.s.now a.start a.length (omega arith), outside_at a.s.now a.s.ref_ptr a.start a.length a.other.ref_ptr (omega arith))
-
-add-result : tie.Need-overflow_add-result
-add-result c = search rules
-
-sub-result : tie.Need-slice_bounds-result-count
-sub-result c = search rules
-
-part-result-start : tie.Need-slice_bounds-result-start
-part-result-start c = search rules
-
-part-result-end : tie.Need-slice_bounds-result-end
-part-result-end c = search rules
 
 returns-3 : tie.Need-returns
 returns-3 c = let a = c.args in (inside a.s.now a.start a.length (omega arith), inside-at a.s.now a.s.ref_ptr a.start a.length a.other.ref_ptr (omega arith))
@@ -39,13 +18,13 @@ pub part_or_spec : {M : Type 1} → statement M
 part_or_spec =
     tie.close
     (tie.spec
-    slice-aggregate-result
+    (λ c. search rules)
     returns
-    sub-if2
-    slice-aggregate-result-2
+    (λ c. search rules)
+    (λ c. search rules)
     returns-2
-    add-result
-    sub-result
-    part-result-start
-    part-result-end
+    (λ c. search rules)
+    (λ c. search rules)
+    (λ c. search rules)
+    (λ c. search rules)
     returns-3)

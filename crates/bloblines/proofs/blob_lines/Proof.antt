@@ -29,7 +29,7 @@ returns c =
     let known : tie.After-struct_known-1 = search in
     let r = read_of known in
     let a = (start_of r).args in
-    blob-refused a.table.now a.stream.now a.controls-1.now a.properties-1.now _ _ _ r.read_blob-a.ensures
+    blob-refused a.table.now a.stream.now a.controls.now a.properties.now _ _ _ r.read_blob-a.ensures
     record {
       number = omega (arith, known.struct_known-1.given);
       first = omega (arith, known.struct_known-1.given);
@@ -47,7 +47,7 @@ returns-2 c =
     let known = known_of shown in
     let r = read_of known in
     let a = (start_of r).args in
-    blob-read a.table.now a.stream.now a.controls-1.now a.properties-1.now _ _ _ r.read_blob-a.ensures
+    blob-read a.table.now a.stream.now a.controls.now a.properties.now _ _ _ r.read_blob-a.ensures
     record {
       number = omega (arith, known.struct_known-1.given);
       first = omega (arith, known.struct_known-1.given);

@@ -36,19 +36,19 @@ returns-2 : tie.Need-returns-then-not-enough
 returns-2 c =
     let asked : tie.After-enough = search in
     let a = (start_of asked).args in
-    refused-exit a.table.now a.stream.now a.controls-1.now a.properties-1.now (needed asked) asked.enough.ensures (no _ c.if-not-enough.true-raw) _ c.read_blob.ensures
+    refused-exit a.table.now a.stream.now a.controls.now a.properties.now (needed asked) asked.enough.ensures (no _ c.if-not-enough.true-raw) _ c.read_blob.ensures
 
 text-fits-requires : tie.Need-text_fits-requires
 text-fits-requires c κs =
     let asked : tie.After-enough = search in
     let a = (start_of asked).args in
-    readable a.table.now a.stream.now a.controls-1.now a.properties-1.now (needed asked) asked.enough.ensures (yes _ c.if-not-enough.false-raw) (record { index_is = c.index-index.ensures; letters-are = c.letters-letters.ensures })
+    readable a.table.now a.stream.now a.controls.now a.properties.now (needed asked) asked.enough.ensures (yes _ c.if-not-enough.false-raw) (record { index_is = c.index-index.ensures; letters-are = c.letters-letters.ensures })
 
 returns-3 : tie.Need-returns-then-not-text_fits
 returns-3 c =
     let asked : tie.After-enough = search in
     let a = (start_of asked).args in
-    no-room-exit a.table.now a.stream.now a.controls-1.now a.properties-1.now (needed asked) asked.enough.ensures (yes _ c.if-not-enough.false-raw) c.text_fits.ensures (no _ c.if-not-text_fits.true-raw) c.refused.ensures
+    no-room-exit a.table.now a.stream.now a.controls.now a.properties.now (needed asked) asked.enough.ensures (yes _ c.if-not-enough.false-raw) c.text_fits.ensures (no _ c.if-not-text_fits.true-raw) c.refused.ensures
 
 write-all-requires-2 : tie.Need-write_all-requires-2
 write-all-requires-2 c κs =

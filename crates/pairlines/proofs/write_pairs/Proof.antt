@@ -16,7 +16,7 @@ returns c =
     let info : tie.After-value_bytes-info_stream = search in
     let layout = layout_of info in
     let a = (start_of layout).args in
-    input_written a.input.now a.infos-1.now a.controls-1.now a.properties-1.now layout.u32_at-layout.ensures c.u32_at-size.ensures info.value_bytes-info_stream.ensures c.behind-stream.ensures c.pair_lines.ensures
+    input_written a.input.now a.infos.now a.controls.now a.properties.now layout.u32_at-layout.ensures c.u32_at-size.ensures info.value_bytes-info_stream.ensures c.behind-stream.ensures c.pair_lines.ensures
 
 pub write_pairs_spec : {M : Type 1} → statement M
 write_pairs_spec =

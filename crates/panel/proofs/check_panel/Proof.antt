@@ -16,7 +16,7 @@ unfolding read_of start_of
 returns c =
     let r = read_of (let place : tie.After-struct_known-1 = search in place) in
     let a = (start_of r).args in
-    handed-on a.table.now a.stream.now a.controls-1.now a.properties-1.now _ _ _ r.read_blob-a.ensures (λ e. omega (arith, e))
+    handed-on a.table.now a.stream.now a.controls.now a.properties.now _ _ _ r.read_blob-a.ensures (λ e. omega (arith, e))
 
 judge-requires : tie.Need-judge-requires
 unfolding read_of start_of
@@ -24,7 +24,7 @@ judge-requires c κs =
     let known : tie.After-struct_known-1 = search in
     let r = read_of known in
     let a = (start_of r).args in (
-      rows_asked a.table.now a.stream.now a.controls-1.now a.properties-1.now _ _ _ r.read_blob-a.ensures (omega arith) (omega (arith, known.struct_known-1.given)),
+      rows_asked a.table.now a.stream.now a.controls.now a.properties.now _ _ _ r.read_blob-a.ensures (omega arith) (omega (arith, known.struct_known-1.given)),
       record { index_is = c.index-index.ensures; letters-are = c.letters-letters.ensures },
     )
 
@@ -33,7 +33,7 @@ unfolding read_of start_of
 returns-2 c =
     let r = read_of (let place : tie.After-struct_known-1 = search in place) in
     let a = (start_of r).args in
-    judged-on a.table.now a.stream.now a.controls-1.now a.properties-1.now _ _ _ r.read_blob-a.ensures (omega (arith, c.if-a-ne0.false)) _ c.judge.ensures
+    judged-on a.table.now a.stream.now a.controls.now a.properties.now _ _ _ r.read_blob-a.ensures (omega (arith, c.if-a-ne0.false)) _ c.judge.ensures
 
 pub check_panel_spec : {M : Type 1} → statement M
 check_panel_spec =

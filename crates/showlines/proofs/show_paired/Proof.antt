@@ -34,7 +34,7 @@ returns c =
     let put : tie.After-info_line = search in
     let a = (start_of info).args in
     wrote_as put.info_line.ensures
-    (info_refused a.table.now a.info.now a.stream.now a.infos-1.now a.controls-1.now a.properties-1.now info.read_type_info-i.ensures.0 info.read_type_info-i.ensures.1
+    (info_refused a.table.now a.info.now a.stream.now a.infos.now a.controls.now a.properties.now info.read_type_info-i.ensures.0 info.read_type_info-i.ensures.1
     (λ e. omega arith))
 
 -- ---- it is read
@@ -52,7 +52,7 @@ same-length-3 : tie.Need-shape_of-infos
 unfolding info_of else1-of layout_of later_of
 same-length-3 c =
     let paired : tie.After-pair = search in
-    (info_of (else1-of (layout_of (later_of paired)))).read_type_info-i.auto.1.0
+    (info_of (else1-of (layout_of (later_of paired)))).read_type_info-i.auto.rows
 
 returns-2 : tie.Need-returns
 unfolding start_of info_of else1-of layout_of later_of
@@ -64,7 +64,7 @@ returns-2 c =
     let info = info_of else1 in
     let a = (start_of info).args in
     wrote_as c.put_read.ensures
-    (paired-shown a.table.now a.info.now a.stream.now a.infos-1.now a.controls-1.now a.properties-1.now info.read_type_info-i.ensures.0 info.read_type_info-i.ensures.1
+    (paired-shown a.table.now a.info.now a.stream.now a.infos.now a.controls.now a.properties.now info.read_type_info-i.ensures.0 info.read_type_info-i.ensures.1
     (omega (arith, else1.if-i-ne-READ.false)) layout.layout-layout.ensures later.read_later-a.ensures paired.pair.ensures.1)
 
 pub show_paired_spec : {M : Type 1} → statement M

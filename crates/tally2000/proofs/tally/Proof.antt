@@ -18,7 +18,7 @@ returns : tie.Need-returns-in_default
 returns c =
     let counted : tie.After-count = search in
     let a = (start_of counted).args in
-    tally_bad a.table.now a.stream.now counted.count.ensures a.control-room a.property-room a.words-1.now c.in_default.is c.counted.ensures
+    tally_bad a.table.now a.stream.now counted.count.ensures a.control_room a.property_room a.words.now c.in_default.is c.counted.ensures
 
 judge-requires : tie.Need-judge-a-requires
 judge-requires c κs =
@@ -33,7 +33,7 @@ returns-2 c =
     let all = all_of judged in
     let counted = counted_of all in
     let a = (start_of counted).args in
-    tally-refused a.table.now a.stream.now counted.count.ensures all.in-Of.is a.control-room a.property-room judged.judge-a.ensures a.words-1.now c.if-a-ne0.true
+    tally-refused a.table.now a.stream.now counted.count.ensures all.in-Of.is a.control_room a.property_room judged.judge-a.ensures a.words.now c.if-a-ne0.true
 
 count-stream-requires : tie.Need-count_stream-requires
 count-stream-requires c κs =

@@ -13,21 +13,21 @@ unfolding laid
 add-all-requires c κs =
     let a = c.args in
     let p : length a.old.answers ≡ 6 = search rules in
-    (p ∙ sym (part-many a.words.now 0 6 c.requires.0 (omega arith)), (fit_parts a.old (laid a.words.now) c.requires.1).answers-1)
+    (p ∙ sym (part-many a.words.now 0 6 c.requires.0 (omega arith)), (fit_parts a.old (laid a.words.now) c.requires.1).answers)
 
 add-all-requires-2 : tie.Need-add_all-requires-2
 unfolding laid
 add-all-requires-2 c κs =
     let a = c.args in
     let p : length a.old.types ≡ 31 = search rules in
-    (p ∙ sym (part-many a.words.now 6 31 c.requires.0 (omega arith)), (fit_parts a.old (laid a.words.now) c.requires.1).types-1)
+    (p ∙ sym (part-many a.words.now 6 31 c.requires.0 (omega arith)), (fit_parts a.old (laid a.words.now) c.requires.1).types)
 
 add-all-requires-3 : tie.Need-add_all-requires-3
 unfolding laid
 add-all-requires-3 c κs =
     let a = c.args in
     let p : length a.old.marks ≡ 9 = search rules in
-    (p ∙ sym (part-many a.words.now 39 9 c.requires.0 (omega arith)), (fit_parts a.old (laid a.words.now) c.requires.1).marks-1)
+    (p ∙ sym (part-many a.words.now 39 9 c.requires.0 (omega arith)), (fit_parts a.old (laid a.words.now) c.requires.1).marks)
 
 add-t27 : tie.Need-overflow_add-result
 unfolding laid
