@@ -100,14 +100,14 @@ same-length-7 : tie.Need-shape_of-infos
 unfolding info_of known_of else1-of later_of known2-of pair_of
 same-length-7 c =
     let shown : tie.After-lines-p = search in
-    (info_of (known_of (else1-of (later_of (known2-of (pair_of shown)))))).read_type_info-t.auto.1.0
+    (info_of (known_of (else1-of (later_of (known2-of (pair_of shown)))))).read_type_info-t.auto.rows
 
 same-length-8 : tie.Need-shape_of-controls
 unfolding later_of known2-of pair_of
 same-length-8 c =
     let shown : tie.After-lines-p = search in
     let paired = pair_of shown in
-    paired.pair.auto.1.0 ∙ (later_of (known2-of paired)).read_later-a.auto.1.1.0
+    paired.pair.auto.controls ∙ (later_of (known2-of paired)).read_later-a.auto.controls
 
 same-length-9 : tie.Need-shape_of-properties
 unfolding later_of known2-of pair_of
@@ -121,7 +121,7 @@ unfolding known_of else1-of later_of known2-of pair_of answered-of answered2-of
 same-length-10 c =
     let shown : tie.After-lines-p = search in
     let known2 = known2-of (pair_of shown) in
-    c.unpaired_lines.auto.0 ∙ shown.lines-p.auto.1.0 ∙ (answered2-of known2).answer_line-p-2.auto.0 ∙ (answered-of (known_of (else1-of (later_of known2)))).answer_line-p.auto.0
+    c.unpaired_lines.auto.out ∙ shown.lines-p.auto.out ∙ (answered2-of known2).answer_line-p-2.auto.out ∙ (answered-of (known_of (else1-of (later_of known2)))).answer_line-p.auto.out
 
 returns-3 : tie.Need-returns
 unfolding start_of info_of answered-of known_of else1-of later_of answered2-of known2-of else2-of pair_of paired-of
