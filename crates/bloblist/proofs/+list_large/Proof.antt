@@ -22,14 +22,14 @@ use Rattle.bloblist.proofs.+list_large.{statement}
 use Rattle.bloblist.proofs.+list_large.Tie.{close}
 
 -- it calls itself with `more` alone
-abbrev μ-list-large : Measures 1 list-large-kinds.ps ℕ
-μ-list-large κs a = cond a.1.0 0 1
+abbrev μ-list-large : Measures 2 list-large-kinds.ps ℕ
+μ-list-large κs a = cond a.1.1.0 0 1
 
-abbrev list-large-at : ℕ → In 1 list-large-kinds.ps
-list-large-at t = and 1 list-large-kinds.ps (is 1 list-large-kinds.ps μ-list-large t) list-large.Pre
+abbrev list-large-at : ℕ → In 2 list-large-kinds.ps
+list-large-at t = and 2 list-large-kinds.ps (is 2 list-large-kinds.ps μ-list-large t) list-large.Pre
 
-abbrev list-large-below : ℕ → In 1 list-large-kinds.ps
-list-large-below t = and 1 list-large-kinds.ps (falls 1 list-large-kinds.ps ◌<◌ μ-list-large t) list-large.Pre
+abbrev list-large-below : ℕ → In 2 list-large-kinds.ps
+list-large-below t = and 2 list-large-kinds.ps (falls 2 list-large-kinds.ps ◌<◌ μ-list-large t) list-large.Pre
 
 -- what each function called asks and tells
 abbrev list-large-calls : ℕ → list-large-lts.Claims
@@ -62,7 +62,7 @@ module _ (t : ℕ) where
   slice-aggregate-again c =
       let filled : list-large-lts.After-fill-size (list-large-calls t) (list-large-at t) list-large.Post = search in
       let space : list-large-lts.After-large_input-space (list-large-calls t) (list-large-at t) list-large.Post = search in
-      space.large_input-space.ensures ∙ sym filled.fill-size.auto.0
+      space.large_input-space.ensures ∙ sym filled.fill-size.auto.space
 
   again-requires : list-large-lts.Need-list_large-requires (list-large-calls t) (list-large-at t) list-large.Post
   again-requires c κs =
@@ -70,15 +70,15 @@ module _ (t : ℕ) where
       let space : list-large-lts.After-large_input-space (list-large-calls t) (list-large-at t) list-large.Post = search in
       let first : list-large-lts.Else-more (list-large-calls t) (list-large-at t) list-large.Post = search in
       let start : list-large-lts.Start (list-large-calls t) (list-large-at t) list-large.Post = search in
-      (once start.args.more start.requires.0 first.if-more.false, λ _. omega (arith, space.large_input-space.ensures, filled.fill-size.auto.0))
+      (once start.args.more start.requires.0 first.if-more.false, λ _. omega (arith, space.large_input-space.ensures, filled.fill-size.auto.space))
 
   array-share-prefix-space : list-large-lts.Need-slice_bounds-space-end (list-large-calls t) (list-large-at t) list-large.Post
-  array-share-prefix-space c = let f = c.fill-size in inside f.ensures f.auto.0
+  array-share-prefix-space c = let f = c.fill-size in inside f.ensures f.auto.space
 
   slice-aggregate-list : list-large-lts.Need-slice_bounds-list-end (list-large-calls t) (list-large-at t) list-large.Post
   slice-aggregate-list c =
       let filled : list-large-lts.After-fill-size (list-large-calls t) (list-large-at t) list-large.Post = search in
-      part-size filled.fill-size.ensures filled.fill-size.auto.0
+      part-size filled.fill-size.ensures filled.fill-size.auto.space
 
   list-requires : list-large-lts.Need-list-requires (list-large-calls t) (list-large-at t) list-large.Post
   list-requires c κs =
@@ -87,7 +87,7 @@ module _ (t : ℕ) where
       let properties : list-large-lts.After-large_properties-properties (list-large-calls t) (list-large-at t) list-large.Post = search in
       let controls : list-large-lts.After-large_controls-controls (list-large-calls t) (list-large-at t) list-large.Post = search in
       let space : list-large-lts.After-large_input-space (list-large-calls t) (list-large-at t) list-large.Post = search in
-      large_roomy (part-short filled.fill-size.ensures filled.fill-size.auto.0 space.large_input-space.ensures) (sym controls.large_controls-controls.ensures) (sym properties.large_properties-properties.ensures) (omega (arith, lines.large_lines-out.ensures))
+      large_roomy (part-short filled.fill-size.ensures filled.fill-size.auto.space space.large_input-space.ensures) (sym controls.large_controls-controls.ensures) (sym properties.large_properties-properties.ensures) (omega (arith, lines.large_lines-out.ensures))
 
 pub +list_large_spec : {M : Type 1} → statement M
 +list_large_spec = close μ-list-large λ t. list-large-lts.spec (list-large-calls t)

@@ -19,14 +19,14 @@ use Rattle.csvout.proofs.+put_large.{statement}
 use Rattle.csvout.proofs.+put_large.Tie.{close}
 
 -- it calls itself with `more` alone
-abbrev μ-put-large : Measures 1 put-large-kinds.ps ℕ
-μ-put-large κs a = cond a.1.0 0 1
+abbrev μ-put-large : Measures 2 put-large-kinds.ps ℕ
+μ-put-large κs a = cond a.1.1.0 0 1
 
-abbrev put-large-at : ℕ → In 1 put-large-kinds.ps
-put-large-at t = and 1 put-large-kinds.ps (is 1 put-large-kinds.ps μ-put-large t) put-large.Pre
+abbrev put-large-at : ℕ → In 2 put-large-kinds.ps
+put-large-at t = and 2 put-large-kinds.ps (is 2 put-large-kinds.ps μ-put-large t) put-large.Pre
 
-abbrev put-large-below : ℕ → In 1 put-large-kinds.ps
-put-large-below t = and 1 put-large-kinds.ps (falls 1 put-large-kinds.ps ◌<◌ μ-put-large t) put-large.Pre
+abbrev put-large-below : ℕ → In 2 put-large-kinds.ps
+put-large-below t = and 2 put-large-kinds.ps (falls 2 put-large-kinds.ps ◌<◌ μ-put-large t) put-large.Pre
 
 -- what each function called asks and tells
 abbrev put-large-calls : ℕ → put-large-lts.Claims
@@ -53,7 +53,7 @@ module _ (t : ℕ) where
   slice-aggregate-again c =
       let filled : put-large-lts.After-fill-size (put-large-calls t) (put-large-at t) put-large.Post = search in
       let space : put-large-lts.After-large_input-space (put-large-calls t) (put-large-at t) put-large.Post = search in
-      space.large_input-space.ensures ∙ sym filled.fill-size.auto.0
+      space.large_input-space.ensures ∙ sym filled.fill-size.auto.space
 
   again-requires : put-large-lts.Need-put_large-requires (put-large-calls t) (put-large-at t) put-large.Post
   again-requires c κs =
@@ -61,21 +61,21 @@ module _ (t : ℕ) where
       let space : put-large-lts.After-large_input-space (put-large-calls t) (put-large-at t) put-large.Post = search in
       let first : put-large-lts.Else-more (put-large-calls t) (put-large-at t) put-large.Post = search in
       let start : put-large-lts.Start (put-large-calls t) (put-large-at t) put-large.Post = search in
-      (once start.args.more start.requires.0 first.if-more.false, λ _. omega (arith, space.large_input-space.ensures, filled.fill-size.auto.0))
+      (once start.args.more start.requires.0 first.if-more.false, λ _. omega (arith, space.large_input-space.ensures, filled.fill-size.auto.space))
 
   array-share-prefix-space : put-large-lts.Need-slice_bounds-space-end (put-large-calls t) (put-large-at t) put-large.Post
-  array-share-prefix-space c = let f = c.fill-size in inside f.ensures f.auto.0
+  array-share-prefix-space c = let f = c.fill-size in inside f.ensures f.auto.space
 
   slice-aggregate-put : put-large-lts.Need-slice_bounds-put-end (put-large-calls t) (put-large-at t) put-large.Post
   slice-aggregate-put c =
       let filled : put-large-lts.After-fill-size (put-large-calls t) (put-large-at t) put-large.Post = search in
-      part-size filled.fill-size.ensures filled.fill-size.auto.0
+      part-size filled.fill-size.ensures filled.fill-size.auto.space
 
   put-requires : put-large-lts.Need-put-requires (put-large-calls t) (put-large-at t) put-large.Post
   put-requires c κs =
       let filled : put-large-lts.After-fill-size (put-large-calls t) (put-large-at t) put-large.Post = search in
       let space : put-large-lts.After-large_input-space (put-large-calls t) (put-large-at t) put-large.Post = search in
-      part-short filled.fill-size.ensures filled.fill-size.auto.0 space.large_input-space.ensures
+      part-short filled.fill-size.ensures filled.fill-size.auto.space space.large_input-space.ensures
 
 pub +put_large_spec : {M : Type 1} → statement M
 +put_large_spec = close μ-put-large λ t. put-large-lts.spec (put-large-calls t)

@@ -20,14 +20,14 @@ use Rattle.difflist.proofs.+list_large.{statement}
 use Rattle.difflist.proofs.+list_large.Tie.{close}
 
 -- it calls itself with `whole` alone
-abbrev μ-list-large : Measures 1 list-large-kinds.ps ℕ
-μ-list-large κs a = cond a.1.0 0 1
+abbrev μ-list-large : Measures 2 list-large-kinds.ps ℕ
+μ-list-large κs a = cond a.1.1.0 0 1
 
-abbrev list-large-at : ℕ → In 1 list-large-kinds.ps
-list-large-at t = and 1 list-large-kinds.ps (is 1 list-large-kinds.ps μ-list-large t) list-large.Pre
+abbrev list-large-at : ℕ → In 2 list-large-kinds.ps
+list-large-at t = and 2 list-large-kinds.ps (is 2 list-large-kinds.ps μ-list-large t) list-large.Pre
 
-abbrev list-large-below : ℕ → In 1 list-large-kinds.ps
-list-large-below t = and 1 list-large-kinds.ps (falls 1 list-large-kinds.ps ◌<◌ μ-list-large t) list-large.Pre
+abbrev list-large-below : ℕ → In 2 list-large-kinds.ps
+list-large-below t = and 2 list-large-kinds.ps (falls 2 list-large-kinds.ps ◌<◌ μ-list-large t) list-large.Pre
 
 -- what each function called asks and tells
 abbrev list-large-calls : ℕ → list-large-lts.Claims
@@ -63,12 +63,12 @@ module _ (t : ℕ) where
   array-share-prefix-space : list-large-lts.Need-slice_bounds-space-end (list-large-calls t) (list-large-at t) list-large.Post
   array-share-prefix-space c =
       let filled : list-large-lts.After-fill-size (list-large-calls t) (list-large-at t) list-large.Post = search in
-      inside filled.fill-size.ensures filled.fill-size.auto.0
+      inside filled.fill-size.ensures filled.fill-size.auto.space
 
   slice-aggregate-again : list-large-lts.Need-slice_bounds-list_large-end (list-large-calls t) (list-large-at t) list-large.Post
   slice-aggregate-again c =
       let filled : list-large-lts.After-fill-size (list-large-calls t) (list-large-at t) list-large.Post = search in
-      part-size filled.fill-size.ensures filled.fill-size.auto.0
+      part-size filled.fill-size.ensures filled.fill-size.auto.space
 
   again-requires : list-large-lts.Need-list_large-requires (list-large-calls t) (list-large-at t) list-large.Post
   again-requires c κs =
@@ -78,7 +78,7 @@ module _ (t : ℕ) where
       let start : list-large-lts.Start (list-large-calls t) (list-large-at t) list-large.Post = search in
       let f = filled.fill-size in (
         once start.args.whole start.requires.0 first.if-whole.false,
-        (omega (arith, part-size f.ensures f.kept.0, f.ensures.after (omega (arith, space.large_input-space.ensures, start.requires.1.1)), start.requires.1.0), part-short f.ensures f.kept.0 space.large_input-space.ensures),
+        (omega (arith, part-size f.ensures f.auto.space, f.ensures.after (omega (arith, space.large_input-space.ensures, start.requires.1.1)), start.requires.1.0), part-short f.ensures f.auto.space space.large_input-space.ensures),
       )
 
 pub +list_large_spec : {M : Type 1} → statement M

@@ -8,7 +8,7 @@ use Rattle.difflist.proofs.main.Tie as tie
 list-large-requires : tie.Need-list_large-requires
 list-large-requires c κs =
     let l = length-replicate {A = ℕ} 16384 0 in
-    (omega (arith, c.read_full-size.auto.1.0, l), omega (arith, c.read_full-size.auto.1.0, l))
+    (omega (arith, c.read_full-size.auto.buf, l), omega (arith, c.read_full-size.auto.buf, l))
 
 pub main_spec : {M : Type 1} → statement M
 main_spec =

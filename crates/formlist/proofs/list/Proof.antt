@@ -17,7 +17,7 @@ print-requires : tie.Need-print-requires
 print-requires c κs =
     let room = c.requires.1 in
     let r = c.read_full-size in
-    all-printed c.write_form_listing-end.ensures room.for_lines λ e. omega (arith, c.has_more-more.ensures e, r.ensures.1, r.kept, room.for_input)
+    all-printed c.write_form_listing-end.ensures room.for_lines λ e. omega (arith, c.has_more-more.ensures e, r.ensures.1, r.auto, room.for_input)
 
 pub list_spec : {M : Type 1} → statement M
 list_spec =

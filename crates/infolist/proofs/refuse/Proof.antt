@@ -15,7 +15,7 @@ refuse_spec =
     tie.close
     (tie.spec
     (λ c. search rules) (λ c κs. search rules)
-    (λ c. let w = c.refusal_line-end in omega (arith, within w.ensures, w.auto.0, length-replicate {A = ℕ} 64 0))
+    (λ c. let w = c.refusal_line-end in omega (arith, within w.ensures, w.auto.out, length-replicate {A = ℕ} 64 0))
     (λ c. sym (length-take-le _ _ (within c.refusal_line-end.ensures)))
     (λ c κs. let start : tie.Start = search in refusal-printed too_long c.refusal_line-end.ensures (simp length-replicate (omega arith)) start.requires)
     (λ c. search rules))

@@ -18,14 +18,14 @@ use Rattle.panelsay.proofs.+judge_large.{statement}
 use Rattle.panelsay.proofs.+judge_large.Tie.{close}
 
 -- it calls itself with `whole` alone
-abbrev μ-judge-large : Measures 1 judge-large-kinds.ps ℕ
-μ-judge-large κs a = cond a.1.0 0 1
+abbrev μ-judge-large : Measures 2 judge-large-kinds.ps ℕ
+μ-judge-large κs a = cond a.1.1.0 0 1
 
-abbrev judge-large-at : ℕ → In 1 judge-large-kinds.ps
-judge-large-at t = and 1 judge-large-kinds.ps (is 1 judge-large-kinds.ps μ-judge-large t) judge-large.Pre
+abbrev judge-large-at : ℕ → In 2 judge-large-kinds.ps
+judge-large-at t = and 2 judge-large-kinds.ps (is 2 judge-large-kinds.ps μ-judge-large t) judge-large.Pre
 
-abbrev judge-large-below : ℕ → In 1 judge-large-kinds.ps
-judge-large-below t = and 1 judge-large-kinds.ps (falls 1 judge-large-kinds.ps ◌<◌ μ-judge-large t) judge-large.Pre
+abbrev judge-large-below : ℕ → In 2 judge-large-kinds.ps
+judge-large-below t = and 2 judge-large-kinds.ps (falls 2 judge-large-kinds.ps ◌<◌ μ-judge-large t) judge-large.Pre
 
 -- what each function called asks and tells
 abbrev judge-large-calls : ℕ → judge-large-lts.Claims
@@ -55,12 +55,12 @@ module _ (t : ℕ) where
   array-share-prefix-space : judge-large-lts.Need-slice_bounds-space-end (judge-large-calls t) (judge-large-at t) judge-large.Post
   array-share-prefix-space c =
       let filled : judge-large-lts.After-fill-size (judge-large-calls t) (judge-large-at t) judge-large.Post = search in
-      inside filled.fill-size.ensures filled.fill-size.auto.0
+      inside filled.fill-size.ensures filled.fill-size.auto.space
 
   slice-aggregate-again : judge-large-lts.Need-slice_bounds-judge_large-end (judge-large-calls t) (judge-large-at t) judge-large.Post
   slice-aggregate-again c =
       let filled : judge-large-lts.After-fill-size (judge-large-calls t) (judge-large-at t) judge-large.Post = search in
-      part-size filled.fill-size.ensures filled.fill-size.auto.0
+      part-size filled.fill-size.ensures filled.fill-size.auto.space
 
   again-requires : judge-large-lts.Need-judge_large-requires (judge-large-calls t) (judge-large-at t) judge-large.Post
   again-requires c κs =
@@ -70,7 +70,7 @@ module _ (t : ℕ) where
       let start : judge-large-lts.Start (judge-large-calls t) (judge-large-at t) judge-large.Post = search in
       let f = filled.fill-size in (
         once start.args.whole start.requires.0 first.if-whole.false,
-        (omega (arith, part-size f.ensures f.kept.0, f.ensures.after (omega (arith, space.large_input-space.ensures, start.requires.1.1)), start.requires.1.0), part-short f.ensures f.kept.0 space.large_input-space.ensures),
+        (omega (arith, part-size f.ensures f.auto.space, f.ensures.after (omega (arith, space.large_input-space.ensures, start.requires.1.1)), start.requires.1.0), part-short f.ensures f.auto.space space.large_input-space.ensures),
       )
 
 pub +judge_large_spec : {M : Type 1} → statement M

@@ -8,7 +8,7 @@ use Rattle.panelsay.proofs.main.Tie as tie
 judge-large-requires : tie.Need-judge_large-requires
 judge-large-requires c κs =
     let l = length-replicate {A = ℕ} 16384 0 in
-    (omega (arith, c.read_full-size.auto.1.0, l), omega (arith, c.read_full-size.auto.1.0, l))
+    (omega (arith, c.read_full-size.auto.buf, l), omega (arith, c.read_full-size.auto.buf, l))
 
 pub main_spec : {M : Type 1} → statement M
 main_spec =

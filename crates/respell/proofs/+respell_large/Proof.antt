@@ -18,14 +18,14 @@ use Rattle.respell.proofs.+respell_large.{statement}
 use Rattle.respell.proofs.+respell_large.Tie.{close}
 
 -- it calls itself with `more` alone
-abbrev μ-respell-large : Measures 1 respell-large-kinds.ps ℕ
-μ-respell-large κs a = cond a.1.0 0 1
+abbrev μ-respell-large : Measures 2 respell-large-kinds.ps ℕ
+μ-respell-large κs a = cond a.1.1.0 0 1
 
-abbrev respell-large-at : ℕ → In 1 respell-large-kinds.ps
-respell-large-at t = and 1 respell-large-kinds.ps (is 1 respell-large-kinds.ps μ-respell-large t) respell-large.Pre
+abbrev respell-large-at : ℕ → In 2 respell-large-kinds.ps
+respell-large-at t = and 2 respell-large-kinds.ps (is 2 respell-large-kinds.ps μ-respell-large t) respell-large.Pre
 
-abbrev respell-large-below : ℕ → In 1 respell-large-kinds.ps
-respell-large-below t = and 1 respell-large-kinds.ps (falls 1 respell-large-kinds.ps ◌<◌ μ-respell-large t) respell-large.Pre
+abbrev respell-large-below : ℕ → In 2 respell-large-kinds.ps
+respell-large-below t = and 2 respell-large-kinds.ps (falls 2 respell-large-kinds.ps ◌<◌ μ-respell-large t) respell-large.Pre
 
 -- what each function called asks and tells
 abbrev respell-large-calls : ℕ → respell-large-lts.Claims
@@ -52,7 +52,7 @@ module _ (t : ℕ) where
   slice-aggregate-again c =
       let filled : respell-large-lts.After-fill-size (respell-large-calls t) (respell-large-at t) respell-large.Post = search in
       let space : respell-large-lts.After-large_stream-space (respell-large-calls t) (respell-large-at t) respell-large.Post = search in
-      space.large_stream-space.ensures ∙ sym filled.fill-size.auto.0
+      space.large_stream-space.ensures ∙ sym filled.fill-size.auto.space
 
   again-requires : respell-large-lts.Need-respell_large-requires (respell-large-calls t) (respell-large-at t) respell-large.Post
   again-requires c κs =
@@ -60,22 +60,22 @@ module _ (t : ℕ) where
       let space : respell-large-lts.After-large_stream-space (respell-large-calls t) (respell-large-at t) respell-large.Post = search in
       let first : respell-large-lts.Else-more (respell-large-calls t) (respell-large-at t) respell-large.Post = search in
       let start : respell-large-lts.Start (respell-large-calls t) (respell-large-at t) respell-large.Post = search in
-      (once start.args.more start.requires.0 first.if-more.false, λ _. omega (arith, space.large_stream-space.ensures, filled.fill-size.auto.0))
+      (once start.args.more start.requires.0 first.if-more.false, λ _. omega (arith, space.large_stream-space.ensures, filled.fill-size.auto.space))
 
   array-share-prefix-space : respell-large-lts.Need-slice_bounds-space-end (respell-large-calls t) (respell-large-at t) respell-large.Post
-  array-share-prefix-space c = let f = c.fill-size in inside f.ensures f.auto.0
+  array-share-prefix-space c = let f = c.fill-size in inside f.ensures f.auto.space
 
   slice-aggregate-respell : respell-large-lts.Need-slice_bounds-respell-end (respell-large-calls t) (respell-large-at t) respell-large.Post
   slice-aggregate-respell c =
       let filled : respell-large-lts.After-fill-size (respell-large-calls t) (respell-large-at t) respell-large.Post = search in
-      part-size filled.fill-size.ensures filled.fill-size.auto.0
+      part-size filled.fill-size.ensures filled.fill-size.auto.space
 
   respell-requires : respell-large-lts.Need-respell-requires (respell-large-calls t) (respell-large-at t) respell-large.Post
   respell-requires c κs =
       let filled : respell-large-lts.After-fill-size (respell-large-calls t) (respell-large-at t) respell-large.Post = search in
       let out : respell-large-lts.After-large_stream-out (respell-large-calls t) (respell-large-at t) respell-large.Post = search in
       let space : respell-large-lts.After-large_stream-space (respell-large-calls t) (respell-large-at t) respell-large.Post = search in
-      omega (arith, out.large_stream-out.ensures, part-short filled.fill-size.ensures filled.fill-size.auto.0 space.large_stream-space.ensures)
+      omega (arith, out.large_stream-out.ensures, part-short filled.fill-size.ensures filled.fill-size.auto.space space.large_stream-space.ensures)
 
 pub +respell_large_spec : {M : Type 1} → statement M
 +respell_large_spec = close μ-respell-large λ t. respell-large-lts.spec (respell-large-calls t)

@@ -12,7 +12,7 @@ use Rattle.respell.proofs.refuse.Tie as tie
 array-share-prefix-line : tie.Need-slice_bounds-line-end
 array-share-prefix-line c =
     let w = c.refusal_line-end in
-    omega (arith, within w.ensures, w.kept.0, length-replicate {A = ℕ} 64 0)
+    omega (arith, within w.ensures, w.auto.out, length-replicate {A = ℕ} 64 0)
 
 slice-aggregate-print : tie.Need-slice_bounds-print-end
 slice-aggregate-print c =

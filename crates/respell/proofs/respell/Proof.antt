@@ -13,7 +13,7 @@ use Rattle.respell.proofs.respell.Tie as tie
 array-share-prefix-line : tie.Need-slice_bounds-line-end
 array-share-prefix-line c =
     let w = c.answer_line-end in
-    omega (arith, within w.ensures, w.kept.0, length-replicate {A = ℕ} 64 0)
+    omega (arith, within w.ensures, w.auto.out, length-replicate {A = ℕ} 64 0)
 
 slice-aggregate-print : tie.Need-slice_bounds-print-end
 slice-aggregate-print c =
@@ -22,7 +22,7 @@ slice-aggregate-print c =
 slice-reshare-prefix-print : tie.Need-slice_bounds-print-end-2
 slice-reshare-prefix-print c =
     let w = c.rewrite-a in
-    omega (arith, first_fits _ _ w.ensures.0, w.kept)
+    omega (arith, first_fits _ _ w.ensures.0, w.auto)
 
 slice-aggregate-print-2 : tie.Need-slice_bounds-print-end-3
 slice-aggregate-print-2 c = sym (length-take-le _ _ (slice-reshare-prefix-print c.before))

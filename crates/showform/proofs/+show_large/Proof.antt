@@ -16,14 +16,14 @@ use Rattle.showform.proofs.+show_large.{statement}
 use Rattle.showform.proofs.+show_large.Tie.{close}
 
 -- it calls itself with `whole` alone
-abbrev μ-show-large : Measures 1 show-large-kinds.ps ℕ
-μ-show-large κs a = cond a.1.0 0 1
+abbrev μ-show-large : Measures 2 show-large-kinds.ps ℕ
+μ-show-large κs a = cond a.1.1.0 0 1
 
-abbrev show-large-at : ℕ → In 1 show-large-kinds.ps
-show-large-at t = and 1 show-large-kinds.ps (is 1 show-large-kinds.ps μ-show-large t) show-large.Pre
+abbrev show-large-at : ℕ → In 2 show-large-kinds.ps
+show-large-at t = and 2 show-large-kinds.ps (is 2 show-large-kinds.ps μ-show-large t) show-large.Pre
 
-abbrev show-large-below : ℕ → In 1 show-large-kinds.ps
-show-large-below t = and 1 show-large-kinds.ps (falls 1 show-large-kinds.ps ◌<◌ μ-show-large t) show-large.Pre
+abbrev show-large-below : ℕ → In 2 show-large-kinds.ps
+show-large-below t = and 2 show-large-kinds.ps (falls 2 show-large-kinds.ps ◌<◌ μ-show-large t) show-large.Pre
 
 -- what each function called asks and tells
 abbrev show-large-calls : ℕ → show-large-lts.Claims
@@ -52,12 +52,12 @@ module _ (t : ℕ) where
   array-share-prefix-space : show-large-lts.Need-slice_bounds-space-end (show-large-calls t) (show-large-at t) show-large.Post
   array-share-prefix-space c =
       let filled : show-large-lts.After-fill-size (show-large-calls t) (show-large-at t) show-large.Post = search in
-      inside filled.fill-size.ensures filled.fill-size.auto.0
+      inside filled.fill-size.ensures filled.fill-size.auto.space
 
   slice-aggregate-again : show-large-lts.Need-slice_bounds-show_large-end (show-large-calls t) (show-large-at t) show-large.Post
   slice-aggregate-again c =
       let filled : show-large-lts.After-fill-size (show-large-calls t) (show-large-at t) show-large.Post = search in
-      part-size filled.fill-size.ensures filled.fill-size.auto.0
+      part-size filled.fill-size.ensures filled.fill-size.auto.space
 
   again-requires : show-large-lts.Need-show_large-requires (show-large-calls t) (show-large-at t) show-large.Post
   again-requires c κs =
@@ -65,7 +65,7 @@ module _ (t : ℕ) where
       let space : show-large-lts.After-large_input-space (show-large-calls t) (show-large-at t) show-large.Post = search in
       let first : show-large-lts.Else-whole (show-large-calls t) (show-large-at t) show-large.Post = search in
       let start : show-large-lts.Start (show-large-calls t) (show-large-at t) show-large.Post = search in
-      (once start.args.whole start.requires.0 first.if-whole.false, part-short filled.fill-size.ensures filled.fill-size.auto.0 space.large_input-space.ensures)
+      (once start.args.whole start.requires.0 first.if-whole.false, part-short filled.fill-size.ensures filled.fill-size.auto.space space.large_input-space.ensures)
 
 pub +show_large_spec : {M : Type 1} → statement M
 +show_large_spec = close μ-show-large λ t. show-large-lts.spec (show-large-calls t)

@@ -22,7 +22,7 @@ unfolding room
 array-share-prefix-table c =
     let a = c.args in
     let j = c.join-a in
-    omega (arith, first_fits a.one.now a.other.now j.ensures.0 (omega (arith, c.if-a-ne0.false)), j.kept, length-replicate {A = ℕ} 65100 0)
+    omega (arith, first_fits a.one.now a.other.now j.ensures.0 (omega (arith, c.if-a-ne0.false)), j.auto, length-replicate {A = ℕ} 65100 0)
 
 slice-aggregate-put-text : tie.Need-slice_bounds-put_text-end
 slice-aggregate-put-text c =

@@ -14,14 +14,14 @@ use Rattle.totalling.proofs.+count_large.{statement}
 use Rattle.totalling.proofs.+count_large.Tie.{close}
 
 -- it calls itself with `whole` alone
-abbrev μ-count-large : Measures 1 count-large-kinds.ps ℕ
-μ-count-large κs a = cond a.1.0 0 1
+abbrev μ-count-large : Measures 2 count-large-kinds.ps ℕ
+μ-count-large κs a = cond a.1.1.0 0 1
 
-abbrev count-large-at : ℕ → In 1 count-large-kinds.ps
-count-large-at t = and 1 count-large-kinds.ps (is 1 count-large-kinds.ps μ-count-large t) count-large.Pre
+abbrev count-large-at : ℕ → In 2 count-large-kinds.ps
+count-large-at t = and 2 count-large-kinds.ps (is 2 count-large-kinds.ps μ-count-large t) count-large.Pre
 
-abbrev count-large-below : ℕ → In 1 count-large-kinds.ps
-count-large-below t = and 1 count-large-kinds.ps (falls 1 count-large-kinds.ps ◌<◌ μ-count-large t) count-large.Pre
+abbrev count-large-below : ℕ → In 2 count-large-kinds.ps
+count-large-below t = and 2 count-large-kinds.ps (falls 2 count-large-kinds.ps ◌<◌ μ-count-large t) count-large.Pre
 
 -- what each function called asks and tells
 abbrev count-large-calls : ℕ → count-large-lts.Claims
@@ -43,12 +43,12 @@ module _ (t : ℕ) where
   array-share-prefix-space : count-large-lts.Need-slice_bounds-space-end (count-large-calls t) (count-large-at t) count-large.Post
   array-share-prefix-space c =
       let filled : count-large-lts.After-fill-size (count-large-calls t) (count-large-at t) count-large.Post = search in
-      inside filled.fill-size.ensures filled.fill-size.auto.0
+      inside filled.fill-size.ensures filled.fill-size.auto.space
 
   slice-aggregate-again : count-large-lts.Need-slice_bounds-count_large-end (count-large-calls t) (count-large-at t) count-large.Post
   slice-aggregate-again c =
       let filled : count-large-lts.After-fill-size (count-large-calls t) (count-large-at t) count-large.Post = search in
-      part-size filled.fill-size.ensures filled.fill-size.auto.0
+      part-size filled.fill-size.ensures filled.fill-size.auto.space
 
   again-requires : count-large-lts.Need-count_large-requires (count-large-calls t) (count-large-at t) count-large.Post
   again-requires c κs =
@@ -56,7 +56,7 @@ module _ (t : ℕ) where
       let space : count-large-lts.After-large_input-space (count-large-calls t) (count-large-at t) count-large.Post = search in
       let first : count-large-lts.Else-whole (count-large-calls t) (count-large-at t) count-large.Post = search in
       let start : count-large-lts.Start (count-large-calls t) (count-large-at t) count-large.Post = search in
-      (once start.args.whole start.requires.0 first.if-whole.false, λ _. part-short filled.fill-size.ensures filled.fill-size.auto.0 space.large_input-space.ensures)
+      (once start.args.whole start.requires.0 first.if-whole.false, λ _. part-short filled.fill-size.ensures filled.fill-size.auto.space space.large_input-space.ensures)
 
 pub +count_large_spec : {M : Type 1} → statement M
 +count_large_spec = close μ-count-large λ t. count-large-lts.spec (count-large-calls t)

@@ -12,7 +12,7 @@ use Rattle.totalling.proofs.count.Tie as tie
 array-share-prefix-out : tie.Need-slice_bounds-out-end
 array-share-prefix-out c =
     let w = c.write_counted-end in
-    omega (arith, within w.ensures.wrote, w.kept.1.0, length-replicate {A = ℕ} 256 0)
+    omega (arith, within w.ensures.wrote, w.auto.out, length-replicate {A = ℕ} 256 0)
 
 slice-aggregate-print : tie.Need-slice_bounds-print-end
 slice-aggregate-print c =
