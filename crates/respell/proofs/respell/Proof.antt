@@ -25,7 +25,9 @@ slice-reshare-prefix-print c =
     omega (arith, first_fits _ _ w.ensures.0, w.auto)
 
 slice-aggregate-print-2 : tie.Need-slice_bounds-print-end-3
-slice-aggregate-print-2 c = sym (length-take-le _ _ (slice-reshare-prefix-print c.before))
+slice-aggregate-print-2 c =
+    let w = c.rewrite-a in
+    sym (length-take-le _ _ (omega (arith, first_fits _ _ w.ensures.0, w.auto)))
 
 print-requires : tie.Need-print-requires
 print-requires c κs =
