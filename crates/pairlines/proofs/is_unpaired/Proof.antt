@@ -7,7 +7,7 @@ use Rattle.pairlines.proofs.is_unpaired.Tie as tie
 paired-type-requires : tie.Need-paired_type-one-requires
 paired-type-requires c κs =
     let a = c.args in
-    (typed_ok a.stream.now a.row _ 0 c.typed.type_inv.ensures c.requires.0, c.requires.1)
+    (typed_ok a.stream.now a.row _ 0 c.typed.ensures c.requires.0, c.requires.1)
 
 paired-type-requires-2 : tie.Need-paired_type-other-requires
 paired-type-requires-2 c κs =

@@ -59,7 +59,7 @@ returns c =
     let known : tie.After-struct_known-1 = search in
     let info = info_of known in
     let a = (start_of info).args in
-    info_refused a.layout a.info_stream_lem.now a.stream.now a.infos.now a.controls.now a.properties.now info.read_type_info-t.ensures.0 info.read_type_info-t.ensures.1
+    info_refused a.layout a.info_stream.now a.stream.now a.infos.now a.controls.now a.properties.now info.read_type_info-t.ensures.0 info.read_type_info-t.ensures.1
     (info-words known) (λ e. omega arith) (answered-of known).answer_line-p.ensures
 
 -- ---- the Blob is refused
@@ -72,7 +72,7 @@ returns-2 c =
     let known = known_of else1 in
     let info = info_of known in
     let a = (start_of info).args in
-    blob-refused a.layout a.info_stream_lem.now a.stream.now a.infos.now a.controls.now a.properties.now info.read_type_info-t.ensures.0 info.read_type_info-t.ensures.1
+    blob-refused a.layout a.info_stream.now a.stream.now a.infos.now a.controls.now a.properties.now info.read_type_info-t.ensures.0 info.read_type_info-t.ensures.1
     (omega (arith, else1.if-t-ne0.false)) later.read_later-a.ensures
     (info-words known) (blob-words known2) (λ e. omega arith) (answered-of known).answer_line-p.ensures (answered2-of known2).answer_line-p-2.ensures
 
@@ -93,7 +93,7 @@ unpaired-lines-requires c κs =
     let else1 = else1-of later in
     let info = info_of (known_of else1) in
     let a = (start_of info).args in
-    may_again a.layout a.info_stream_lem.now a.stream.now a.infos.now a.controls.now a.properties.now info.read_type_info-t.ensures.0 info.read_type_info-t.ensures.1
+    may_again a.layout a.info_stream.now a.stream.now a.infos.now a.controls.now a.properties.now info.read_type_info-t.ensures.0 info.read_type_info-t.ensures.1
     (omega (arith, else1.if-t-ne0.false)) later.read_later-a.ensures (omega (arith, else2.if-a-ne0.false)) paired.pair.ensures.1
 
 same-length-7 : tie.Need-shape_of-infos
@@ -113,8 +113,7 @@ same-length-9 : tie.Need-shape_of-properties
 unfolding later_of known2-of pair_of
 same-length-9 c =
     let shown : tie.After-lines-p = search in
-    let (_, (_, (_, (properties-kept, _)))) = (later_of (known2-of (pair_of shown))).read_later-a.auto in
-    properties-kept
+    (later_of (known2-of (pair_of shown))).read_later-a.auto.properties
 
 same-length-10 : tie.Need-shape_of-out
 unfolding known_of else1-of later_of known2-of pair_of answered-of answered2-of
@@ -135,7 +134,7 @@ returns-3 c =
     let known = known_of else1 in
     let info = info_of known in
     let a = (start_of info).args in
-    all_read a.layout a.info_stream_lem.now a.stream.now a.infos.now a.controls.now a.properties.now info.read_type_info-t.ensures.0 info.read_type_info-t.ensures.1
+    all_read a.layout a.info_stream.now a.stream.now a.infos.now a.controls.now a.properties.now info.read_type_info-t.ensures.0 info.read_type_info-t.ensures.1
     (omega (arith, else1.if-t-ne0.false)) later.read_later-a.ensures (omega (arith, else2.if-a-ne0.false)) paired.pair.ensures.1
     (blob-words known2) (λ i. omega (arith, (paired-of shown).slice_known-10-1.given i)) (info-words known)
     (answered-of known).answer_line-p.ensures (answered2-of known2).answer_line-p-2.ensures shown.lines-p.ensures c.unpaired_lines.ensures
