@@ -40,7 +40,7 @@ put-why-not-requires c κs =
     let line : tie.After-answer_line-p = search in
     let told = differ_of line in
     let a = (start_of told).args in
-    newer-formed a.older.now a.newer.now a.stream.now a.rows-1.now a.controls-1.now a.properties-1.now told.differences-a.ensures c.if-a-eq-NO_SUCCESSOR.true
+    newer-formed a.older.now a.newer.now a.stream.now a.rows.now a.controls.now a.properties.now told.differences-a.ensures c.if-a-eq-NO_SUCCESSOR.true
 
 returns : tie.Need-returns-then-a-eq-NO_SUCCESSOR
 unfolding differ_of start_of
@@ -48,7 +48,7 @@ returns c =
     let line : tie.After-answer_line-p = search in
     let told = differ_of line in
     let a = (start_of told).args in
-    written-why a.older.now a.newer.now a.stream.now a.rows-1.now a.controls-1.now a.properties-1.now told.differences-a.ensures
+    written-why a.older.now a.newer.now a.stream.now a.rows.now a.controls.now a.properties.now told.differences-a.ensures
     line.answer_line-p.ensures (first_short told) c.if-a-eq-NO_SUCCESSOR.true c.put_why_not.ensures
 
 returns-2 : tie.Need-returns-then-a-ne0
@@ -57,7 +57,7 @@ returns-2 c =
     let line : tie.After-answer_line-p = search in
     let told = differ_of line in
     let a = (start_of told).args in
-    written-refused a.older.now a.newer.now a.stream.now a.rows-1.now a.controls-1.now a.properties-1.now told.differences-a.ensures
+    written-refused a.older.now a.newer.now a.stream.now a.rows.now a.controls.now a.properties.now told.differences-a.ensures
     line.answer_line-p.ensures (first_short told) c.if-a-eq-NO_SUCCESSOR.false c.if-a-ne0.true
 
 returns-3 : tie.Need-returns-then-b-ne0
@@ -68,7 +68,7 @@ returns-3 c =
     let line = line_of read in
     let told = differ_of line in
     let a = (start_of told).args in
-    written_full a.older.now a.newer.now a.stream.now a.rows-1.now a.controls-1.now a.properties-1.now told.differences-a.ensures
+    written_full a.older.now a.newer.now a.stream.now a.rows.now a.controls.now a.properties.now told.differences-a.ensures
     line.answer_line-p.ensures (first_short told) c.if-a-eq-NO_SUCCESSOR.false (omega (arith, c.if-a-ne0.false)) read.read_blob-b.ensures
     second.answer_line-p-2.ensures (second_short read) c.if-b-ne0.true
 
@@ -80,7 +80,7 @@ returns-4 c =
     let line = line_of read in
     let told = differ_of line in
     let a = (start_of told).args in
-    written_lines a.older.now a.newer.now a.stream.now a.rows-1.now a.controls-1.now a.properties-1.now told.differences-a.ensures
+    written_lines a.older.now a.newer.now a.stream.now a.rows.now a.controls.now a.properties.now told.differences-a.ensures
     line.answer_line-p.ensures (first_short told) c.if-a-eq-NO_SUCCESSOR.false (omega (arith, c.if-a-ne0.false)) read.read_blob-b.ensures
     second.answer_line-p-2.ensures (second_short read) (omega (arith, c.if-b-ne0.false))
     (λ i. omega (arith, (rows_of line).slice_known-5-1.given i)) (λ i. omega (arith, (controls-of second).slice_known-7-1.given i)) c.difference_lines.ensures

@@ -43,7 +43,7 @@ returns-4 c =
     let first = else1-of second in
     let a = (start_of first).args in
     wrote_as c.show_paired.ensures
-    (paired a.table.now a.info.now a.stream.now a.infos-1.now a.controls-1.now a.properties-1.now (omega (arith, first.if-info-gt-LONGEST_STREAM.false)) (omega (arith, second.if-stream-gt-LONGEST_STREAM.false))
+    (paired a.table.now a.info.now a.stream.now a.infos.now a.controls.now a.properties.now (omega (arith, first.if-info-gt-LONGEST_STREAM.false)) (omega (arith, second.if-stream-gt-LONGEST_STREAM.false))
     (λ e. third.if-info-eq0.false e))
 
 pub write_parts_spec : {M : Type 1} → statement M

@@ -39,7 +39,7 @@ returns-3 c =
     let short = else1-of first in
     let a = (start_of short).args in
     wrote_as c.write_parts.ensures
-    (input_whole a.input.now a.infos-1.now a.controls-1.now a.properties-1.now (omega (arith, short.if-input-gt-LONGEST_INPUT.false)) first.u32_at.result second.u32_at-2.result first.u32_at.ensures
+    (input_whole a.input.now a.infos.now a.controls.now a.properties.now (omega (arith, short.if-input-gt-LONGEST_INPUT.false)) first.u32_at.result second.u32_at-2.result first.u32_at.ensures
     second.u32_at-2.ensures (omega (arith, whole.if-input-at.false)) refl refl refl)
 
 pub write_shown_spec : {M : Type 1} → statement M
