@@ -10,7 +10,7 @@ use lib.Dec.{ltb}
 use lib.ListN.{length, take, drop}
 use lib.Seq.{take_at}
 use contract.Lifetimes.{Lfts}
-use denote.Ref.{Bor}
+use denote.Ref.{Bor, MutBor}
 use denote.Triple.Clauses.{AtExit, Lasts, at_exit}
 use denote.Triple.Entry.{Args, Res}
 use Rattle.rules.specs.Lists.{◌>>=◌, concat}
@@ -33,7 +33,7 @@ use Rattle.rules.specs.declared.Totals.{Totals}
 use Rattle.rules.specs.declared.Totalled.{Totalled}
 use Rattle.blob.specs.Exit.{part_place}
 use Rattle.oskuramos.specs.Handed.{handed_answer, taken_answer, taken_value, taken_room}
-use Rattle.claims.specs.Demand2.{Spelled, Judges}
+use Rattle.claims.specs.Demand2.{Given, Spelled, Judges}
 use Rattle.claims.specs.Demand3.{Lent, SameRoom, SameBut, Same}
 use Rattle.claims.specs.Readers.{Agree}
 use Rattle.claims.specs.Rewriting.{SameRows, Rewrites}
@@ -260,11 +260,20 @@ exported-one : OneResult (f.exported).read-blob.function
 exported-one = one-by (f.exported).read-blob exit_of_lem exported-read-blob (λ κs a r r' x y s. (ap (λ e. handed_answer e.answer) s, ap exit-left s))
 
 -- a call of any words: slices that hold them at some place, and what is left in them
-abbrev somewhere : List ℕ → Bor (List ℕ)
+abbrev Slice : Type 0
+Slice = Bor (List ℕ)
+
+abbrev Buffer : Type 0
+Buffer = MutBor (List ℕ)
+
+abbrev somewhere : List ℕ → Slice
 somewhere words = record { ref_ptr = (0, 0); now = words }
 
-abbrev args_of : Blob → Bor (List ℕ) × (Bor (List ℕ) × (Bor (List ℕ) × (Bor (List ℕ) × Unit {0})))
-args_of a = (somewhere a.table, (somewhere a.stream, (somewhere a.controls, (somewhere a.properties, tt))))
+abbrev buffer : List ℕ → Buffer
+buffer words = record { ref_ptr = (0, 0); ghost_name = 0; now = words }
+
+abbrev args_of : Blob → Slice × (Slice × (Buffer × (Buffer × Unit {0})))
+args_of a = (somewhere a.table, (somewhere a.stream, (buffer a.controls, (buffer a.properties, tt))))
 
 abbrev lifetimes : Lfts 4
 lifetimes = ([], ([], ([], ([], tt))))
@@ -358,8 +367,8 @@ exported-one_2000 = one-by (f.exported).read_2000_lem exit_2000 exported-read_20
 exported-one-later : OneResult (f.exported).read-later.function
 exported-one-later = one-by (f.exported).read-later exit-later exported-read-later (λ κs a r r' x y s. (ap (λ e. handed_answer e.answer) s, ap exit-left s))
 
-abbrev later-args : Later → ℕ × (Bor (List ℕ) × (Bor (List ℕ) × (Bor (List ℕ) × Unit {0})))
-later-args a = (a.layout, (somewhere a.stream, (somewhere a.controls, (somewhere a.properties, tt))))
+abbrev later-args : Later → ℕ × (Slice × (Buffer × (Buffer × Unit {0})))
+later-args a = (a.layout, (somewhere a.stream, (buffer a.controls, (buffer a.properties, tt))))
 
 crates-allows_2000 : (a : Blob) → (c : Call (f.crates).read_2000_lem) × (handed c ≡ a)
 crates-allows_2000 a = (record { κs = lifetimes; args = args_of a; result = (exit_2000 a).answer; left = exit-left (exit_2000 a); allowed = refl }, refl)
@@ -474,8 +483,8 @@ module _ (g : Fn f.Join TextExit) (p : Proved g join_of) (one : OneResult g.func
     allows = allows;
   }
 
-abbrev join-args : f.Join → Bor (List ℕ) × (Bor (List ℕ) × (Bor (List ℕ) × Unit {0}))
-join-args a = (somewhere a.one, (somewhere a.other, (somewhere a.out, tt)))
+abbrev join-args : f.Join → Slice × (Slice × (Buffer × Unit {0}))
+join-args a = (somewhere a.one, (somewhere a.other, (buffer a.out, tt)))
 
 crates-join-allows : (a : f.Join) → (c : Call (f.crates).join) × (handed c ≡ a)
 crates-join-allows a = (record { κs = ([], ([], ([], tt))); args = join-args a; result = (join_of a).answer; left = (tt, (tt, ((join_of a).out, tt))); allowed = (refl, refl) }, refl)
@@ -506,8 +515,8 @@ module _ (g : Fn f.Rewrite TextExit) (p : Proved g rewrite_of) (one : OneResult 
     allows = allows;
   }
 
-abbrev rewrite-args : f.Rewrite → Bor (List ℕ) × (Bor (List ℕ) × Unit {0})
-rewrite-args a = (somewhere a.stream, (somewhere a.out, tt))
+abbrev rewrite-args : f.Rewrite → Slice × (Buffer × Unit {0})
+rewrite-args a = (somewhere a.stream, (buffer a.out, tt))
 
 crates-rewrite-allows : (a : f.Rewrite) → (c : Call (f.crates).rewrite) × (handed c ≡ a)
 crates-rewrite-allows a = (record { κs = ([], ([], tt)); args = rewrite-args a; result = (rewrite_of a).answer; left = (tt, ((rewrite_of a).out, tt)); allowed = (refl, refl) }, refl)
@@ -517,14 +526,14 @@ exported-rewrite-allows a = (record { κs = ([], ([], tt)); args = rewrite-args 
 
 -- a stream and its rewritten stream, by a reader whose definition shows the same rows of both
 rewritten-reads : (g : Fn Blob Exit) (definition : List ℕ → List ℕ → List ℕ → List ℕ → Exit) → Proved g (λ a. definition a.table a.stream a.controls a.properties)
-    → ((s r : List ℕ) → Rewrites s r → (table : List ℕ) → (lent lent' : Lent) → SameRoom lent lent'
+    → ((s r : List ℕ) → Rewrites s r → (table : List ℕ) → Given table s → (lent lent' : Lent) → SameRoom lent lent'
     → SameRows s r (definition table s lent.controls lent.properties) (definition table r lent'.controls lent'.properties))
     → calls.RewrittenRead g
 rewritten-reads g definition p same s r w c d b =
     let read : seen c ≡ definition (handed c).table s (handed c).controls (handed c).properties = call-told g _ p c ∙ ap (λ x. definition (handed c).table x (handed c).controls (handed c).properties) b.of_s in
     let read' : seen d ≡ definition (handed c).table r (handed d).controls (handed d).properties = call-told g _ p d ∙ ap₂ (λ t x. definition t x (handed d).controls (handed d).properties) (sym b.same-table) b.of_r in
     subst (λ x. SameRows s r x (seen d)) (sym read) (subst (SameRows s r (definition (handed c).table s (handed c).controls (handed c).properties)) (sym read')
-    (same s r w (handed c).table (calls.lent (handed c)) (calls.lent (handed d)) b.same-room))
+    (same s r w (handed c).table b.given (calls.lent (handed c)) (calls.lent (handed d)) b.same-room))
 
 -- ---- pair
 abbrev pair_of : f.Pair → PairExit
@@ -559,8 +568,8 @@ module _ {A : Type 0} (blob : Fn A Exit) (exit_by : A → Exit) (stream-of : A �
       ∙ claimed (handed c) (handed d).stream (handed d).rows
       (sym (ap (λ x. x.answer.number) told-c) ∙ zero-c) (sym (ap (λ x. x.answer.number) told-d) ∙ zero-d)
 
-abbrev pair-args : f.Pair → Bor (List ℕ) × (Bor (List ℕ) × (ℕ × (Bor (List ℕ) × (Bor (List ℕ) × (ℕ × Unit {0})))))
-pair-args a = (somewhere a.stream, (somewhere a.controls, (a.control-count, (somewhere a.info_stream_lem, (somewhere a.infos, (a.info_count, tt))))))
+abbrev pair-args : f.Pair → Slice × (Buffer × (ℕ × (Slice × (Slice × (ℕ × Unit {0})))))
+pair-args a = (somewhere a.stream, (buffer a.controls, (a.control-count, (somewhere a.info_stream_lem, (somewhere a.infos, (a.info_count, tt))))))
 
 crates-pair : Proved (f.crates).pair pair_of
 crates-pair = record {
@@ -624,8 +633,8 @@ read_csvs g p one allows = record {
   allows = allows;
 }
 
-abbrev sheet-args : f.Sheet → Bor (List ℕ) × (Bor (List ℕ) × (Bor (List ℕ) × Unit {0}))
-sheet-args a = (somewhere a.text, (somewhere a.fields, (somewhere a.out, tt)))
+abbrev sheet-args : f.Sheet → Slice × (Buffer × (Buffer × Unit {0}))
+sheet-args a = (somewhere a.text, (buffer a.fields, (buffer a.out, tt)))
 
 crates-read_csv : Proved (f.crates).read_csv_lem fields_of_lem
 crates-read_csv = record {
@@ -708,8 +717,8 @@ crates-one_csv = one-by (f.crates).write_csv_lem csv_of_lem crates-write_csv (λ
 exported-one_csv : OneResult (f.exported).write_csv_lem.function
 exported-one_csv = one-by (f.exported).write_csv_lem csv_of_lem exported-write_csv (λ κs a r r' x y s. (ap (λ e. handed_answer e.answer) s, ap csv_left_lem s))
 
-abbrev text-args : f.BlobText → Bor (List ℕ) × (Bor (List ℕ) × (Bor (List ℕ) × (Bor (List ℕ) × (Bor (List ℕ) × Unit {0}))))
-text-args a = (somewhere a.table, (somewhere a.stream, (somewhere a.controls, (somewhere a.properties, (somewhere a.out, tt)))))
+abbrev text-args : f.BlobText → Slice × (Slice × (Buffer × (Buffer × (Buffer × Unit {0}))))
+text-args a = (somewhere a.table, (somewhere a.stream, (buffer a.controls, (buffer a.properties, (buffer a.out, tt)))))
 
 crates-text-allows : (a : f.BlobText) → (c : Call (f.crates).write_csv_lem) × (handed c ≡ a)
 crates-text-allows a = (record { κs = ([], ([], ([], ([], ([], tt))))); args = text-args a; result = (csv_of_lem a).answer; left = csv_left_lem (csv_of_lem a); allowed = refl }, refl)
@@ -806,8 +815,8 @@ exported-differences = record {
   told = λ κs a r e q i. record { answer = taken_answer (q.0 i); rows = q.1 i };
 }
 
-abbrev differ-args : f.Differ → Bor (List ℕ) × (Bor (List ℕ) × (Bor (List ℕ) × (Bor (List ℕ) × Unit {0})))
-differ-args a = (somewhere a.older, (somewhere a.newer, (somewhere a.stream, (somewhere a.rows, tt))))
+abbrev differ-args : f.Differ → Slice × (Slice × (Slice × (Buffer × Unit {0})))
+differ-args a = (somewhere a.older, (somewhere a.newer, (somewhere a.stream, (buffer a.rows, tt))))
 
 abbrev differ-left : DifferencesExit → Unit {0} × (Unit {0} × (Unit {0} × (List ℕ × Unit {0})))
 differ-left e = (tt, (tt, (tt, (e.rows, tt))))
@@ -838,8 +847,8 @@ count-blobs g p one allows = record {
   allows = allows;
 }
 
-abbrev count-args : f.Count → Bor Totals × (Bor (List ℕ) × (Bor (List ℕ) × (ℕ × (ℕ × Unit {0}))))
-count-args a = (record { ref_ptr = (0, 0); now = a.totals }, (somewhere a.table, (somewhere a.stream, (a.control-room, (a.property-room, tt)))))
+abbrev count-args : f.Count → MutBor Totals × (Slice × (Slice × (ℕ × (ℕ × Unit {0}))))
+count-args a = (record { ref_ptr = (0, 0); ghost_name = 0; now = a.totals }, (somewhere a.table, (somewhere a.stream, (a.control-room, (a.property-room, tt)))))
 
 crates-count-blob : Proved (f.crates).count-blob count_of
 crates-count-blob = record {
@@ -903,8 +912,8 @@ of_crates = record {
     met = told (f.crates).rewrite.function (λ w κs a r e. rewrite-clauses.ensures κs a tt r e w) _ (λ w κs a r e. both_facts w.𝓤 _ _) (λ w. rewrite-code.met w.𝓤 w.𝓛 w.𝓜 w.𝓡);
     told = λ κs a r e q i. record { answer = q.0 i; out = q.1 i };
   }) (λ κs a r r' x y p q. (p.0 ∙ sym q.0, λ i. (tt, ((p.1 ∙ sym q.1) i, tt)))) (rewrite-told (f.crates).rewrite.function.ended.signature.result) crates-rewrite-allows;
-  rewritten_2000 = rewritten-reads (f.crates).read_2000_lem exit2000 crates-read_2000 (λ s r w table. (w.same table 𝓛).by_2000);
-  rewritten-blob = rewritten-reads (f.crates).read-blob exit crates-read-blob (λ s r w table. (w.same table 𝓛).chosen);
+  rewritten_2000 = rewritten-reads (f.crates).read_2000_lem exit2000 crates-read_2000 (λ s r w table g. (w.same table g).by_2000);
+  rewritten-blob = rewritten-reads (f.crates).read-blob exit crates-read-blob (λ s r w table g. (w.same table g).chosen);
   well-formed = gives (f.crates).well-formed _ (record { met = λ w. well-formed-code.met w.𝓤 w.𝓛 w.𝓜 w.𝓡; told = λ κs a r e q. q }) (λ κs a r r' x y p q. (p ∙ sym q, refl));
   room = gives (f.crates).room _ (record { met = λ w. room-code.met w.𝓤 w.𝓛 w.𝓜 w.𝓡; told = λ κs a r e q. q }) (λ κs a r r' x y p q. (p ∙ sym q, refl));
   room_2000_lem = gives (f.crates).room_2000_lem _ (record { met = λ w. room-2000-code.met w.𝓤 w.𝓛 w.𝓜 w.𝓡; told = λ κs a r e q. q }) (λ κs a r r' x y p q. (p ∙ sym q, refl));
@@ -977,8 +986,8 @@ of_exported = record {
     met = told (f.exported).rewrite.function (λ w κs a r e. exported-rewrite-clauses.ensures κs a tt r e w) _ (λ w κs a r e. both_facts w.𝓤 _ _) (λ w. exported-rewrite-code.met w.𝓤 w.𝓛 w.𝓜 w.𝓡);
     told = λ κs a r e q i. record { answer = taken_answer (q.0 i); out = q.1 i };
   }) (λ κs a r r' x y p q. (p.0 ∙ sym q.0, λ i. (tt, ((p.1 ∙ sym q.1) i, tt)))) (rewrite-told (f.exported).rewrite.function.ended.signature.result) exported-rewrite-allows;
-  rewritten_2000 = rewritten-reads (f.exported).read_2000_lem exit2000 exported-read_2000 (λ s r w table. (w.same table 𝓛).by_2000);
-  rewritten-blob = rewritten-reads (f.exported).read-blob exit exported-read-blob (λ s r w table. (w.same table 𝓛).chosen);
+  rewritten_2000 = rewritten-reads (f.exported).read_2000_lem exit2000 exported-read_2000 (λ s r w table g. (w.same table g).by_2000);
+  rewritten-blob = rewritten-reads (f.exported).read-blob exit exported-read-blob (λ s r w table g. (w.same table g).chosen);
   well-formed = gives (f.exported).well-formed _ (record { met = λ w. exported-well-formed-code.met w.𝓤 w.𝓛 w.𝓜 w.𝓡; told = λ κs a r e q. q }) (λ κs a r r' x y p q. (p ∙ sym q, refl));
   room = gives (f.exported).room _ (record { met = λ w. exported-room-code.met w.𝓤 w.𝓛 w.𝓜 w.𝓡; told = λ κs a r e q. ap taken_room q }) (λ κs a r r' x y p q. (p ∙ sym q, refl));
   room_2000_lem = gives (f.exported).room_2000_lem _ (record { met = λ w. exported-room-2000-code.met w.𝓤 w.𝓛 w.𝓜 w.𝓡; told = λ κs a r e q. ap taken_room q }) (λ κs a r r' x y p q. (p ∙ sym q, refl));
@@ -1028,7 +1037,8 @@ calls_hold = record {
     bytes = every f.control-name_in _ control-name _ (λ a. refl);
     place = every f.control-name_in _ control-name _ (λ a. refl);
     met = control-name.met;
-    one-result = by-words f.control-name_in _ control-name;
+    one-result = λ κs a r r' x y p q. ((λ i. record { ref_ptr = (p.1 ∙ sym q.1) i; now = (p.0 ∙ sym q.0) i }), refl);
+    by-words = by-words f.control-name_in _ control-name;
   };
   exported-control-name = gives f.control-name-part _ (record { met = λ w. exported-control-name-code.met w.𝓤 w.𝓛 w.𝓜 w.𝓡; told = λ κs a r e q. q }) (λ κs a r r' x y p q. (p ∙ sym q, refl));
   integer-value = gives f.integer-value _ (record { met = λ w. integer-value-code.met w.𝓤 w.𝓛 w.𝓜 w.𝓡; told = λ κs a r e q. q }) (λ κs a r r' x y p q. (p ∙ sym q, refl));

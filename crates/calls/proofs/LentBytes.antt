@@ -5,7 +5,7 @@ use mathlib.Core.List.{List, [], ◌∷◌}
 use lib.ListN.{length}
 use mir.Syntax.{Lifetime, named, w8}
 use mir.Val.{Val}
-use base.Fml.{Lft, Share, feq, fres, fsep, fshr_bor}
+use base.Fml.{Lft, Share, feq, fhide}
 use base.Logic.{ent, sep, guard, guard_e, via, comm∗, mono∗, mono_l, fst∗, snd∗}
 use borrow.Fn.World.{World, Pr}
 use borrow.Rule.Slice.Know.{AllWt, fit_at, shs_known}
@@ -14,22 +14,20 @@ use borrow.Table.Referent.{f_int}
 use contract.Lifetimes.{Lfts, Shares, toks}
 use contract.Monad.{fact, fact_i}
 use denote.Builtin.{u8, u32, SliceRef, SliceRefMut}
-use denote.Memory.{shares}
-use denote.Ref.{Bor, MutBor}
+use denote.Ref.{Bor}
 use denote.RattleType.{owns}
 use denote.Signature.{Signature, Slot, plain, types_at}
-use denote.Slice.{MutSlice, ShrSlice, coded_holeys, heres, room, mut_slice_vals}
+use denote.Slice.{MutSlice, ShrSlice, elements_shared, room, shr_slice_vals}
 use denote.Triple.Entry.{Args, Vals, alive, on_entry}
 use types.Logic.{sem}
-use types.Share.{arr_parts}
 use Rattle.rules.specs.Bytes.{Bytes}
 
 bytes_of : (xs : List ℕ) → AllWt (f_int w8) xs → Bytes xs
 bytes_of xs a i = (fit_at (f_int w8) 0 (record { fits = omega arith }) xs a i).fits
 
-module _ (w : World) (ℓ : Lifetime) (κ : Lft) (q : Share) (x : MutBor (List ℕ)) (vs : List Val) where
+module _ (w : World) (ℓ : Lifetime) (κ : Lft) (q : Share) (x : Bor (List ℕ)) (vs : List Val) where
   abbrev Held : Pr w
-  Held = sem w.𝓛 (OwnH w.𝓛 (f_int w8) κ q x.ref_ptr.0 x.ref_ptr.1 x.ghost_name x.now)
+  Held = sem w.𝓛 (OwnH w.𝓛 (f_int w8) κ q x.ref_ptr.0 x.ref_ptr.1 x.now)
 
   abbrev Owned : Pr w
   Owned = sem w.𝓛 ((ShrSlice ℓ κ u8).own_val x vs)
@@ -39,13 +37,13 @@ module _ (w : World) (ℓ : Lifetime) (κ : Lft) (q : Share) (x : MutBor (List �
 
   slice_told : ent w.𝓤 (sep w.𝓤 Owned Lives) (w.𝓛.H.⇛ (fact w.𝓤 (Bytes x.now)))
   slice_told =
-      let E : Pr w = sem w.𝓛 (feq (List Val) vs (mut_slice_vals x)) in
+      let E : Pr w = sem w.𝓛 (feq (List Val) vs (shr_slice_vals x)) in
       let R : Pr w = sem w.𝓛 (room u8 (length x.now)) in
-      let S : Pr w = sem w.𝓛 (fsep (fres x.ghost_name ((coded_holeys u8).code (heres u8 x.now))) (fshr_bor κ (λ p. (arr_parts (shares u8) (length x.now)).part p x.now x.ref_ptr.0 x.ref_ptr.1))) in
+      let S : Pr w = sem w.𝓛 (fhide (elements_shared u8 x.now x.ref_ptr.0 x.ref_ptr.1 κ)) in
       let owned : ent w.𝓤 (sep w.𝓤 (sep w.𝓤 E R) S) Held = mono_l w.𝓤 S (snd∗ w.𝓤 E R) in
       via w.𝓤 (sep w.𝓤 Held Lives) (mono_l w.𝓤 Lives owned)
       (via w.𝓤 (w.𝓛.H.⇛ (guard w.𝓤 (AllWt (f_int w8) x.now) (sep w.𝓤 Held Lives)))
-      (shs_known w.𝓛 (f_int w8) κ q x.ref_ptr.0 x.ref_ptr.1 x.ghost_name x.now)
+      (shs_known w.𝓛 (f_int w8) κ q x.ref_ptr.0 x.ref_ptr.1 x.now)
       (w.𝓜.⇛_mono _ _ (guard_e w.𝓤 (AllWt (f_int w8) x.now) (sep w.𝓤 Held Lives) (λ a. fact_i w.𝓤 (Bytes x.now) (sep w.𝓤 Held Lives) (bytes_of x.now a)))))
 
   -- the slice is among what is owned at entry, and its lifetime's token among the tokens

@@ -1,7 +1,9 @@
--- What can be said of a function itself: of its code, which is the routine that it is on the logic's machine, and of its contract as it stands in
--- its crate. That the compiler makes of the code what the routine does is believed.
--- The kit's words: `World` is any model of that machine, `Args` and `Res` are what is passed and returned, `AtExit` the arguments as they are at exit, `κs` the
--- lifetimes. `Meets` says of a run from any memory that holds the arguments: it is safe, it ends, and `ensures` holds then; `emp` asks nothing.
+-- What can be said of a function itself: of its code, which is a routine on the logic's machine, and of its contract as it stands in its crate. That the
+-- compiler makes of the code what the routine does is believed.
+-- The kit's words: `World` is any model of that machine, and its `env` says which routine each name stands for. `Wired` says that a code is linked there: the
+-- function's name, and the name of each that it calls, does what the code does and no more. `Args` and `Res` are what is passed and returned, `AtExit` the
+-- arguments as they are at exit, `κs` the lifetimes. `Meets` says of a run from any memory that holds the arguments: it is safe, it ends, and `ensures` holds then;
+-- `emp` asks nothing.
 use Rattle.std.specs.Prelude.{◌≡◌}
 use base.Logic.{emp}
 use borrow.Fn.World.{World}
@@ -10,22 +12,24 @@ use contract.Monad.{fact}
 use denote.Triple.Clauses.{Ended, AtExit, Lasts, at_exit, closing}
 use denote.Triple.Entry.{Args, Res}
 use denote.Triple.Spec.{Meets}
-use prog.Routine.{Routine}
+use mir.Syntax.{Callee}
+use prog.Wired.{Code, Wired}
 
 -- something said of a call: of its arguments, of what it returns, and of its arguments at exit
 abbrev pub Saying : Ended → Type 1
 Saying T = (κs : Lfts T.signature.lifetimes) → Args T.signature κs → Res T.signature κs → AtExit T κs → Type 0
 
--- a function: its signature, its code (`routine`), and what its contract says of a call (`says`)
+-- a function: its signature, the name that it is called by, its code with that of all that it calls, and what its contract says of a call (`says`)
 pub record Function : Type 2 where
   pub ended : Ended
-  pub routine : Routine
+  pub name : Callee
+  pub code : Code
   pub says : Saying ended
 
--- a call of f, whatever its arguments: it asks nothing beforehand, is safe, ends, and what is said holds of it
+-- a call of f, wherever its code is linked and whatever its arguments: it asks nothing beforehand, is safe, ends, and what is said holds of it
 abbrev pub Always : (f : Function) → Saying f.ended → Type 2
 Always f said =
-    (w : World) → Meets w.𝓛 f.ended.signature (w.𝓡.run f.routine)
+    (w : World) → Wired w.𝓡.env f.code → Meets w.𝓛 f.ended.signature (w.𝓡.run (w.𝓡.env f.name))
     (closing w.𝓛 f.ended (λ κs a. record { ghost = Unit {0}; requires = λ _. emp w.𝓤; ensures = λ _ r e. fact w.𝓤 (said κs a r e) }))
 
 -- any two results that the contract of f allows are equal: what is returned, and every word left in what was lent

@@ -2,7 +2,8 @@
 -- How to read it. `Every f (λ a seen. ..)` says of every call of f, whatever it is handed: it asks nothing of its caller, is safe, ends, and the dots
 -- hold. `a` is what it was handed, by name and as it was at entry (`a.stream`); `seen` is all that a caller sees of it: what it returned, and the slices
 -- that it may write at exit. `OneResult` says that its contract allows one result only, to the last word. Functions.antt has the names.
--- A call is one of the function's code: the routine that it is on the logic's machine. That the compiler keeps to it is believed.
+-- A call is one of the function's code: the routine that its name stands for, on the logic's machine, wherever that code is linked. That the compiler keeps to
+-- it is believed.
 -- Each promise stands once. It holds of the functions of the crates (`crates`) and of those that C and Rust have (`exported`).
 use Rattle.std.specs.Prelude.{ℕ, ◌≤◌, ◌<◌, ◌≡◌, true, false, ◌↔◌, length, take, drop, get_or}
 use mathlib.Core.List.{List, ◌++◌, map, Memᴰ}
@@ -498,8 +499,9 @@ pub record ControlNameIn : Type 2 where
   pub bytes : Every control-name_in (λ a seen. seen.bytes ≡ part_bytes_lem a.stream a.label (part a))
   pub place : Every control-name_in (λ a seen. seen.place ≡ part_place a.stream-place a.label-place (part a))
   pub met : Always control-name_in.function control-name_in.function.says
-  -- any two results are equal in all that is seen, place and bytes. (The logic gives a slice a name besides, which no machine has: so not by `OneResult`)
-  pub one-result : (c d : Call control-name_in) → handed c ≡ handed d → seen c ≡ seen d
+  pub one-result : OneResult control-name_in.function
+  -- any two results are equal in all that is seen, place and bytes
+  pub by-words : (c d : Call control-name_in) → handed c ≡ handed d → seen c ≡ seen d
 
 -- ---- widen(low): the double's words, and its value is the single's (a NaN's value is NaN; its bits are in `widened`)
 pub record Widen : Type 2 where
