@@ -7,33 +7,9 @@ use Rattle.blob.proofs.part_or.Tie as tie
 
 returns : tie.Need-returns-then-s-start
 returns c = let a = c.args in (outside a.s.now a.start a.length (omega arith), outside_at a.s.now a.s.ref_ptr a.start a.length a.other.ref_ptr (omega arith))
-<<<<<<< HEAD
 
 returns-2 : tie.Need-returns-then-s-start-2
 returns-2 c = let a = c.args in (outside a.s.now a.start a.length (omega arith), outside_at a.s.now a.s.ref_ptr a.start a.length a.other.ref_ptr (omega arith))
-=======
-
-sub-if2 : tie.Need-overflow_sub-s
-sub-if2 c = search rules
-
-slice-aggregate-result-2 : tie.Need-slice_bounds-result-end-then-s-start-2
-slice-aggregate-result-2 c = search rules
-
-returns-2 : tie.Need-returns-then-s-start-2
-returns-2 c = let a = c.args in (outside a.s.now a.start a.length (omega arith), outside_at a.s.now a.s.ref_ptr a.start a.length a.other.ref_ptr (omega arith))
-
-add-result : tie.Need-overflow_add-result
-add-result c = search rules
-
-sub-result : tie.Need-slice_bounds-result-count
-sub-result c = search rules
-
-part-result-start : tie.Need-slice_bounds-result-start
-part-result-start c = search rules
-
-part-result-end : tie.Need-slice_bounds-result-end
-part-result-end c = search rules
->>>>>>> d7eb4da2 (Mend what the names leave, up to the readers of a Blob)
 
 returns-3 : tie.Need-returns
 returns-3 c = let a = c.args in (inside a.s.now a.start a.length (omega arith), inside-at a.s.now a.s.ref_ptr a.start a.length a.other.ref_ptr (omega arith))
