@@ -14,10 +14,10 @@ record Kept (codes₀ input₀ out₀ codes input out : List ℕ) : Type 0 where
   out-kept : length out ≡ length out₀
 
 abbrev invariant-loop : tie.invariant-loop-turns
-invariant-loop codes₀ input₀ out₀ turns₀ codes-size₀ codes input out turns codes-size = Kept codes₀ input₀ out₀ codes input out
+invariant-loop rt codes₀ input₀ out₀ turns₀ codes-size₀ codes input out turns codes-size = Kept codes₀ input₀ out₀ codes input out
 
 abbrev decreases-loop : tie.decreases-loop-turns
-decreases-loop codes₀ input₀ out₀ turns₀ codes-size₀ codes input out turns codes-size = turns
+decreases-loop rt codes₀ input₀ out₀ turns₀ codes-size₀ codes input out turns codes-size = turns
 
 loop-holds : tie.Need-loop-turns-init invariant-loop decreases-loop
 loop-holds c = record { codes-kept = omega arith; input-kept = omega arith; out-kept = omega arith }

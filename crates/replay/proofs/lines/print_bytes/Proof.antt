@@ -6,10 +6,10 @@ use Rattle.replay.proofs.lines.print_bytes.Statement.{statement}
 use Rattle.replay.proofs.lines.print_bytes.Tie as tie
 
 abbrev invariant-loop : tie.invariant-loop-i
-invariant-loop bytes out₀ p₀ i₀ out p i = (i ≤ length bytes) × (length out ≡ length out₀)
+invariant-loop rt bytes out₀ p₀ i₀ out p i = (i ≤ length bytes) × (length out ≡ length out₀)
 
 abbrev decreases-loop : tie.decreases-loop-i
-decreases-loop bytes out₀ p₀ i₀ out p i = length bytes - i
+decreases-loop rt bytes out₀ p₀ i₀ out p i = length bytes - i
 
 put-byte-requires : tie.Need-put_byte-p-requires invariant-loop decreases-loop
 put-byte-requires c κs = tt

@@ -6,10 +6,10 @@ use Rattle.replay.proofs.lines.print_row.Statement.{statement}
 use Rattle.replay.proofs.lines.print_row.Tie as tie
 
 abbrev invariant-loop : tie.invariant-loop-i
-invariant-loop letter row out₀ p₀ i₀ out p i = (i ≤ length row) × (length out ≡ length out₀)
+invariant-loop rt letter row out₀ p₀ i₀ out p i = (i ≤ length row) × (length out ≡ length out₀)
 
 abbrev decreases-loop : tie.decreases-loop-i
-decreases-loop letter row out₀ p₀ i₀ out p i = length row - i
+decreases-loop rt letter row out₀ p₀ i₀ out p i = length row - i
 
 put-byte-requires : tie.Need-put_byte-p-requires invariant-loop decreases-loop
 put-byte-requires c κs = tt

@@ -6,10 +6,10 @@ use Rattle.replay.proofs.lines.print_rows.Statement.{statement}
 use Rattle.replay.proofs.lines.print_rows.Tie as tie
 
 abbrev invariant-loop : tie.invariant-loop-left
-invariant-loop letter rows width count out₀ left₀ at₀ out left at = (at ≤ length rows) × (length out ≡ length out₀)
+invariant-loop rt letter rows width count out₀ left₀ at₀ out left at = (at ≤ length rows) × (length out ≡ length out₀)
 
 abbrev decreases-loop : tie.decreases-loop-left
-decreases-loop letter rows width count out₀ left₀ at₀ out left at = left
+decreases-loop rt letter rows width count out₀ left₀ at₀ out left at = left
 
 loop-holds : tie.Need-loop-left-init invariant-loop decreases-loop
 loop-holds c = (omega arith, omega arith)
