@@ -164,7 +164,7 @@ make_ready() { # CRATE
     rm -f "$program"
     (cd "$root/crates/$1" && rt run <stdin 2>&1 >/dev/null) | tee "$log" | show_progress "$total" "$(date +%s)" >&2
     if [ ! -x "$program" ]; then
-        tail -n 20 "$log" >&2
+        { grep -E ': error|error\[|: not proved' "$log" || tail -n 20 "$log"; } | head -n 20 >&2
         die "it could not be built; all that was printed stands in $log"
     fi
     touch "$program"
