@@ -22,7 +22,7 @@ fn every_worked_stream_is_taken() {
 #[test]
 fn name_tables_have_the_numbers_that_are_proved() {
     let proved = include_str!("../../crates/rules/proofs/WorkedNames.antt");
-    for (name, table) in ["textNames", "numberNames", "bytesNames", "controlTypeNames"].iter().zip(crate::form::name_tables()) {
+    for (name, table) in ["text_names", "number_names", "bytes_names", "control_type_names"].iter().zip(crate::form::name_tables()) {
         let letters = table.iter().flat_map(|(id, name)| [*id as u64].into_iter().chain(name.bytes().map(u64::from)).chain([0]));
         let digest = letters.fold(0, |so_far, x| (so_far * 257 + x) % 2_147_483_647);
         assert!(proved.contains(&format!("digest 0 (letters {name}) ≡ {digest}\n")), "{name} {digest}");

@@ -1,7 +1,7 @@
 //! The worked streams of `crates/rules`, read out of the files in which their results are proved, so no byte stands twice.
 //!
-//! Taken are lists of bytes that have a name (`NAME = dump "2A 00" ++ ..`) and what is claimed of them: `exit`, `streamOf`, `wellFormed`,
-//! `typeInfoExit`, `typeInfoAnswer`, `printed` and `listing`. A claim over other values (a law, a part of a `map`) is passed over.
+//! Taken are lists of bytes that have a name (`NAME = dump "2A 00" ++ ..`) and what is claimed of them: `exit`, `stream_of`, `well_formed_lem`,
+//! `type_info_exit`, `type_info_answer`, `printed` and `listing`. A claim over other values (a law, a part of a `map`) is passed over.
 
 use super::{Case, Kind, Sink};
 use crate::plain::typeinfo::WORDS;
@@ -60,7 +60,7 @@ use Token::{Close, Open, Text, Word};
 
 #[cfg(test)]
 const CLAIMS: [Token; 7] =
-    [Word("exit"), Word("streamOf"), Word("wellFormed"), Word("typeInfoExit"), Word("typeInfoAnswer"), Word("printed"), Word("listing")];
+    [Word("exit"), Word("stream_of"), Word("well_formed_lem"), Word("type_info_exit"), Word("type_info_answer"), Word("printed"), Word("listing")];
 
 /// Words, texts and parentheses, without comments; braces and commas only part words.
 fn tokens(mut rest: &str) -> Vec<Token<'_>> {
@@ -169,19 +169,19 @@ impl<'a> File<'a> {
                 let [table, stream, controls, properties] = self.atoms(at + 1)?;
                 blob(&table, &stream, [controls.len(), properties.len()], out);
             }
-            Word("streamOf") => {
+            Word("stream_of") => {
                 let [stream] = self.atoms(at + 1)?;
                 blob(table, &stream, [6, 6], out);
             }
-            Word("wellFormed") => {
+            Word("well_formed_lem") => {
                 let [table] = self.atoms(at + 1)?;
                 blob(&table, &self.named["blob"], [12, 18], out);
             }
-            Word("typeInfoExit") => {
+            Word("type_info_exit") => {
                 let [stream, rows] = self.atoms(at + 1)?;
                 out(Case::other("worked", Kind::TypeInfo, [rows.len() as u32, 0], bytes(&stream)));
             }
-            Word("typeInfoAnswer") => {
+            Word("type_info_answer") => {
                 let [stream, room] = self.atoms(at + 1)?;
                 out(Case::other("worked", Kind::TypeInfo, [WORDS as u32 * room.first()?, 0], bytes(&stream)));
             }

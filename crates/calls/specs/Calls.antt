@@ -4,7 +4,7 @@
 -- that it may write at exit. `OneResult` says that its contract allows one result only, to the last word. Functions.antt has the names.
 -- A call is one of the function's code: the routine that its name stands for, on the logic's machine, wherever that code is linked. That the compiler keeps to
 -- it is believed.
--- Each promise stands once. It holds of the functions of the crates (`crates`) and of those that C and Rust have (`exported`).
+-- Each promise stands once. It holds of the functions of the crates (`crates`) and of those of `oskuramos` (`exported`), to which the archive's only hand on.
 use Rattle.std.specs.Prelude.{ℕ, ◌≤◌, ◌<◌, ◌≡◌, true, false, ◌↔◌, length, take, drop, get_or}
 use mathlib.Core.List.{List, ◌++◌, map, Memᴰ}
 use Rattle.std.proofs.Math.Option.{some}

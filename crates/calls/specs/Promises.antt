@@ -5,5 +5,5 @@ use Rattle.calls.specs.Calls.{Calls}
 pub record Promises : Type 2 where
   -- over the definitions
   pub claims : Claims
-  -- the same of every call of the public functions, those that C and Rust have among them, and that their contracts allow one result only
+  -- the same of every call of the public functions, those of `oskuramos` among them, and that their contracts allow one result only
   pub calls : Calls
