@@ -17,7 +17,6 @@ DECLARED = re.compile(r"(?m)^\s*(?:(?:pub|abbrev|unfoldable|record|data|ruleset)
 MADE = re.compile(r"^(returns|loop|invariant|decreases|overflow|ensures|requires)(-|$)|-(requires|spec)$|^(use|mod|pub|where|let|in|elim|open|module|unfolding)$")
 # What a lemma of lists is named after, beside the repository's own definitions.
 PARTS = set("map append length take drop concat get_or set sets all find keep has filter reverse replicate sum min max".split())
-LEADS = ("docs", "crates", "tests")
 
 
 def read(path):
