@@ -31,25 +31,25 @@ module _ (reader : Fn Blob Exit) (reads : (c : Call reader) → seen c ≡ read_
     stream = (handed d).stream
 
     module _ (a b : Call reader) (k : Beside (handed d) (handed a) (handed b)) where
-      by-older : seen a ≡ exit older stream (handed a).controls (handed a).properties
-      by-older = reads a ∙ (λ i. exit (k.older-table i) (k.older-stream i) (handed a).controls (handed a).properties)
+      by_older : seen a ≡ exit older stream (handed a).controls (handed a).properties
+      by_older = reads a ∙ (λ i. exit (k.older_table i) (k.older_stream i) (handed a).controls (handed a).properties)
 
-      by-newer : seen b ≡ exit newer stream (handed b).controls (handed b).properties
-      by-newer = reads b ∙ (λ i. exit (k.newer-table i) (k.newer-stream i) (handed b).controls (handed b).properties)
+      by_newer : seen b ≡ exit newer stream (handed b).controls (handed b).properties
+      by_newer = reads b ∙ (λ i. exit (k.newer_table i) (k.newer_stream i) (handed b).controls (handed b).properties)
 
       differing : (seen d).answer.number ≡ 0 → is2000 older stream ≡ true → (seen a).answer.number ≡ 0 → (seen b).answer.number ≡ 0
           → Differing older newer stream (seen a) (seen b) (seen d)
       differing z o p q =
-          subst (λ (e : Exit). Differing older newer stream e (seen b) (seen d)) (sym by-older)
-          (subst (λ (e : Exit). Differing older newer stream (exit older stream (handed a).controls (handed a).properties) e (seen d)) (sym by-newer)
+          subst (λ (e : Exit). Differing older newer stream e (seen b) (seen d)) (sym by_older)
+          (subst (λ (e : Exit). Differing older newer stream (exit older stream (handed a).controls (handed a).properties) e (seen d)) (sym by_newer)
           (subst (λ (e : DifferencesExit). Differing older newer stream (exit older stream (handed a).controls (handed a).properties) (exit newer stream (handed b).controls (handed b).properties) e) (sym (lists d))
           (differences.differing older newer stream (handed d).rows (handed a).controls (handed a).properties (handed b).controls (handed b).properties
           (sym (ap (λ (e : DifferencesExit). e.answer.number) (lists d)) ∙ z) o
-          (sym (ap (λ (e : Exit). e.answer.number) by-older) ∙ p) (sym (ap (λ (e : Exit). e.answer.number) by-newer) ∙ q))))
+          (sym (ap (λ (e : Exit). e.answer.number) by_older) ∙ p) (sym (ap (λ (e : Exit). e.answer.number) by_newer) ∙ q))))
 
     -- a reading by a table, into these slices
-    with-table : (t controls properties : List ℕ) → (c : Call reader) × (handed c ≡ record { table = t; stream = stream; controls = controls; properties = properties })
-    with-table t controls properties = allows (record { table = t; stream = stream; controls = controls; properties = properties })
+    with_table : (t controls properties : List ℕ) → (c : Call reader) × (handed c ≡ record { table = t; stream = stream; controls = controls; properties = properties })
+    with_table t controls properties = allows (record { table = t; stream = stream; controls = controls; properties = properties })
 
     nothing : (seen d).answer.number ≡ 0
         → ((seen d).answer.first ≡ 0) ↔ ((a b : Call reader) → Beside (handed d) (handed a) (handed b) → SameSlices (handed a) (handed b) → seen a ≡ seen b)
@@ -57,17 +57,17 @@ module _ (reader : Fn Blob Exit) (reads : (c : Call reader) → seen c ≡ read_
         let n = differences.nothing older newer stream (handed d).rows (sym (ap (λ (e : DifferencesExit). e.answer.number) (lists d)) ∙ z) in
         let first = ap (λ (e : DifferencesExit). e.answer.first) (lists d) in (
           (λ e a b k same.
-              by-older a b k ∙ n.0 (sym first ∙ e) (handed a).controls (handed a).properties
-              ∙ (λ i. exit newer stream (same.controls i) (same.properties i)) ∙ sym (by-newer a b k)),
+              by_older a b k ∙ n.0 (sym first ∙ e) (handed a).controls (handed a).properties
+              ∙ (λ i. exit newer stream (same.controls i) (same.properties i)) ∙ sym (by_newer a b k)),
           (λ h. first ∙ n.1 (λ controls properties.
-              let x = with-table older controls properties in
-              let y = with-table newer controls properties in
+              let x = with_table older controls properties in
+              let y = with_table newer controls properties in
               sym (reads x.0 ∙ ap read_of x.1)
               ∙ h x.0 y.0
-              (record { older-table = ap (λ (e : Blob). e.table) x.1; newer-table = ap (λ (e : Blob). e.table) y.1; older-stream = ap (λ (e : Blob). e.stream) x.1; newer-stream = ap (λ (e : Blob). e.stream) y.1 })
+              (record { older_table = ap (λ (e : Blob). e.table) x.1; newer_table = ap (λ (e : Blob). e.table) y.1; older_stream = ap (λ (e : Blob). e.stream) x.1; newer_stream = ap (λ (e : Blob). e.stream) y.1 })
               (record { controls = ap (λ (e : Blob). e.controls) x.1 ∙ sym (ap (λ (e : Blob). e.controls) y.1); properties = ap (λ (e : Blob). e.properties) x.1 ∙ sym (ap (λ (e : Blob). e.properties) y.1) })
               ∙ (reads y.0 ∙ ap read_of y.1))),
         )
 
-  pub differences-read : DifferencesRead reader f
-  differences-read = record { differing = differing; nothing = nothing }
+  pub differences_read : DifferencesRead reader f
+  differences_read = record { differing = differing; nothing = nothing }

@@ -15,18 +15,18 @@ abbrev pub join_of : Join → TextExit
 join_of a = join_exit a.one a.other a.out
 
 module _ (f : Fn Join TextExit) (told : (c : Call f) → seen c ≡ join_of (handed c)) (allows : (a : Join) → (c : Call f) × (handed c ≡ a)) where
-  is-outcome : {p : Plan} {r : Bytes?} → Carried f p r → r ≡ outcome p
+  is_outcome : {p : Plan} {r : Bytes?} → Carried f p r → r ≡ outcome p
   unfolding outcome
-  is-outcome (Carried.table t) = refl
-  is-outcome (Carried.call {p} {q} {a} {b} {out} P Q c e) =
+  is_outcome (Carried.table t) = refl
+  is_outcome (Carried.call {p} {q} {a} {b} {out} P Q c e) =
       ap result (told c ∙ ap join_of e)
-      ∙ ap (λ (x : Bytes?). both out x (some b)) (is-outcome P)
-      ∙ ap (both out (outcome p)) (is-outcome Q)
-  is-outcome (Carried.no-first {p} {q} {out} P) = ap (λ (x : Bytes?). both out x (outcome q)) (is-outcome P)
-  is-outcome (Carried.no_second {p} {q} {out} Q) = sym (missing (outcome p)) ∙ ap (both out (outcome p)) (is-outcome Q)
+      ∙ ap (λ (x : Bytes?). both out x (some b)) (is_outcome P)
+      ∙ ap (both out (outcome p)) (is_outcome Q)
+  is_outcome (Carried.no_first {p} {q} {out} P) = ap (λ (x : Bytes?). both out x (outcome q)) (is_outcome P)
+  is_outcome (Carried.no_second {p} {q} {out} Q) = sym (missing (outcome p)) ∙ ap (both out (outcome p)) (is_outcome Q)
 
   one_more : (p q : Plan) (out : List ℕ) (x y : Bytes?) → Carried f p x → Carried f q y → Carried f (Plan.join p q out) (both out x y)
-  one_more p q out none y P Q = Carried.no-first P
+  one_more p q out none y P Q = Carried.no_first P
   one_more p q out (some a) none P Q = Carried.no_second Q
   one_more p q out (some a) (some b) P Q =
       let c = allows (record { one = a; other = b; out = out }) in
@@ -38,7 +38,7 @@ module _ (f : Fn Join TextExit) (told : (c : Call f) → seen c ≡ join_of (han
   carries_out (Plan.join p q out) = one_more p q out (outcome p) (outcome q) (carries_out p) (carries_out q)
 
   any_plan : (p q : Plan) (r r' : Bytes?) → Ready p → Ready q → Permᴰ (tables p) (tables q) → Carried f p r → Carried f q r' → r ≡ r'
-  any_plan p q r r' P Q d C D = is-outcome C ∙ any_order.any_plan p q P Q d ∙ sym (is-outcome D)
+  any_plan p q r r' P Q d C D = is_outcome C ∙ any_order.any_plan p q P Q d ∙ sym (is_outcome D)
 
   pub plans_carried : PlansCarried f
-  plans_carried = record { any_plan = any_plan; is-outcome = λ p r. is-outcome; carries_out = carries_out }
+  plans_carried = record { any_plan = any_plan; is_outcome = λ p r. is_outcome; carries_out = carries_out }

@@ -69,8 +69,8 @@ signature result = record {
   result = result;
 }
 
-pub stream-told : (result : Slot 4) → Tells (signature result) (λ κs (_, (stream, _)). stream)
-stream-told result w κs qs a vss =
+pub stream_told : (result : Slot 4) → Tells (signature result) (λ κs (_, (stream, _)). stream)
+stream_told result w κs qs a vss =
     let (κ₀, (κ, κs')) = κs in
     let (q₀, (q, qs')) = qs in
     let (table, (stream, lent)) = a in
@@ -89,8 +89,8 @@ later_signature result = record {
   result = result;
 }
 
-pub later-told : (result : Slot 3) → Tells (later_signature result) (λ κs (_, (stream, _)). stream)
-later-told result w κs qs a vss =
+pub later_told : (result : Slot 3) → Tells (later_signature result) (λ κs (_, (stream, _)). stream)
+later_told result w κs qs a vss =
     let (κ, κs') = κs in
     let (q, qs') = qs in
     let (layout, (stream, lent)) = a in
@@ -104,8 +104,8 @@ later-told result w κs qs a vss =
 abbrev rewrite_signature : Slot 2 → Signature
 rewrite_signature result = record { lifetimes = 2; outlives = []; params = SliceRef 0 tt u8 tt ∷ SliceRefMut 1 tt u8 tt ∷ []; result = result }
 
-pub rewrite-told : (result : Slot 2) → Tells (rewrite_signature result) (λ κs (stream, _). stream)
-rewrite-told result w κs qs a vss =
+pub rewrite_told : (result : Slot 2) → Tells (rewrite_signature result) (λ κs (stream, _). stream)
+rewrite_told result w κs qs a vss =
     let (κ, κs') = κs in
     let (q, qs') = qs in
     let (stream, lent) = a in
@@ -128,8 +128,8 @@ one_told result w κs qs a vss =
     (fst∗ w.𝓤 (Lives w (named 0) κ q one vs) (toks w.𝓛 2 κs' qs'))
     (fst∗ w.𝓤 (Owned w (named 0) κ q one vs) (sem w.𝓛 (owns (ShrSlice (named 1) κs'.0 u8 ∷ MutSlice (named 2) κs'.1.0 u8 ∷ []) others vss')))
 
-pub other-told : (result : Slot 3) → Tells (join_signature result) (λ κs (_, (other, _)). other)
-other-told result w κs qs a vss =
+pub other_told : (result : Slot 3) → Tells (join_signature result) (λ κs (_, (other, _)). other)
+other_told result w κs qs a vss =
     let (κ₀, (κ, κs')) = κs in
     let (q₀, (q, qs')) = qs in
     let (one, (other, out)) = a in

@@ -54,7 +54,7 @@ module _ {A B : Type 0} (f : Fn A B) where
   -- f is the definition: what is seen of every call is what it says, and the contract allows nothing else
   pub record Gives (definition : A → B) : Type 2 where
     pub gives : Every (λ handed seen. seen ≡ definition handed)
-    pub one-result : OneResult f.function
+    pub one_result : OneResult f.function
 
   -- a call that the contract allows: arguments, result, and what is left in what was lent. What the code does is among these, as each function is proved to meet
   -- its contract; where two calls are compared, they are such calls

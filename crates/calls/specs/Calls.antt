@@ -80,8 +80,8 @@ use Rattle.calls.specs.Functions.{
   Interface,
   crates,
   exported,
-  control-name_in,
-  control-name-part,
+  control_name_in,
+  control_name_part,
   integer-value,
   widen,
 }
@@ -94,8 +94,8 @@ lent a = record { controls = a.controls; properties = a.properties }
 -- of two calls: the newer table is a successor of the older, over the same stream and room, whatever stood in it
 pub record TwoTables (older newer : Blob) : Type 0 where
   pub successor : Successor older.table newer.table
-  pub same-stream : older.stream ≡ newer.stream
-  pub same-room : SameRoom (lent older) (lent newer)
+  pub same_stream : older.stream ≡ newer.stream
+  pub same_room : SameRoom (lent older) (lent newer)
 
 -- what such calls show: "both give the same answer number, controls, names and property count, and on answer 0 a property differs exactly where .."
 abbrev pub TwoShow : {f : Fn Blob Exit} → Call f → Call f → Type 0
@@ -105,7 +105,7 @@ pub record ReadBlob (f : Fn Blob Exit) : Type 2 where
   -- what the code does is what its contract allows, so what is said of any two calls that it allows is said of the code's
   pub met : Always f.function f.function.says
   -- what is seen is what the definition says: the answer with its counts, and every word of both slices
-  pub is-exit : Every f (λ a seen. seen ≡ exit a.table a.stream a.controls a.properties)
+  pub is_exit : Every f (λ a seen. seen ≡ exit a.table a.stream a.controls a.properties)
   -- a stream that is lent is a list of bytes: so no line here asks it, and what Demand2, LaterTree and RowChecks say of lists of bytes holds of it
   pub bytes : Every f (λ a seen. Bytes a.stream)
   -- "Every stream, code table and buffer length gets an answer. Bad input is refused by number, nothing is asked of the caller beforehand, and a
@@ -117,20 +117,20 @@ pub record ReadBlob (f : Fn Blob Exit) : Type 2 where
       Given a.table a.stream → Enough a.stream (room control_width a.controls) (room property_width a.properties)
       → (seen.answer.number ≡ 0) ↔ Spelled a.stream)
   -- and for any room: 4 exactly when the bytes spell nothing, one of 0, 6 and 7 when they spell something, with its counts
-  pub demand2-judges : Every f (λ a seen. Given a.table a.stream → Judges a.table a.stream seen.answer)
+  pub demand2_judges : Every f (λ a seen. Given a.table a.stream → Judges a.table a.stream seen.answer)
   -- "over the same Access 2000 stream and room both give the same answer number, controls, names and property count, and on answer 0 a property
   -- differs exactly where .." Of any two calls that the contract allows
   pub demand3 : (older newer : Call f) → TwoTables (handed older) (handed newer)
       → is2000 (handed older).table (handed older).stream ≡ true
       → TwoShow older newer
   -- over any other stream the two tables say the very same
-  pub demand3-later : (older newer : Call f) → TwoTables (handed older) (handed newer)
+  pub demand3_later : (older newer : Call f) → TwoTables (handed older) (handed newer)
       → ¬ (is2000 (handed older).table (handed older).stream ≡ true)
       → Same (lent (handed older)) (lent (handed newer)) (seen older) (seen newer)
   -- "counts are those of the reading", and so are the rows
   pub counts : Every f (λ a seen. Counts a.table a.stream a.controls a.properties seen)
   -- what is seen of a later stream: its tree, or the scan
-  pub later-judges : Every f (λ a seen. later.Given a.table a.stream → later.Judges a.stream a.controls a.properties seen)
+  pub later_judges : Every f (λ a seen. later.Given a.table a.stream → later.Judges a.stream a.controls a.properties seen)
   -- every control of a scanned stream has a Text name first (wish 10)
   pub scan-named : Every f (λ a seen. later.Given a.table a.stream → ScanNamed a.stream seen)
   -- what a caller can check of the rows
@@ -152,16 +152,16 @@ pub record ReadBlob (f : Fn Blob Exit) : Type 2 where
   -- "So room computed from the length alone never brings 6 or 7."
   pub room-enough : Every f (λ a seen. rooms.Enough a.table a.stream a.controls a.properties seen)
   -- "any two results it allows are proved equal"
-  pub one-result : OneResult f.function
+  pub one_result : OneResult f.function
   -- wherever the slices stand: the words alone tell what is seen; and the contract allows a call of any words, so that what is said of two calls isn't idle
-  pub by-words : (c d : Call f) → handed c ≡ handed d → seen c ≡ seen d
+  pub by_words : (c d : Call f) → handed c ≡ handed d → seen c ≡ seen d
   pub allows : (a : Blob) → (c : Call f) × (handed c ≡ a)
 
 -- ---- a reader for each layout: wish 8 (Readers)
 -- read_2000(table, stream, controls, properties)
 pub record Read2000 (f : Fn Blob Exit) : Type 2 where
   pub met : Always f.function f.function.says
-  pub is-exit : Every f (λ a seen. seen ≡ exit2000 a.table a.stream a.controls a.properties)
+  pub is_exit : Every f (λ a seen. seen ≡ exit2000 a.table a.stream a.controls a.properties)
   pub bytes : Every f (λ a seen. Bytes a.stream)
   -- "15 where the first byte speaks for the other layout .., after 5 and 8", then 4, 6 and 7; a refusal writes nothing
   pub demand1 : Every f (λ a seen. Reads (Answer2000 a.table a.stream a.controls a.properties) a.controls a.properties seen)
@@ -169,19 +169,19 @@ pub record Read2000 (f : Fn Blob Exit) : Type 2 where
   pub demand2 : Every f (λ a seen.
       Given a.table a.stream → Enough a.stream (room control_width a.controls) (room property_width a.properties)
       → (seen.answer.number ≡ 0) ↔ Spelled a.stream)
-  pub demand2-judges : Every f (λ a seen. Given a.table a.stream → Judges a.table a.stream seen.answer)
+  pub demand2_judges : Every f (λ a seen. Given a.table a.stream → Judges a.table a.stream seen.answer)
   -- "Demand 3 then speaks of the Access 2000 reader.": whatever the first byte is
   pub demand3 : (older newer : Call f) → TwoTables (handed older) (handed newer) → TwoShow older newer
   -- wish 1, as of read_blob
   pub nested : Every f (λ a seen. seen.answer.number ≡ 0 → Nested seen × Lists2000 a.stream seen)
-  pub one-result : OneResult f.function
-  pub by-words : (c d : Call f) → handed c ≡ handed d → seen c ≡ seen d
+  pub one_result : OneResult f.function
+  pub by_words : (c d : Call f) → handed c ≡ handed d → seen c ≡ seen d
   pub allows : (a : Blob) → (c : Call f) × (handed c ≡ a)
 
 -- read_later(layout, stream, controls, properties)
 pub record ReadLater (f : Fn Later Exit) : Type 2 where
   pub met : Always f.function f.function.says
-  pub is-exit : Every f (λ a seen. seen ≡ exit_later a.layout a.stream a.controls a.properties)
+  pub is_exit : Every f (λ a seen. seen ≡ exit_later a.layout a.stream a.controls a.properties)
   pub bytes : Every f (λ a seen. Bytes a.stream)
   pub demand1 : Every f (λ a seen. Reads (AnswerLater a.layout a.stream a.controls a.properties) a.controls a.properties seen)
   -- "the later reader is told the layout byte as a number and never answers 8"
@@ -190,59 +190,59 @@ pub record ReadLater (f : Fn Later Exit) : Type 2 where
   pub above_255 : Every f (λ a seen. 256 ≤ a.layout → ¬ (seen.answer.number ≡ 15))
   -- wish 1, as of read_blob
   pub nested : Every f (λ a seen. seen.answer.number ≡ 0 → Nested seen × ListsLater a.stream seen)
-  pub one-result : OneResult f.function
-  pub by-words : (c d : Call f) → handed c ≡ handed d → seen c ≡ seen d
+  pub one_result : OneResult f.function
+  pub by_words : (c d : Call f) → handed c ≡ handed d → seen c ≡ seen d
   pub allows : (a : Later) → (c : Call f) × (handed c ≡ a)
 
 -- what the later reader is handed in the place of a code table: its layout byte
-abbrev pub told-layout : Blob → Later
-told-layout a = record { layout = layout a.table; stream = a.stream; controls = a.controls; properties = a.properties }
+abbrev pub told_layout : Blob → Later
+told_layout a = record { layout = layout a.table; stream = a.stream; controls = a.controls; properties = a.properties }
 
 -- the choice gives what the reader of the layout spoken for gives, and the other one gives 15. Of any three calls over the same table, stream and slices
 abbrev pub ReadersAgree : Fn Blob Exit → Fn Blob Exit → Fn Later Exit → Type 0
 ReadersAgree choice of_2000 of_later =
-    (c : Call choice) (d : Call of_2000) (e : Call of_later) → handed d ≡ handed c → handed e ≡ told-layout (handed c)
+    (c : Call choice) (d : Call of_2000) (e : Call of_later) → handed d ≡ handed c → handed e ≡ told_layout (handed c)
     → Agree (handed c).table (handed c).stream (handed c).controls (handed c).properties (seen c) (seen d) (seen e)
 
 -- ---- read_type_info(stream, rows): the same of TypeInfo
 pub record ReadTypeInfo (f : Fn TypeInfo TypeInfoExit) : Type 2 where
-  pub is-exit : Every f (λ a seen. seen ≡ type_info_exit a.stream a.rows)
+  pub is_exit : Every f (λ a seen. seen ≡ type_info_exit a.stream a.rows)
   pub demand1 : Every f (λ a seen. TypeInfos a.stream a.rows seen)
   pub counts : Every f (λ a seen. InfoCounts a.stream a.rows seen)
   -- wish 6: which names were cut
   pub cut-names : Every f (λ a seen. CutNames a.stream seen)
   -- wish 14 of TypeInfo
   pub room-enough : Every f (λ a seen. rooms.EnoughInfos a.stream a.rows seen)
-  pub one-result : OneResult f.function
+  pub one_result : OneResult f.function
 
 -- ---- pair(stream, controls, control_count, info_stream, infos, info_count): wish 2 (Pairing)
 -- of two calls: the second pairs the rows that the first left
 pub record Anew (before after : Pair) (left : PairExit) : Type 0 where
-  pub same-stream : after.stream ≡ before.stream
-  pub left-rows : after.controls ≡ left.controls
-  pub same_count : after.control-count ≡ before.control-count
-  pub same_info_stream : after.info_stream_lem ≡ before.info_stream_lem
-  pub same-infos : after.infos ≡ before.infos
+  pub same_stream : after.stream ≡ before.stream
+  pub left_rows : after.controls ≡ left.controls
+  pub same_count : after.control_count ≡ before.control_count
+  pub same_info_stream : after.info_stream ≡ before.info_stream
+  pub same_infos : after.infos ≡ before.infos
   pub same_info_count : after.info_count ≡ before.info_count
 
 pub record PairRows (f : Fn Pair PairExit) : Type 2 where
   -- what is seen is what the definition says: the answer, and every word of the control rows
-  pub is-exit : Every f (λ a seen. seen ≡ pair_exit a.stream a.controls a.control-count a.info_stream_lem a.infos a.info_count)
+  pub is_exit : Every f (λ a seen. seen ≡ pair_exit a.stream a.controls a.control_count a.info_stream a.infos a.info_count)
   -- 11 exactly when the wish says, and then nothing is written; else the types of the rows counted, and all other words stay
-  pub pairs : Every f (λ a seen. Pairs a.stream a.controls a.control-count a.info_stream_lem a.infos a.info_count seen)
+  pub pairs : Every f (λ a seen. Pairs a.stream a.controls a.control_count a.info_stream a.infos a.info_count seen)
   -- to pair again changes nothing more. Of any two calls that the contract allows
   pub again : (c d : Call f) → Anew (handed c) (handed d) (seen c) → seen d ≡ seen c
-  pub one-result : OneResult f.function
+  pub one_result : OneResult f.function
   -- the contract allows a call of any words, so that what is said of two calls isn't idle
   pub allows : (a : Pair) → (c : Call f) × (handed c ≡ a)
 
 -- of three calls: the rows paired are those that a Blob's reader and TypeInfo's gave for these streams, with their counts
-pub record RowsOf (stream : List ℕ) (blob : Exit) (info_stream_lem : List ℕ) (info : TypeInfoExit) (a : Pair) : Type 0 where
-  pub its-stream : a.stream ≡ stream
-  pub its-controls : a.controls ≡ blob.controls
-  pub its-count : a.control-count ≡ blob.answer.first
-  pub its_info_stream : a.info_stream_lem ≡ info_stream_lem
-  pub its-infos : a.infos ≡ info.rows
+pub record RowsOf (stream : List ℕ) (blob : Exit) (info_stream : List ℕ) (info : TypeInfoExit) (a : Pair) : Type 0 where
+  pub its_stream : a.stream ≡ stream
+  pub its_controls : a.controls ≡ blob.controls
+  pub its-count : a.control_count ≡ blob.answer.first
+  pub its_info_stream : a.info_stream ≡ info_stream
+  pub its_infos : a.infos ≡ info.rows
   pub its_info_count : a.info_count ≡ info.answer.first
 
 -- where both read, such a call is never refused
@@ -254,13 +254,13 @@ NeverRefused reader stream-of read-info pair =
 -- ---- read_csv(text, fields, out): wish 7 (Spreadsheet)
 -- of two calls: the second is lent the same text with CR LF after it, and the same room
 pub record OneLineMore (shorter longer : Sheet) : Type 0 where
-  pub with-line : longer.text ≡ shorter.text ++ crlf
-  pub same-fields : longer.fields ≡ shorter.fields
+  pub with_line : longer.text ≡ shorter.text ++ crlf
+  pub same_fields : longer.fields ≡ shorter.fields
   pub same_out : longer.out ≡ shorter.out
 
 pub record ReadCsv (f : Fn Sheet FieldsExit) : Type 2 where
   -- what is seen is what the definition says: the answer, and every word and byte of both slices
-  pub is-exit : Every f (λ a seen. seen ≡ fields_exit a.text a.fields a.out)
+  pub is_exit : Every f (λ a seen. seen ≡ fields_exit a.text a.fields a.out)
   -- 14 and 13 exactly when the wish says, and then nothing is written; else the fields that are spelled, end to end, with a start and length for each
   pub reads : Every f (λ a seen. csv.Reads a.text a.fields a.out seen)
   -- "the last CR LF optional": unless the longer text isn't of the grammar, both calls give the same
@@ -268,23 +268,23 @@ pub record ReadCsv (f : Fn Sheet FieldsExit) : Type 2 where
   -- and so where the shorter one is of the grammar and doesn't end with CR LF already
   pub one_more : (c d : Call f) → OneLineMore (handed c) (handed d) → ¬ ((seen c).answer.number ≡ 14)
       → ((u : List ℕ) → ¬ ((handed c).text ≡ u ++ crlf)) → seen d ≡ seen c
-  pub one-result : OneResult f.function
+  pub one_result : OneResult f.function
   -- the contract allows a call of any words, so that what is said of two calls isn't idle
   pub allows : (a : Sheet) → (c : Call f) × (handed c ≡ a)
 
 -- ---- write_csv(table, stream, controls, properties, out): wish 7 (Spreadsheet)
 pub record WriteCsv (f : Fn BlobText CsvExit) : Type 2 where
   -- what is seen is what the definition says: the answer, and every word and byte of the three slices
-  pub is-exit : Every f (λ a seen. seen ≡ csv_exit a.table a.stream a.controls a.properties a.out)
+  pub is_exit : Every f (λ a seen. seen ≡ csv_exit a.table a.stream a.controls a.properties a.out)
   -- the Blob's refusals, then 13, exactly when the wish says, and then no row and no byte is written; else the Blob's rows, and its text
   pub writes : Every f (λ a seen. csv.Writes a.table a.stream a.controls a.properties a.out seen)
-  pub one-result : OneResult f.function
+  pub one_result : OneResult f.function
   pub allows : (a : BlobText) → (c : Call f) × (handed c ≡ a)
 
 -- the rows and the text are those of the reader of Blobs: the same table, stream and rows lent, and a writer that answered 0
 pub record SameBlob (a : Blob) (b : BlobText) : Type 0 where
-  pub same-table : b.table ≡ a.table
-  pub same-stream : b.stream ≡ a.stream
+  pub same_table : b.table ≡ a.table
+  pub same_stream : b.stream ≡ a.stream
   pub same-controls : b.controls ≡ a.controls
   pub same-properties : b.properties ≡ a.properties
 
@@ -312,21 +312,21 @@ WrittenReadBack writer reader =
 
 -- ---- guid_text(guid, out): `guid_exit` says which bytes are written, and that those behind them stay
 pub record GuidText (f : Fn Guid TextExit) : Type 2 where
-  pub is-exit : Every f (λ a seen. seen ≡ guid_exit a.guid a.out)
+  pub is_exit : Every f (λ a seen. seen ≡ guid_exit a.guid a.out)
   pub demand1 : Every f (λ a seen. Texts (GuidAnswer a.guid a.out) a.out seen)
-  pub one-result : OneResult f.function
+  pub one_result : OneResult f.function
 
 -- ---- label_text(n, out): so does `label_exit`
 pub record LabelText (f : Fn Label TextExit) : Type 2 where
-  pub is-exit : Every f (λ a seen. seen ≡ label_exit a.n a.out)
+  pub is_exit : Every f (λ a seen. seen ≡ label_exit a.n a.out)
   pub demand1 : Every f (λ a seen. Texts (LabelAnswer a.n a.out) a.out seen)
-  pub one-result : OneResult f.function
+  pub one_result : OneResult f.function
 
 -- ---- text_name(id, out) and the like, value_name(mark, id, out): "Every name handed out stays the same". The bytes are those of the definition's table
 pub record NameWritten (A : Type 0) (f : Fn A TextExit) (table : A → NameTable) (id : A → ℕ) (out : A → List ℕ) : Type 2 where
-  pub is-exit : Every f (λ a seen. seen ≡ name_exit (table a) (id a) (out a))
+  pub is_exit : Every f (λ a seen. seen ≡ name_exit (table a) (id a) (out a))
   pub demand1 : Every f (λ a seen. Texts (NameAnswer (table a) (id a) (out a)) (out a) seen)
-  pub one-result : OneResult f.function
+  pub one_result : OneResult f.function
 
 -- ---- join(one, other, out): wishes 9 and 12 (Joining)
 -- of two calls: the same two tables, in the other order
@@ -342,7 +342,7 @@ pub record Of (f : Fn Join TextExit) (one other : List ℕ) (c : Call f) : Type 
 
 pub record JoinTables (f : Fn Join TextExit) : Type 2 where
   -- what is seen is what the definition says: the answer, and every byte of the buffer
-  pub is-exit : Every f (λ a seen. seen ≡ join_exit a.one a.other a.out)
+  pub is_exit : Every f (λ a seen. seen ≡ join_exit a.one a.other a.out)
   -- "Refusals: 8 ..; 16 ..; 17 ..; 18 ..; 9 ..; in that order"; a refusal writes nothing
   pub demand1 : Every f (λ a seen. Texts (JoinAnswer a.one a.other a.out) a.out seen)
   -- tables that are lent are lists of bytes
@@ -370,7 +370,7 @@ pub record JoinTables (f : Fn Join TextExit) : Type 2 where
   pub plans : PlansCarried f
   -- "room for 65,100 bytes" is enough
   pub room-enough : Every f (λ a seen. Roomy a.out → ¬ (seen.answer.number ≡ 9))
-  pub one-result : OneResult f.function
+  pub one_result : OneResult f.function
   -- the contract allows a call of any words, so that what is said of two calls isn't idle
   pub allows : (a : Join) → (c : Call f) × (handed c ≡ a)
 
@@ -378,7 +378,7 @@ pub record JoinTables (f : Fn Join TextExit) : Type 2 where
 pub record RewriteStream (f : Fn Rewrite TextExit) : Type 2 where
   pub met : Always f.function f.function.says
   -- what is seen is what the definition says: the answer, and every byte of the buffer
-  pub is-exit : Every f (λ a seen. seen ≡ rewrite_exit a.stream a.out)
+  pub is_exit : Every f (λ a seen. seen ≡ rewrite_exit a.stream a.out)
   pub bytes : Every f (λ a seen. Bytes a.stream)
   -- "Refusals: 5, 4, then 9."; a refusal writes nothing
   pub demand1 : Every f (λ a seen. Texts (RewriteAnswer a.stream a.out) a.out seen)
@@ -392,15 +392,15 @@ pub record RewriteStream (f : Fn Rewrite TextExit) : Type 2 where
   -- "One spelling". Of any two calls that the contract allows
   pub one_spelling : (c d : Call f) (t : Stream) → take 10 (handed c).stream ≡ take 10 (handed d).stream → drop 10 (handed c).stream spells t → drop 10 (handed d).stream spells t
       → (r r' : List ℕ) → result (seen c) ≡ some r → result (seen d) ≡ some r' → r ≡ r'
-  pub one-result : OneResult f.function
+  pub one_result : OneResult f.function
   pub allows : (a : Rewrite) → (c : Call f) × (handed c ≡ a)
 
 -- of two calls of a reader: a stream s, and its rewritten stream r, under one table that speaks for s and in the same room
 pub record Both (s r : List ℕ) (a b : Blob) : Type 0 where
   pub of_s : a.stream ≡ s
   pub of_r : b.stream ≡ r
-  pub same-table : a.table ≡ b.table
-  pub same-room : SameRoom (lent a) (lent b)
+  pub same_table : a.table ≡ b.table
+  pub same_room : SameRoom (lent a) (lent b)
   pub given : Given a.table s
 
 -- they show the same rows but for starts. (`rewrites` above gives `Rewrites` of what a call rewrote)
@@ -414,7 +414,7 @@ read_for a = exit a.table a.stream a.controls a.properties
 
 pub record CheckPanel (f : Fn Blob Exit) : Type 2 where
   pub met : Always f.function f.function.says
-  pub is-exit : Every f (λ a seen. seen ≡ panel_exit a.table a.stream a.controls a.properties)
+  pub is_exit : Every f (λ a seen. seen ≡ panel_exit a.table a.stream a.controls a.properties)
   -- a refused call changes no byte of any buffer
   pub unchanged : Every f (λ a seen. Refused seen.answer → (seen.controls ≡ a.controls) × (seen.properties ≡ a.properties))
   -- on yes every TextBox or ComboBox has its one source, and that is text (the rows are those of read_blob: `PanelReads`)
@@ -432,8 +432,8 @@ pub record CheckPanel (f : Fn Blob Exit) : Type 2 where
   -- the verdict is a function of the rows and of the bytes that they name, whatever the tables, the streams and the room. Of any two calls
   pub by_rows : (c d : Call f) → (read_for (handed c)).answer.number ≡ 0 → panel.SameRows (handed c).stream (handed d).stream (read_for (handed c)) (read_for (handed d))
       → (seen c).answer ≡ (seen d).answer
-  pub one-result : OneResult f.function
-  pub by-words : (c d : Call f) → handed c ≡ handed d → seen c ≡ seen d
+  pub one_result : OneResult f.function
+  pub by_words : (c d : Call f) → handed c ≡ handed d → seen c ≡ seen d
   pub allows : (a : Blob) → (c : Call f) × (handed c ≡ a)
 
 -- of two calls with the same words: what the reader refuses is refused alike, the rows are the reader's, and the verdict is on what these show
@@ -448,47 +448,47 @@ PanelReads reader f = (c : Call reader) (d : Call f) → handed c ≡ handed d �
 
 -- ---- the functions that both the crates and the archive have. `Gives f d` says that every call of f gives what d says, and that the contract allows nothing else
 pub record Promised (i : Interface) : Type 2 where
-  pub read-blob : ReadBlob i.read-blob
-  pub read_2000_lem : Read2000 i.read_2000_lem
-  pub read-later : ReadLater i.read-later
-  pub readers_agree : ReadersAgree i.read-blob i.read_2000_lem i.read-later
-  pub read-type_info : ReadTypeInfo i.read-type_info
+  pub read_blob : ReadBlob i.read_blob
+  pub read_2000 : Read2000 i.read_2000
+  pub read_later : ReadLater i.read_later
+  pub readers_agree : ReadersAgree i.read_blob i.read_2000 i.read_later
+  pub read_type_info : ReadTypeInfo i.read_type_info
   pub pair : PairRows i.pair
-  pub never-refused : NeverRefused i.read-blob (λ a. a.stream) i.read-type_info i.pair
-  pub never-refused-later : NeverRefused i.read-later (λ a. a.stream) i.read-type_info i.pair
-  pub never-refused_2000 : NeverRefused i.read_2000_lem (λ a. a.stream) i.read-type_info i.pair
-  pub read_csv_lem : ReadCsv i.read_csv_lem
-  pub write_csv_lem : WriteCsv i.write_csv_lem
-  pub written-rows : WrittenRows i.read-blob i.write_csv_lem
-  pub written-read-back : WrittenReadBack i.write_csv_lem i.read_csv_lem
-  pub check_panel_lem : CheckPanel i.check_panel_lem
-  pub panel_reads : PanelReads i.read-blob i.check_panel_lem
+  pub never_refused : NeverRefused i.read_blob (λ a. a.stream) i.read_type_info i.pair
+  pub never_refused_later : NeverRefused i.read_later (λ a. a.stream) i.read_type_info i.pair
+  pub never_refused_2000 : NeverRefused i.read_2000 (λ a. a.stream) i.read_type_info i.pair
+  pub read_csv : ReadCsv i.read_csv
+  pub write_csv : WriteCsv i.write_csv
+  pub written_rows : WrittenRows i.read_blob i.write_csv
+  pub written_read_back : WrittenReadBack i.write_csv i.read_csv
+  pub check_panel : CheckPanel i.check_panel
+  pub panel_reads : PanelReads i.read_blob i.check_panel
   -- what a newer table changes (DifferingCalls)
   pub differences : ListDifferences i.differences
-  pub differences-read : DifferencesRead i.read-blob i.differences
+  pub differences_read : DifferencesRead i.read_blob i.differences
   -- wish 4 (CountCalls)
-  pub count-blob : CountBlob i.count-blob
-  pub counts-agree : CountsAgree i.read-blob i.count-blob
-  pub guid-text : GuidText i.guid-text
-  pub label-text : LabelText i.label-text
+  pub count_blob : CountBlob i.count_blob
+  pub counts_agree : CountsAgree i.read_blob i.count_blob
+  pub guid_text : GuidText i.guid_text
+  pub label_text : LabelText i.label_text
   pub join : JoinTables i.join
   pub rewrite : RewriteStream i.rewrite
-  pub rewritten_2000 : RewrittenRead i.read_2000_lem
-  pub rewritten-blob : RewrittenRead i.read-blob
-  pub well-formed : Gives i.well-formed (λ table. well_formed_lem table)
+  pub rewritten_2000 : RewrittenRead i.read_2000
+  pub rewritten_blob : RewrittenRead i.read_blob
+  pub well_formed : Gives i.well_formed (λ table. well_formed_lem table)
   pub room : Gives i.room (λ length. room_for length)
-  pub room_2000_lem : Gives i.room_2000_lem (λ length. room2000 length)
-  pub room-later : Gives i.room-later (λ length. room_later_lem length)
-  pub type-info-room : Gives i.type-info-room (λ length. type_info_room_lem length)
-  pub is-utf16 : Gives i.is-utf16 (λ bytes. is_utf16_lem bytes)
-  pub text-name : NameWritten NameOf i.text-name (λ a. text_names) (λ a. a.id) (λ a. a.out)
-  pub number-name : NameWritten NameOf i.number-name (λ a. number_names) (λ a. a.id) (λ a. a.out)
-  pub bytes-name : NameWritten NameOf i.bytes-name (λ a. bytes_names) (λ a. a.id) (λ a. a.out)
-  pub control-type-name : NameWritten NameOf i.control-type-name (λ a. control_type_names) (λ a. a.id) (λ a. a.out)
-  pub value-name : NameWritten ValueName i.value-name (λ a. names_for a.mark) (λ a. a.id) (λ a. a.out)
-  pub entry-value : Gives i.entry-value (λ a. entry_value_lem a.type a.bytes)
-  pub stored-value : Gives i.stored-value (λ a. stored_value_lem a.id a.bytes)
-  pub value-as : Gives i.value-as (λ a. value_as_lem a.kind a.id a.bytes)
+  pub room_2000 : Gives i.room_2000 (λ length. room2000 length)
+  pub room_later : Gives i.room_later (λ length. room_later_lem length)
+  pub type_info_room : Gives i.type_info_room (λ length. type_info_room_lem length)
+  pub is_utf16 : Gives i.is_utf16 (λ bytes. is_utf16_lem bytes)
+  pub text_name : NameWritten NameOf i.text_name (λ a. text_names) (λ a. a.id) (λ a. a.out)
+  pub number_name : NameWritten NameOf i.number_name (λ a. number_names) (λ a. a.id) (λ a. a.out)
+  pub bytes_name : NameWritten NameOf i.bytes_name (λ a. bytes_names) (λ a. a.id) (λ a. a.out)
+  pub control_type_name : NameWritten NameOf i.control_type_name (λ a. control_type_names) (λ a. a.id) (λ a. a.out)
+  pub value_name : NameWritten ValueName i.value_name (λ a. names_for a.mark) (λ a. a.id) (λ a. a.out)
+  pub entry_value : Gives i.entry_value (λ a. entry_value_lem a.type a.bytes)
+  pub stored_value : Gives i.stored_value (λ a. stored_value_lem a.id a.bytes)
+  pub value_as : Gives i.value_as (λ a. value_as_lem a.kind a.id a.bytes)
 
 -- ---- control_name(stream, label, mark, start, length)
 abbrev pub part : ControlName → Part
@@ -496,24 +496,24 @@ part a = name_part a.stream a.label a.mark a.start a.size
 
 -- in the crates, a slice: the part's bytes, and its place by the places of the stream and the label buffer
 pub record ControlNameIn : Type 2 where
-  pub bytes : Every control-name_in (λ a seen. seen.bytes ≡ part_bytes_lem a.stream a.label (part a))
-  pub place : Every control-name_in (λ a seen. seen.place ≡ part_place a.stream-place a.label-place (part a))
-  pub met : Always control-name_in.function control-name_in.function.says
-  pub one-result : OneResult control-name_in.function
+  pub bytes : Every control_name_in (λ a seen. seen.bytes ≡ part_bytes_lem a.stream a.label (part a))
+  pub place : Every control_name_in (λ a seen. seen.place ≡ part_place a.stream_place a.label_place (part a))
+  pub met : Always control_name_in.function control_name_in.function.says
+  pub one_result : OneResult control_name_in.function
   -- any two results are equal in all that is seen, place and bytes
-  pub by-words : (c d : Call control-name_in) → handed c ≡ handed d → seen c ≡ seen d
+  pub by_words : (c d : Call control_name_in) → handed c ≡ handed d → seen c ≡ seen d
 
 -- ---- widen(low): the double's words, and its value is the single's (a NaN's value is NaN; its bits are in `widened`)
 pub record Widen : Type 2 where
-  pub is-widened : Gives widen (λ low. words_of (widened low))
+  pub is_widened : Gives widen (λ low. words_of (widened low))
   pub exact : Every widen (λ low wide. of_bits binary64 (bits_of wide) ≡ of_bits binary32 low)
 
 -- ---- all of it
 pub record Calls : Type 2 where
   pub of_crates : Promised crates
   pub of_exported : Promised exported
-  pub control-name : ControlNameIn
+  pub control_name : ControlNameIn
   -- for C and Rust a part is source, start and length
-  pub exported-control-name : Gives control-name-part (λ a. handed_part (part a))
+  pub exported_control_name : Gives control_name_part (λ a. handed_part (part a))
   pub integer-value : Gives integer-value (λ bytes. int_of (integer_value_lem bytes))
   pub widen : Widen

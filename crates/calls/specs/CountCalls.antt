@@ -16,7 +16,7 @@ use Rattle.calls.specs.Functions.{Blob, Count}
 
 -- a stream with its code table and room
 abbrev pub stream_of : Count → depot.Call
-stream_of a = record { table = a.table; stream = a.stream; control_room = a.control-room; property_room = a.property-room }
+stream_of a = record { table = a.table; stream = a.stream; control_room = a.control_room; property_room = a.property_room }
 
 -- ---- one call after the other
 module _ {f : Fn Count Totalled} where
@@ -41,7 +41,7 @@ module _ {f : Fn Count Totalled} where
 pub record CountBlob (f : Fn Count Totalled) : Type 2 where
   pub met : Always f.function f.function.says
   -- what is seen is what the definition says: the answer with its counts, and every number of the record
-  pub is-exit : Every f (λ a seen. seen ≡ totals_exit a.totals a.table a.stream a.control-room a.property-room)
+  pub is_exit : Every f (λ a seen. seen ≡ totals_exit a.totals a.table a.stream a.control_room a.property_room)
   -- "12, instead of the reading's answer, where any total would pass the ceiling ..  Otherwise the call returns the reading's answer and counts"
   pub exactly : Every f (λ a seen. (x : Answer) → CountAnswer a.totals (stream_of a) x ↔ (x ≡ seen.answer))
   -- "then the record is unchanged and the counts are 0"
@@ -53,16 +53,16 @@ pub record CountBlob (f : Fn Count Totalled) : Type 2 where
   pub sums : (cs : List (Call f)) → LentOn zeros cs → (c : Total) → at c (left_by zeros cs) ≡ over c (unrefused zeros (streams cs))
   -- "Order of streams doesn't matter to the final record when none was refused for the ceiling.": if one order has no 12, none has
   pub any_order : (t : Totals) (cs ds : List (Call f)) → LentOn t cs → LentOn t ds → Permᴰ (streams cs) (streams ds) → NoneRefused cs → NoneRefused ds × (left_by t cs ≡ left_by t ds)
-  pub one-result : OneResult f.function
+  pub one_result : OneResult f.function
   -- the contract allows a call of any words, so that what is said of several calls isn't idle
   pub allows : (a : Count) → (c : Call f) × (handed c ≡ a)
 
 -- ---- beside read_blob: the same table and stream, and room for as many rows
 pub record SameStream (a : Blob) (b : Count) : Type 0 where
-  pub same-table : b.table ≡ a.table
-  pub same-stream : b.stream ≡ a.stream
-  pub same-controls : room control_width a.controls ≡ b.control-room
-  pub same-properties : room property_width a.properties ≡ b.property-room
+  pub same_table : b.table ≡ a.table
+  pub same_stream : b.stream ≡ a.stream
+  pub same-controls : room control_width a.controls ≡ b.control_room
+  pub same-properties : room property_width a.properties ≡ b.property_room
 
 -- what is counted is what the rows show
 pub record CountsAgree (reader : Fn Blob Exit) (count : Fn Count Totalled) : Type 0 where

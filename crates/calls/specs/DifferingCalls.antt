@@ -12,7 +12,7 @@ use Rattle.calls.specs.Functions.{Blob, Differ}
 pub record ListDifferences (f : Fn Differ DifferencesExit) : Type 2 where
   pub met : Always f.function f.function.says
   -- what is seen is what the definition says: the answer, and every word of the rows
-  pub is-exit : Every f (λ a seen. seen ≡ differences_exit a.older a.newer a.stream a.rows)
+  pub is_exit : Every f (λ a seen. seen ≡ differences_exit a.older a.newer a.stream a.rows)
   -- each answer exactly when its sentence holds
   pub answers : Every f (λ a seen. (x : Answer) → DifferencesAnswer a.older a.newer a.stream a.rows x ↔ (x ≡ seen.answer))
   -- a refusal writes nothing, and what stands after the list stays
@@ -21,16 +21,16 @@ pub record ListDifferences (f : Fn Differ DifferencesExit) : Type 2 where
       → drop (seen.answer.first * difference_width) seen.rows ≡ drop (seen.answer.first * difference_width) a.rows)
   -- "A later stream gives none."
   pub later : Every f (λ a seen. seen.answer.number ≡ 0 → ¬ (is2000 a.older a.stream ≡ true) → seen.answer.first ≡ 0)
-  pub one-result : OneResult f.function
+  pub one_result : OneResult f.function
   pub allows : (a : Differ) → (c : Call f) × (handed c ≡ a)
 
 -- ---- beside a reader
 -- two readings of one stream, by the older table and by the newer
 pub record Beside (d : Differ) (a b : Blob) : Type 0 where
-  pub older-table : a.table ≡ d.older
-  pub newer-table : b.table ≡ d.newer
-  pub older-stream : a.stream ≡ d.stream
-  pub newer-stream : b.stream ≡ d.stream
+  pub older_table : a.table ≡ d.older
+  pub newer_table : b.table ≡ d.newer
+  pub older_stream : a.stream ≡ d.stream
+  pub newer_stream : b.stream ≡ d.stream
 
 -- into slices that are alike
 pub record SameSlices (a b : Blob) : Type 0 where

@@ -187,17 +187,17 @@ type_info = λ (stream, (rows, _)). record { stream = stream.now; rows = rows.no
 pub record Pair : Type 0 where
   pub stream : List ℕ
   pub controls : List ℕ
-  pub control-count : ℕ
-  pub info_stream_lem : List ℕ
+  pub control_count : ℕ
+  pub info_stream : List ℕ
   pub infos : List ℕ
   pub info_count : ℕ
 
-abbrev rows-to-pair : Slice × (Buffer × (ℕ × (Slice × (Slice × (ℕ × End))))) → Pair
-rows-to-pair = λ (stream, (controls, (control-count, (info_stream_lem, (infos, (info_count, _)))))). record {
+abbrev rows_to_pair : Slice × (Buffer × (ℕ × (Slice × (Slice × (ℕ × End))))) → Pair
+rows_to_pair = λ (stream, (controls, (control_count, (info_stream, (infos, (info_count, _)))))). record {
   stream = stream.now;
   controls = controls.now;
-  control-count = control-count;
-  info_stream_lem = info_stream_lem.now;
+  control_count = control_count;
+  info_stream = info_stream.now;
   infos = infos.now;
   info_count = info_count;
 }
@@ -219,8 +219,8 @@ pub record BlobText : Type 0 where
   pub properties : List ℕ
   pub out : List ℕ
 
-abbrev blob-text : Slice × (Slice × (Buffer × (Buffer × (Buffer × End)))) → BlobText
-blob-text = λ (table, (stream, (controls, (properties, (out, _))))). record {
+abbrev blob_text : Slice × (Slice × (Buffer × (Buffer × (Buffer × End)))) → BlobText
+blob_text = λ (table, (stream, (controls, (properties, (out, _))))). record {
   table = table.now;
   stream = stream.now;
   controls = controls.now;
@@ -243,11 +243,11 @@ pub record Count : Type 0 where
   pub totals : Totals
   pub table : List ℕ
   pub stream : List ℕ
-  pub control-room : ℕ
-  pub property-room : ℕ
+  pub control_room : ℕ
+  pub property_room : ℕ
 
 abbrev counting : MutBor Totals × (Slice × (Slice × (ℕ × (ℕ × End)))) → Count
-counting = λ (totals, (table, (stream, (control-room, (property-room, _))))). record { totals = totals.now; table = table.now; stream = stream.now; control-room = control-room; property-room = property-room }
+counting = λ (totals, (table, (stream, (control_room, (property_room, _))))). record { totals = totals.now; table = table.now; stream = stream.now; control_room = control_room; property_room = property_room }
 
 -- (guid, out)
 pub record Guid : Type 0 where
@@ -290,18 +290,18 @@ pub record ControlName : Type 0 where
   pub start : ℕ
   pub size : ℕ
   -- where the two slices stand
-  pub stream-place : Place
-  pub label-place : Place
+  pub stream_place : Place
+  pub label_place : Place
 
-abbrev control-name : Slice × (Slice × (ℕ × (ℕ × (ℕ × End)))) → ControlName
-control-name = λ (stream, (label, (mark, (start, (size, _))))). record {
+abbrev control_name_args : Slice × (Slice × (ℕ × (ℕ × (ℕ × End)))) → ControlName
+control_name_args = λ (stream, (label, (mark, (start, (size, _))))). record {
   stream = stream.now;
   label = label.now;
   mark = mark;
   start = start;
   size = size;
-  stream-place = stream.ref_ptr;
-  label-place = label.ref_ptr;
+  stream_place = stream.ref_ptr;
+  label_place = label.ref_ptr;
 }
 
 -- (id, out)
@@ -318,8 +318,8 @@ pub record ValueName : Type 0 where
   pub id : ℕ
   pub out : List ℕ
 
-abbrev value-name : ℕ × (ℕ × (Buffer × End)) → ValueName
-value-name = λ (mark, (id, (out, _))). record { mark = mark; id = id; out = out.now }
+abbrev value_name_args : ℕ × (ℕ × (Buffer × End)) → ValueName
+value_name_args = λ (mark, (id, (out, _))). record { mark = mark; id = id; out = out.now }
 
 -- (type, bytes)
 pub record Entry : Type 0 where
@@ -355,133 +355,133 @@ abbrev number : ℕ × End → ℕ
 number a = a.0
 
 -- ---- what is seen of a call that wrote into slices: the answer, and the slices at exit
-abbrev blob-exit : Answer → Slice × (Slice × (Buffer × (Buffer × End))) → Exit
-blob-exit r e = record { answer = r; controls = (blob e).controls; properties = (blob e).properties }
+abbrev blob_exit : Answer → Slice × (Slice × (Buffer × (Buffer × End))) → Exit
+blob_exit r e = record { answer = r; controls = (blob e).controls; properties = (blob e).properties }
 
-abbrev later-exit : Answer → ℕ × (Slice × (Buffer × (Buffer × End))) → Exit
-later-exit r e = record { answer = r; controls = (later e).controls; properties = (later e).properties }
+abbrev later_exit : Answer → ℕ × (Slice × (Buffer × (Buffer × End))) → Exit
+later_exit r e = record { answer = r; controls = (later e).controls; properties = (later e).properties }
 
-abbrev type_info_exit_lem : Answer → Slice × (Buffer × End) → TypeInfoExit
-type_info_exit_lem r e = record { answer = r; rows = (type_info e).rows }
+abbrev type_info_exit : Answer → Slice × (Buffer × End) → TypeInfoExit
+type_info_exit r e = record { answer = r; rows = (type_info e).rows }
 
-abbrev pair-exit : Answer → Slice × (Buffer × (ℕ × (Slice × (Slice × (ℕ × End))))) → PairExit
-pair-exit r e = record { answer = r; controls = (rows-to-pair e).controls }
+abbrev pair_exit : Answer → Slice × (Buffer × (ℕ × (Slice × (Slice × (ℕ × End))))) → PairExit
+pair_exit r e = record { answer = r; controls = (rows_to_pair e).controls }
 
-abbrev fields-exit : Answer → Slice × (Buffer × (Buffer × End)) → FieldsExit
-fields-exit r e = record { answer = r; rows = (sheet e).fields; out = (sheet e).out }
+abbrev fields_exit : Answer → Slice × (Buffer × (Buffer × End)) → FieldsExit
+fields_exit r e = record { answer = r; rows = (sheet e).fields; out = (sheet e).out }
 
-abbrev csv_exit_lem : Answer → Slice × (Slice × (Buffer × (Buffer × (Buffer × End)))) → CsvExit
-csv_exit_lem r e = record { answer = r; controls = (blob-text e).controls; properties = (blob-text e).properties; out = (blob-text e).out }
+abbrev csv_exit : Answer → Slice × (Slice × (Buffer × (Buffer × (Buffer × End)))) → CsvExit
+csv_exit r e = record { answer = r; controls = (blob_text e).controls; properties = (blob_text e).properties; out = (blob_text e).out }
 
-abbrev differences-exit : Answer → Slice × (Slice × (Slice × (Buffer × End))) → DifferencesExit
-differences-exit r e = record { answer = r; rows = (differ e).rows }
+abbrev differences_exit : Answer → Slice × (Slice × (Slice × (Buffer × End))) → DifferencesExit
+differences_exit r e = record { answer = r; rows = (differ e).rows }
 
-abbrev count-exit : Answer → MutBor Totals × (Slice × (Slice × (ℕ × (ℕ × End)))) → Totalled
-count-exit r e = exited r (counting e).totals
+abbrev count_exit : Answer → MutBor Totals × (Slice × (Slice × (ℕ × (ℕ × End)))) → Totalled
+count_exit r e = exited r (counting e).totals
 
 abbrev guid-exit : Answer → Slice × (Buffer × End) → TextExit
 guid-exit r e = record { answer = r; out = (guid e).out }
 
-abbrev label-exit : Answer → ℕ × (Buffer × End) → TextExit
-label-exit r e = record { answer = r; out = (label e).out }
+abbrev label_exit : Answer → ℕ × (Buffer × End) → TextExit
+label_exit r e = record { answer = r; out = (label e).out }
 
-abbrev name-exit : Answer → ℕ × (Buffer × End) → TextExit
-name-exit r e = record { answer = r; out = (name_of e).out }
+abbrev name_exit : Answer → ℕ × (Buffer × End) → TextExit
+name_exit r e = record { answer = r; out = (name_of e).out }
 
-abbrev value-name-exit : Answer → ℕ × (ℕ × (Buffer × End)) → TextExit
-value-name-exit r e = record { answer = r; out = (value-name e).out }
+abbrev value_name_exit : Answer → ℕ × (ℕ × (Buffer × End)) → TextExit
+value_name_exit r e = record { answer = r; out = (value_name_args e).out }
 
-abbrev join-exit : Answer → Slice × (Slice × (Buffer × End)) → TextExit
-join-exit r e = record { answer = r; out = (tables e).out }
+abbrev join_exit : Answer → Slice × (Slice × (Buffer × End)) → TextExit
+join_exit r e = record { answer = r; out = (tables e).out }
 
-abbrev rewrite-exit : Answer → Slice × (Buffer × End) → TextExit
-rewrite-exit r e = record { answer = r; out = (rewriting e).out }
+abbrev rewrite_exit : Answer → Slice × (Buffer × End) → TextExit
+rewrite_exit r e = record { answer = r; out = (rewriting e).out }
 
 -- ---- the functions that both the crates and the archive have (`control_name` stands below: the two return its part differently)
 pub record Interface : Type 2 where
-  pub read-blob : Fn Blob Exit
-  pub read_2000_lem : Fn Blob Exit
-  pub read-later : Fn Later Exit
-  pub read-type_info : Fn TypeInfo TypeInfoExit
+  pub read_blob : Fn Blob Exit
+  pub read_2000 : Fn Blob Exit
+  pub read_later : Fn Later Exit
+  pub read_type_info : Fn TypeInfo TypeInfoExit
   pub pair : Fn Pair PairExit
-  pub read_csv_lem : Fn Sheet FieldsExit
-  pub write_csv_lem : Fn BlobText CsvExit
-  pub check_panel_lem : Fn Blob Exit
+  pub read_csv : Fn Sheet FieldsExit
+  pub write_csv : Fn BlobText CsvExit
+  pub check_panel : Fn Blob Exit
   pub differences : Fn Differ DifferencesExit
-  pub count-blob : Fn Count Totalled
-  pub well-formed : Fn (List ℕ) Bool
+  pub count_blob : Fn Count Totalled
+  pub well_formed : Fn (List ℕ) Bool
   pub room : Fn ℕ Room
-  pub room_2000_lem : Fn ℕ Room
-  pub room-later : Fn ℕ Room
-  pub type-info-room : Fn ℕ ℕ
-  pub guid-text : Fn Guid TextExit
-  pub label-text : Fn Label TextExit
+  pub room_2000 : Fn ℕ Room
+  pub room_later : Fn ℕ Room
+  pub type_info_room : Fn ℕ ℕ
+  pub guid_text : Fn Guid TextExit
+  pub label_text : Fn Label TextExit
   pub join : Fn Join TextExit
   pub rewrite : Fn Rewrite TextExit
-  pub is-utf16 : Fn (List ℕ) Bool
-  pub text-name : Fn NameOf TextExit
-  pub number-name : Fn NameOf TextExit
-  pub bytes-name : Fn NameOf TextExit
-  pub control-type-name : Fn NameOf TextExit
-  pub value-name : Fn ValueName TextExit
-  pub entry-value : Fn Entry Value
-  pub stored-value : Fn Stored Value
-  pub value-as : Fn Tied Value
+  pub is_utf16 : Fn (List ℕ) Bool
+  pub text_name : Fn NameOf TextExit
+  pub number_name : Fn NameOf TextExit
+  pub bytes_name : Fn NameOf TextExit
+  pub control_type_name : Fn NameOf TextExit
+  pub value_name : Fn ValueName TextExit
+  pub entry_value : Fn Entry Value
+  pub stored_value : Fn Stored Value
+  pub value_as : Fn Tied Value
 
 -- as the crates have them: `blob::read_blob` and so on
 abbrev pub crates : Interface
 crates = record {
-  read-blob = record {
+  read_blob = record {
     function = record { ended = read_blob.ended; name = read_blob_code.Symbol.name; code = read_blob_code.Symbol.code; says = read_blob_code.Reads.Learnt };
     handed = λ κs a. blob a;
-    seen = λ κs r e. blob-exit r e;
+    seen = λ κs r e. blob_exit r e;
   };
-  read_2000_lem = record {
+  read_2000 = record {
     function = record { ended = read_2000.ended; name = read_2000_code.Symbol.name; code = read_2000_code.Symbol.code; says = read_2000_code.Reads.Learnt };
     handed = λ κs a. blob a;
-    seen = λ κs r e. blob-exit r e;
+    seen = λ κs r e. blob_exit r e;
   };
-  read-later = record {
+  read_later = record {
     function = record { ended = read_later.ended; name = read_later_code.Symbol.name; code = read_later_code.Symbol.code; says = read_later_code.Reads.Learnt };
     handed = λ κs a. later a;
-    seen = λ κs r e. later-exit r e;
+    seen = λ κs r e. later_exit r e;
   };
-  read-type_info = record {
+  read_type_info = record {
     function = record { ended = read_type_info.ended; name = read_type_info_code.Symbol.name; code = read_type_info_code.Symbol.code; says = read_type_info_code.Reads.Learnt };
     handed = λ κs a. type_info a;
-    seen = λ κs r e. type_info_exit_lem r e;
+    seen = λ κs r e. type_info_exit r e;
   };
   pair = record {
     function = record { ended = pair.ended; name = pair_code.Symbol.name; code = pair_code.Symbol.code; says = pair_code.Reads.Learnt };
-    handed = λ κs a. rows-to-pair a;
-    seen = λ κs r e. pair-exit r e;
+    handed = λ κs a. rows_to_pair a;
+    seen = λ κs r e. pair_exit r e;
   };
-  read_csv_lem = record {
+  read_csv = record {
     function = record { ended = read_csv.ended; name = read_csv_code.Symbol.name; code = read_csv_code.Symbol.code; says = read_csv_code.Reads.Learnt };
     handed = λ κs a. sheet a;
-    seen = λ κs r e. fields-exit r e;
+    seen = λ κs r e. fields_exit r e;
   };
-  write_csv_lem = record {
+  write_csv = record {
     function = record { ended = write_csv.ended; name = write_csv_code.Symbol.name; code = write_csv_code.Symbol.code; says = write_csv_code.Reads.Learnt };
-    handed = λ κs a. blob-text a;
-    seen = λ κs r e. csv_exit_lem r e;
+    handed = λ κs a. blob_text a;
+    seen = λ κs r e. csv_exit r e;
   };
-  check_panel_lem = record {
+  check_panel = record {
     function = record { ended = check_panel.ended; name = check_panel_code.Symbol.name; code = check_panel_code.Symbol.code; says = check_panel_code.Reads.Learnt };
     handed = λ κs a. blob a;
-    seen = λ κs r e. blob-exit r e;
+    seen = λ κs r e. blob_exit r e;
   };
   differences = record {
     function = record { ended = differences.ended; name = differences_code.Symbol.name; code = differences_code.Symbol.code; says = differences_code.Reads.Learnt };
     handed = λ κs a. differ a;
-    seen = λ κs r e. differences-exit r e;
+    seen = λ κs r e. differences_exit r e;
   };
-  count-blob = record {
+  count_blob = record {
     function = record { ended = count_blob.ended; name = count_blob_code.Symbol.name; code = count_blob_code.Symbol.code; says = count_blob_code.Reads.Learnt };
     handed = λ κs a. counting a;
-    seen = λ κs r e. count-exit r e;
+    seen = λ κs r e. count_exit r e;
   };
-  well-formed = record {
+  well_formed = record {
     function = record { ended = well_formed.ended; name = well_formed_code.Symbol.name; code = well_formed_code.Symbol.code; says = well_formed_code.Reads.Learnt };
     handed = λ κs a. bytes a;
     seen = λ κs r e. r;
@@ -491,82 +491,82 @@ crates = record {
     handed = λ κs a. number a;
     seen = λ κs r e. r;
   };
-  room_2000_lem = record {
+  room_2000 = record {
     function = record { ended = room_2000.ended; name = room_2000_code.Symbol.name; code = room_2000_code.Symbol.code; says = room_2000_code.Reads.Learnt };
     handed = λ κs a. number a;
     seen = λ κs r e. r;
   };
-  room-later = record {
+  room_later = record {
     function = record { ended = room_later.ended; name = room_later_code.Symbol.name; code = room_later_code.Symbol.code; says = room_later_code.Reads.Learnt };
     handed = λ κs a. number a;
     seen = λ κs r e. r;
   };
-  type-info-room = record {
+  type_info_room = record {
     function = record { ended = type_info_room.ended; name = type_info_room_code.Symbol.name; code = type_info_room_code.Symbol.code; says = type_info_room_code.Reads.Learnt };
     handed = λ κs a. number a;
     seen = λ κs r e. r;
   };
-  guid-text = record {
+  guid_text = record {
     function = record { ended = guid_text.ended; name = guid_text_code.Symbol.name; code = guid_text_code.Symbol.code; says = guid_text_code.Reads.Learnt };
     handed = λ κs a. guid a;
     seen = λ κs r e. guid-exit r e;
   };
-  label-text = record {
+  label_text = record {
     function = record { ended = label_text.ended; name = label_text_code.Symbol.name; code = label_text_code.Symbol.code; says = label_text_code.Reads.Learnt };
     handed = λ κs a. label a;
-    seen = λ κs r e. label-exit r e;
+    seen = λ κs r e. label_exit r e;
   };
   join = record {
     function = record { ended = join.ended; name = join_code.Symbol.name; code = join_code.Symbol.code; says = join_code.Reads.Learnt };
     handed = λ κs a. tables a;
-    seen = λ κs r e. join-exit r e;
+    seen = λ κs r e. join_exit r e;
   };
   rewrite = record {
     function = record { ended = rewrite.ended; name = rewrite_code.Symbol.name; code = rewrite_code.Symbol.code; says = rewrite_code.Reads.Learnt };
     handed = λ κs a. rewriting a;
-    seen = λ κs r e. rewrite-exit r e;
+    seen = λ κs r e. rewrite_exit r e;
   };
-  is-utf16 = record {
+  is_utf16 = record {
     function = record { ended = is_utf16.ended; name = is_utf16_code.Symbol.name; code = is_utf16_code.Symbol.code; says = is_utf16_code.Reads.Learnt };
     handed = λ κs a. bytes a;
     seen = λ κs r e. r;
   };
-  text-name = record {
+  text_name = record {
     function = record { ended = text_name.ended; name = text_name_code.Symbol.name; code = text_name_code.Symbol.code; says = text_name_code.Reads.Learnt };
     handed = λ κs a. name_of a;
-    seen = λ κs r e. name-exit r e;
+    seen = λ κs r e. name_exit r e;
   };
-  number-name = record {
+  number_name = record {
     function = record { ended = number_name.ended; name = number_name_code.Symbol.name; code = number_name_code.Symbol.code; says = number_name_code.Reads.Learnt };
     handed = λ κs a. name_of a;
-    seen = λ κs r e. name-exit r e;
+    seen = λ κs r e. name_exit r e;
   };
-  bytes-name = record {
+  bytes_name = record {
     function = record { ended = bytes_name.ended; name = bytes_name_code.Symbol.name; code = bytes_name_code.Symbol.code; says = bytes_name_code.Reads.Learnt };
     handed = λ κs a. name_of a;
-    seen = λ κs r e. name-exit r e;
+    seen = λ κs r e. name_exit r e;
   };
-  control-type-name = record {
+  control_type_name = record {
     function = record { ended = control_type_name.ended; name = control_type_name_code.Symbol.name; code = control_type_name_code.Symbol.code; says = control_type_name_code.Reads.Learnt };
     handed = λ κs a. name_of a;
-    seen = λ κs r e. name-exit r e;
+    seen = λ κs r e. name_exit r e;
   };
-  value-name = record {
+  value_name = record {
     function = record { ended = value_name.ended; name = value_name_code.Symbol.name; code = value_name_code.Symbol.code; says = value_name_code.Reads.Learnt };
-    handed = λ κs a. value-name a;
-    seen = λ κs r e. value-name-exit r e;
+    handed = λ κs a. value_name_args a;
+    seen = λ κs r e. value_name_exit r e;
   };
-  entry-value = record {
+  entry_value = record {
     function = record { ended = entry_value.ended; name = entry_value_code.Symbol.name; code = entry_value_code.Symbol.code; says = entry_value_code.Reads.Learnt };
     handed = λ κs a. entry a;
     seen = λ κs r e. r;
   };
-  stored-value = record {
+  stored_value = record {
     function = record { ended = stored_value.ended; name = stored_value_code.Symbol.name; code = stored_value_code.Symbol.code; says = stored_value_code.Reads.Learnt };
     handed = λ κs a. stored a;
     seen = λ κs r e. r;
   };
-  value-as = record {
+  value_as = record {
     function = record { ended = value_as.ended; name = value_as_code.Symbol.name; code = value_as_code.Symbol.code; says = value_as_code.Reads.Learnt };
     handed = λ κs a. tied a;
     seen = λ κs r e. r;
@@ -577,57 +577,57 @@ crates = record {
 -- those of the crate oskuramos. The archive's, of oskuramos_c, have the same names and the same clauses, and only hand on to these.)
 abbrev pub exported : Interface
 exported = record {
-  read-blob = record {
+  read_blob = record {
     function = record { ended = oskuramos_read_blob.ended; name = oskuramos_read_blob_code.Symbol.name; code = oskuramos_read_blob_code.Symbol.code; says = oskuramos_read_blob_code.Reads.Learnt };
     handed = λ κs a. blob a;
-    seen = λ κs r e. blob-exit (taken_answer r) e;
+    seen = λ κs r e. blob_exit (taken_answer r) e;
   };
-  read_2000_lem = record {
+  read_2000 = record {
     function = record { ended = oskuramos_read_2000.ended; name = oskuramos_read_2000_code.Symbol.name; code = oskuramos_read_2000_code.Symbol.code; says = oskuramos_read_2000_code.Reads.Learnt };
     handed = λ κs a. blob a;
-    seen = λ κs r e. blob-exit (taken_answer r) e;
+    seen = λ κs r e. blob_exit (taken_answer r) e;
   };
-  read-later = record {
+  read_later = record {
     function = record { ended = oskuramos_read_later.ended; name = oskuramos_read_later_code.Symbol.name; code = oskuramos_read_later_code.Symbol.code; says = oskuramos_read_later_code.Reads.Learnt };
     handed = λ κs a. later a;
-    seen = λ κs r e. later-exit (taken_answer r) e;
+    seen = λ κs r e. later_exit (taken_answer r) e;
   };
-  read-type_info = record {
+  read_type_info = record {
     function = record { ended = oskuramos_read_type_info.ended; name = oskuramos_read_type_info_code.Symbol.name; code = oskuramos_read_type_info_code.Symbol.code; says = oskuramos_read_type_info_code.Reads.Learnt };
     handed = λ κs a. type_info a;
-    seen = λ κs r e. type_info_exit_lem (taken_answer r) e;
+    seen = λ κs r e. type_info_exit (taken_answer r) e;
   };
   pair = record {
     function = record { ended = oskuramos_pair.ended; name = oskuramos_pair_code.Symbol.name; code = oskuramos_pair_code.Symbol.code; says = oskuramos_pair_code.Reads.Learnt };
-    handed = λ κs a. rows-to-pair a;
-    seen = λ κs r e. pair-exit (taken_answer r) e;
+    handed = λ κs a. rows_to_pair a;
+    seen = λ κs r e. pair_exit (taken_answer r) e;
   };
-  read_csv_lem = record {
+  read_csv = record {
     function = record { ended = oskuramos_read_csv.ended; name = oskuramos_read_csv_code.Symbol.name; code = oskuramos_read_csv_code.Symbol.code; says = oskuramos_read_csv_code.Reads.Learnt };
     handed = λ κs a. sheet a;
-    seen = λ κs r e. fields-exit (taken_answer r) e;
+    seen = λ κs r e. fields_exit (taken_answer r) e;
   };
-  write_csv_lem = record {
+  write_csv = record {
     function = record { ended = oskuramos_write_csv.ended; name = oskuramos_write_csv_code.Symbol.name; code = oskuramos_write_csv_code.Symbol.code; says = oskuramos_write_csv_code.Reads.Learnt };
-    handed = λ κs a. blob-text a;
-    seen = λ κs r e. csv_exit_lem (taken_answer r) e;
+    handed = λ κs a. blob_text a;
+    seen = λ κs r e. csv_exit (taken_answer r) e;
   };
-  check_panel_lem = record {
+  check_panel = record {
     function = record { ended = oskuramos_check_panel.ended; name = oskuramos_check_panel_code.Symbol.name; code = oskuramos_check_panel_code.Symbol.code; says = oskuramos_check_panel_code.Reads.Learnt };
     handed = λ κs a. blob a;
-    seen = λ κs r e. blob-exit (taken_answer r) e;
+    seen = λ κs r e. blob_exit (taken_answer r) e;
   };
   differences = record {
     function = record { ended = oskuramos_differences.ended; name = oskuramos_differences_code.Symbol.name; code = oskuramos_differences_code.Symbol.code; says = oskuramos_differences_code.Reads.Learnt };
     handed = λ κs a. differ a;
-    seen = λ κs r e. differences-exit (taken_answer r) e;
+    seen = λ κs r e. differences_exit (taken_answer r) e;
   };
-  count-blob = record {
+  count_blob = record {
     function = record { ended = oskuramos_count_blob.ended; name = oskuramos_count_blob_code.Symbol.name; code = oskuramos_count_blob_code.Symbol.code; says = oskuramos_count_blob_code.Reads.Learnt };
     handed = λ κs a. counting a;
-    seen = λ κs r e. count-exit (taken_answer r) e;
+    seen = λ κs r e. count_exit (taken_answer r) e;
   };
-  well-formed = record {
+  well_formed = record {
     function = record { ended = oskuramos_well_formed.ended; name = oskuramos_well_formed_code.Symbol.name; code = oskuramos_well_formed_code.Symbol.code; says = oskuramos_well_formed_code.Reads.Learnt };
     handed = λ κs a. bytes a;
     seen = λ κs r e. r;
@@ -637,82 +637,82 @@ exported = record {
     handed = λ κs a. number a;
     seen = λ κs r e. taken_room r;
   };
-  room_2000_lem = record {
+  room_2000 = record {
     function = record { ended = oskuramos_room_2000.ended; name = oskuramos_room_2000_code.Symbol.name; code = oskuramos_room_2000_code.Symbol.code; says = oskuramos_room_2000_code.Reads.Learnt };
     handed = λ κs a. number a;
     seen = λ κs r e. taken_room r;
   };
-  room-later = record {
+  room_later = record {
     function = record { ended = oskuramos_room_later.ended; name = oskuramos_room_later_code.Symbol.name; code = oskuramos_room_later_code.Symbol.code; says = oskuramos_room_later_code.Reads.Learnt };
     handed = λ κs a. number a;
     seen = λ κs r e. taken_room r;
   };
-  type-info-room = record {
+  type_info_room = record {
     function = record { ended = oskuramos_type_info_room.ended; name = oskuramos_type_info_room_code.Symbol.name; code = oskuramos_type_info_room_code.Symbol.code; says = oskuramos_type_info_room_code.Reads.Learnt };
     handed = λ κs a. number a;
     seen = λ κs r e. r;
   };
-  guid-text = record {
+  guid_text = record {
     function = record { ended = oskuramos_guid_text.ended; name = oskuramos_guid_text_code.Symbol.name; code = oskuramos_guid_text_code.Symbol.code; says = oskuramos_guid_text_code.Reads.Learnt };
     handed = λ κs a. guid a;
     seen = λ κs r e. guid-exit (taken_answer r) e;
   };
-  label-text = record {
+  label_text = record {
     function = record { ended = oskuramos_label_text.ended; name = oskuramos_label_text_code.Symbol.name; code = oskuramos_label_text_code.Symbol.code; says = oskuramos_label_text_code.Reads.Learnt };
     handed = λ κs a. label a;
-    seen = λ κs r e. label-exit (taken_answer r) e;
+    seen = λ κs r e. label_exit (taken_answer r) e;
   };
   join = record {
     function = record { ended = oskuramos_join.ended; name = oskuramos_join_code.Symbol.name; code = oskuramos_join_code.Symbol.code; says = oskuramos_join_code.Reads.Learnt };
     handed = λ κs a. tables a;
-    seen = λ κs r e. join-exit (taken_answer r) e;
+    seen = λ κs r e. join_exit (taken_answer r) e;
   };
   rewrite = record {
     function = record { ended = oskuramos_rewrite.ended; name = oskuramos_rewrite_code.Symbol.name; code = oskuramos_rewrite_code.Symbol.code; says = oskuramos_rewrite_code.Reads.Learnt };
     handed = λ κs a. rewriting a;
-    seen = λ κs r e. rewrite-exit (taken_answer r) e;
+    seen = λ κs r e. rewrite_exit (taken_answer r) e;
   };
-  is-utf16 = record {
+  is_utf16 = record {
     function = record { ended = oskuramos_is_utf16.ended; name = oskuramos_is_utf16_code.Symbol.name; code = oskuramos_is_utf16_code.Symbol.code; says = oskuramos_is_utf16_code.Reads.Learnt };
     handed = λ κs a. bytes a;
     seen = λ κs r e. r;
   };
-  text-name = record {
+  text_name = record {
     function = record { ended = oskuramos_text_name.ended; name = oskuramos_text_name_code.Symbol.name; code = oskuramos_text_name_code.Symbol.code; says = oskuramos_text_name_code.Reads.Learnt };
     handed = λ κs a. name_of a;
-    seen = λ κs r e. name-exit (taken_answer r) e;
+    seen = λ κs r e. name_exit (taken_answer r) e;
   };
-  number-name = record {
+  number_name = record {
     function = record { ended = oskuramos_number_name.ended; name = oskuramos_number_name_code.Symbol.name; code = oskuramos_number_name_code.Symbol.code; says = oskuramos_number_name_code.Reads.Learnt };
     handed = λ κs a. name_of a;
-    seen = λ κs r e. name-exit (taken_answer r) e;
+    seen = λ κs r e. name_exit (taken_answer r) e;
   };
-  bytes-name = record {
+  bytes_name = record {
     function = record { ended = oskuramos_bytes_name.ended; name = oskuramos_bytes_name_code.Symbol.name; code = oskuramos_bytes_name_code.Symbol.code; says = oskuramos_bytes_name_code.Reads.Learnt };
     handed = λ κs a. name_of a;
-    seen = λ κs r e. name-exit (taken_answer r) e;
+    seen = λ κs r e. name_exit (taken_answer r) e;
   };
-  control-type-name = record {
+  control_type_name = record {
     function = record { ended = oskuramos_control_type_name.ended; name = oskuramos_control_type_name_code.Symbol.name; code = oskuramos_control_type_name_code.Symbol.code; says = oskuramos_control_type_name_code.Reads.Learnt };
     handed = λ κs a. name_of a;
-    seen = λ κs r e. name-exit (taken_answer r) e;
+    seen = λ κs r e. name_exit (taken_answer r) e;
   };
-  value-name = record {
+  value_name = record {
     function = record { ended = oskuramos_value_name.ended; name = oskuramos_value_name_code.Symbol.name; code = oskuramos_value_name_code.Symbol.code; says = oskuramos_value_name_code.Reads.Learnt };
-    handed = λ κs a. value-name a;
-    seen = λ κs r e. value-name-exit (taken_answer r) e;
+    handed = λ κs a. value_name_args a;
+    seen = λ κs r e. value_name_exit (taken_answer r) e;
   };
-  entry-value = record {
+  entry_value = record {
     function = record { ended = oskuramos_entry_value.ended; name = oskuramos_entry_value_code.Symbol.name; code = oskuramos_entry_value_code.Symbol.code; says = oskuramos_entry_value_code.Reads.Learnt };
     handed = λ κs a. entry a;
     seen = λ κs r e. taken_value r;
   };
-  stored-value = record {
+  stored_value = record {
     function = record { ended = oskuramos_stored_value.ended; name = oskuramos_stored_value_code.Symbol.name; code = oskuramos_stored_value_code.Symbol.code; says = oskuramos_stored_value_code.Reads.Learnt };
     handed = λ κs a. stored a;
     seen = λ κs r e. taken_value r;
   };
-  value-as = record {
+  value_as = record {
     function = record { ended = oskuramos_value_as.ended; name = oskuramos_value_as_code.Symbol.name; code = oskuramos_value_as_code.Symbol.code; says = oskuramos_value_as_code.Reads.Learnt };
     handed = λ κs a. tied a;
     seen = λ κs r e. taken_value r;
@@ -725,18 +725,18 @@ pub record Returned : Type 0 where
   pub bytes : List ℕ
   pub place : Place
 
-abbrev pub control-name_in : Fn ControlName Returned
-control-name_in = record {
+abbrev pub control_name_in : Fn ControlName Returned
+control_name_in = record {
   function = record { ended = control_name.ended; name = control_name_code.Symbol.name; code = control_name_code.Symbol.code; says = control_name_code.Reads.Learnt };
-  handed = λ κs a. control-name a;
+  handed = λ κs a. control_name_args a;
   seen = λ κs r e. record { bytes = r.now; place = r.ref_ptr };
 }
 
 -- and as source, start and length for C and Rust
-abbrev pub control-name-part : Fn ControlName Part
-control-name-part = record {
+abbrev pub control_name_part : Fn ControlName Part
+control_name_part = record {
   function = record { ended = oskuramos_control_name.ended; name = oskuramos_control_name_code.Symbol.name; code = oskuramos_control_name_code.Symbol.code; says = oskuramos_control_name_code.Reads.Learnt };
-  handed = λ κs a. control-name a;
+  handed = λ κs a. control_name_args a;
   seen = λ κs r e. r;
 }
 

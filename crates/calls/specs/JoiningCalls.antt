@@ -15,12 +15,12 @@ pub data Carried (f : Fn Join TextExit) : Plan → Option (List ℕ) → Type 0 
   call : {p q : Plan} {a b out : List ℕ} → Carried f p (some a) → Carried f q (some b) → (c : Call f) → handed c ≡ record { one = a; other = b; out = out }
       → Carried f (Plan.join p q out) (result (seen c))
   -- nothing came of a side: there is nothing to join
-  no-first : {p q : Plan} {out : List ℕ} → Carried f p none → Carried f (Plan.join p q out) none
+  no_first : {p q : Plan} {out : List ℕ} → Carried f p none → Carried f (Plan.join p q out) none
   no_second : {p q : Plan} {out : List ℕ} → Carried f q none → Carried f (Plan.join p q out) none
 
 pub record PlansCarried (f : Fn Join TextExit) : Type 0 where
   -- "With four offices we can't tell them in which order to join": any number of tables, in any order and grouping
   pub any_plan : (p q : Plan) (r r' : Option (List ℕ)) → Ready p → Ready q → Permᴰ (tables p) (tables q) → Carried f p r → Carried f q r' → r ≡ r'
   -- what comes of a plan is its `outcome`, of which JoiningMany says the rest; and every plan can be carried out, so that none of this is idle
-  pub is-outcome : (p : Plan) (r : Option (List ℕ)) → Carried f p r → r ≡ outcome p
+  pub is_outcome : (p : Plan) (r : Option (List ℕ)) → Carried f p r → r ≡ outcome p
   pub carries_out : (p : Plan) → Carried f p (outcome p)
