@@ -5,6 +5,7 @@
 -- test for less, at most, equal. `pos n` is the number n, `negsuc n` is -(n + 1). In the claims: `×` and, `↔` exactly when, `¬` not,
 -- `List-as-Memᴰ x xs` x is one of xs; a proof `refl` says that both sides compute to the same.
 pub mod Lists  -- nothing of the format
+pub mod Told  -- Rust's option for the definitions'
 pub mod Bytes  -- numbers of one, two and four bytes
 pub mod Answer  -- "Answer numbers"
 pub mod Utf16  -- "What is ported": well-formed UTF-16
