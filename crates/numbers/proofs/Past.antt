@@ -9,6 +9,6 @@ use Rattle.rules.specs.Bytes.{byte, u16}
 pub no_byte : (s : List ℕ) (p : ℕ) → length s ≤ p → byte s p ≡ 0
 no_byte s p h = get_or-eq_default s 0 h
 
-pub no-u16 : (s : List ℕ) (p : ℕ) → length s ≤ p → u16 s p ≡ 0
+pub no_u16 : (s : List ℕ) (p : ℕ) → length s ≤ p → u16 s p ≡ 0
 unfolding u16
-no-u16 s p h = ap₂ (λ (a b : ℕ). a + 256 * b) (no_byte s p h) (no_byte s (p + 1) (omega arith))
+no_u16 s p h = ap₂ (λ (a b : ℕ). a + 256 * b) (no_byte s p h) (no_byte s (p + 1) (omega arith))

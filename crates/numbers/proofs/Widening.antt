@@ -12,7 +12,6 @@ use lib.Ieee.{Float, nan, inf, fin, binary32, binary64, of_bits, to_bits, nan_bi
 use lib.Ieee.Bits.{nan_bits_is, nan_bits_above, of_bits-fits, of_bits-to_bits}
 use lib.Ieee.Fits.{fits_widens, and_i}
 use Rattle.rules.specs.Value.{widened, widened_nan}
-use Rattle.numbers.proofs.Signed.{no}
 
 -- ---- the fraction of a NaN
 or_least : (a b : ℕ) → a ≤ bit_or a b
@@ -44,8 +43,8 @@ nan_is b h =
 only_nan : (x : Float) → is_nan x ≡ true → x ≡ nan
 unfolding is_nan
 only_nan nan e = refl
-only_nan (inf s) e = no e
-only_nan (fin s m k) e = no e
+only_nan (inf s) e = cc
+only_nan (fin s m k) e = cc
 
 -- a fraction with its top bit set, below all ones of the exponent
 nan_above : (q x : ℕ) → 2 ^ 51 ≤ x → x < 2 ^ 52 → nan_bits binary64 (q * 2 ^ 63 + 0x7FF * 2 ^ 52 + x) ≡ true

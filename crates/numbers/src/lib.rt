@@ -6,85 +6,74 @@ ghost use Rattle.std.specs.Float.{binary32, binary64};
 ghost use Rattle.std.specs.Float.Ieee.{of_bits};
 ghost use Rattle.rules.specs.Bytes.{byte, u16, u32, half_at_lem};
 ghost use Rattle.rules.specs.Value.{signed, word32, integer_value_lem, widened, widened_nan};
-ghost use Rattle.numbers.specs.Int.{int_of, short_of};
-ghost use Rattle.numbers.specs.Reads.{Small, if_inside};
+ghost use Rattle.rules.specs.Told.{told};
+ghost use Rattle.numbers.specs.Int.{short_of};
+ghost use Rattle.numbers.specs.Reads.{Small};
 ghost use Rattle.numbers.specs.Wide.{words_of, bits_of};
-
-fn of_two(low: u8, high: u8) -> u16
-    ensures { result ≡ low + 256 * high }
-{
-    (low as u16) + 256 * (high as u16)
-}
-
-fn of_four(low: u16, high: u16) -> u32
-    ensures { result ≡ low + 65536 * high }
-{
-    (low as u32) + 65536 * (high as u32)
-}
 
 // ---- at any place: a byte past the end is 0
 pub fn byte_at(s: &[u8], at: usize) -> u8
     ensures { result ≡ byte s.now at }
 {
-    if at < s.len() { s[at] } else { 0 }
+    s.get(at).copied().unwrap_or(0)
 }
 
+#[tactic(auto, using(crate::proofs::Past::no_u16), unfolding(rules::specs::Bytes::u16))]
 pub fn u16_at(s: &[u8], at: usize) -> u16
     ensures { result ≡ u16 s.now at }
 {
     if at < s.len() {
-        of_two(byte_at(s, at), byte_at(s, at + 1))
+        u16::from_le_bytes([s[at], byte_at(s, at + 1)])
     } else {
         0
     }
 }
 
-// The upper half is 0 where it starts past the end: only there could `at + 2` wrap.
+// The upper half is 0 where its place is past the last that there is.
+#[tactic(auto, using(crate::proofs::Past::no_u16), unfolding(rules::specs::Bytes::u32))]
 pub fn u32_at(s: &[u8], at: usize) -> u32
     ensures { result ≡ u32 s.now at }
 {
-    if s.len() <= 2 {
-        return of_four(u16_at(s, at), 0);
+    let low = u32::from(u16_at(s, at));
+    match at.checked_add(2) {
+        Some(next) => low + 65536 * u32::from(u16_at(s, next)),
+        None => low,
     }
-    if s.len() - 2 <= at {
-        return of_four(u16_at(s, at), 0);
-    }
-    of_four(u16_at(s, at), u16_at(s, at + 2))
 }
 
 // ---- inside: the bytes are there, and are read without a test
+#[tactic(auto, unfolding(rules::specs::Bytes::u16))]
 pub fn u16_inside(s: &[u8], at: usize) -> u16
     requires { at + 2 ≤ length s.now }
     ensures { result ≡ u16 s.now at }
 {
-    of_two(s[at], s[at + 1])
+    u16::from_le_bytes([s[at], s[at + 1]])
 }
 
+#[tactic(auto, unfolding(rules::specs::Bytes::u32, rules::specs::Bytes::u16))]
 pub fn u32_inside(s: &[u8], at: usize) -> u32
     requires { at + 4 ≤ length s.now }
     ensures { result ≡ u32 s.now at }
 {
-    of_four(u16_inside(s, at), u16_inside(s, at + 2))
+    u32::from_le_bytes([s[at], s[at + 1], s[at + 2], s[at + 3]])
 }
 
 // ---- as a usize, with its bound
 pub fn number_of(x: u8) -> usize
     ensures { Small x 256 result }
 {
-    x as usize
+    usize::from(x)
 }
 
 // The byte at a place, or 0 past the end.
 pub fn byte_number(s: &[u8], at: usize) -> usize
     ensures { Small (byte s.now at) 256 result }
 {
-    if at < s.len() {
-        return number_of(s[at]);
-    }
-    0
+    number_of(byte_at(s, at))
 }
 
 // The two bytes at a place, a byte past the end being 0. Where both are inside, one test serves them.
+#[tactic(auto, unfolding(rules::specs::Bytes::u16))]
 pub fn u16_number(s: &[u8], at: usize) -> usize
     requires { at < 2 ^ 60 }
     ensures { Small (u16 s.now at) 65536 result }
@@ -95,24 +84,14 @@ pub fn u16_number(s: &[u8], at: usize) -> usize
     byte_number(s, at) + 256 * byte_number(s, at + 1)
 }
 
-// Two bytes, or that they aren't both there.
-#[derive(Clone, Copy)]
-pub enum IfInside {
-    Outside,
-    Of(usize),
-}
-
-pub fn u16_if_inside(s: &[u8], at: usize) -> IfInside
-    ensures { result ≡ if_inside (half_at_lem s.now at) }
+// Two bytes, where both are there.
+#[tactic(auto, unfolding(rules::specs::Bytes::half_at_lem, rules::specs::Bytes::byte_at))]
+pub fn u16_if_inside(s: &[u8], at: usize) -> Option<usize>
+    ensures { result ≡ told (half_at_lem s.now at) }
 {
-    if s.len() <= at {
-        return IfInside::Outside;
-    }
-    let next = at + 1;
-    if s.len() <= next {
-        return IfInside::Outside;
-    }
-    IfInside::Of(number_of(s[at]) + 256 * number_of(s[next]))
+    let low = *s.get(at)?;
+    let high = *s.get(at + 1)?;
+    Some(number_of(low) + 256 * number_of(high))
 }
 
 // ---- as a byte
@@ -123,74 +102,45 @@ pub fn low_byte(n: usize) -> u8
 }
 
 // ---- whole numbers
-#[derive(Clone, Copy)]
-pub enum Int {
-    Of(i32),
-    Nothing,
-}
-
-#[derive(Clone, Copy)]
-pub enum Short {
-    Fits(i16),
-    Not,
-}
-
+#[tactic(auto, unfolding(rules::specs::Value::signed))]
 pub fn signed16(n: u16) -> i32
     ensures { result ≡ signed 0x8000 n }
 {
-    if n < 0x8000 {
-        n as i32
-    } else {
-        -1 - ((0xffff - n) as i32)
-    }
+    i32::from(n.cast_signed())
 }
 
+#[tactic(auto, unfolding(rules::specs::Value::signed))]
 pub fn signed32(n: u32) -> i32
     ensures { result ≡ signed 0x80000000 n }
 {
-    if n < 0x8000_0000 {
-        n as i32
-    } else {
-        -1 - ((0xffff_ffff - n) as i32)
-    }
+    n.cast_signed()
 }
 
 // The 32 bits of a number, in two's complement.
+#[tactic(auto, unfolding(rules::specs::Value::word32))]
 pub fn word_of(v: i32) -> u32
     ensures { result ≡ word32 v }
 {
-    if v < 0 {
-        0xffff_ffff - ((-1 - v) as u32)
-    } else {
-        v as u32
-    }
+    v.cast_unsigned()
 }
 
-pub fn short_of(v: i32) -> Short
+#[tactic(auto, unfolding(crate::specs::Int::short_of, rules::specs::Value::fits16))]
+pub fn short_of(v: i32) -> Option<i16>
     ensures { result ≡ short_of v }
 {
-    if v < -32768 {
-        return Short::Not;
-    }
-    if v > 32767 {
-        return Short::Not;
-    }
-    Short::Fits(v as i16)
+    i16::try_from(v).ok()
 }
 
-pub fn integer_value(bytes: &[u8]) -> Int
-    ensures { result ≡ int_of (integer_value_lem bytes.now) }
+#[tactic(auto, unfolding(rules::specs::Value::integer_value_lem))]
+pub fn integer_value(bytes: &[u8]) -> Option<i32>
+    ensures { result ≡ told (integer_value_lem bytes.now) }
 {
-    if bytes.len() == 1 {
-        return Int::Of(byte_at(bytes, 0) as i32);
+    match bytes.len() {
+        1 => Some(i32::from(bytes[0])),
+        2 => Some(signed16(u16_inside(bytes, 0))),
+        4 => Some(signed32(u32_inside(bytes, 0))),
+        _ => None,
     }
-    if bytes.len() == 2 {
-        return Int::Of(signed16(u16_at(bytes, 0)));
-    }
-    if bytes.len() == 4 {
-        return Int::Of(signed32(u32_at(bytes, 0)));
-    }
-    Int::Nothing
 }
 
 // ---- fractions
