@@ -1,3 +1,3 @@
--- Laws that the functions' proofs cite.
+-- Laws that the functions' proofs cite; the public ones serve other crates too.
 pub mod Sizes
 pub mod Values

@@ -8,8 +8,8 @@ ghost use Rattle.propvalue.specs.Parts.{single_or_binary, double_or_binary, guid
 ghost use Rattle.propvalue.specs.Sized.{size_of, SizedValue};
 
 use numbers::{
-    Int, Short, byte_at, integer_value, short_of, signed16, signed32, u16_at, u16_inside, u32_at,
-    u32_inside, widen, word_of,
+    byte_at, integer_value, short_of, signed16, signed32, u16_at, u16_inside, u32_at, u32_inside,
+    widen, word_of,
 };
 use rules::{
     KIND_DOUBLE, KIND_GUID, KIND_TEXT, LAST_BYTE_ID, LAST_FLAG_ID, LAST_SHORT_ID, LAST_SIZED_ID,
@@ -34,34 +34,29 @@ fn valued(mark: u32, low: u32, high: u32) -> Value
 fn bool_value(b: u8) -> Value
     ensures { result ≡ bool_value b }
 {
-    if b == 0 {
-        valued(MARK_BOOL, 0, 0)
-    } else {
-        valued(MARK_BOOL, 1, 0)
-    }
+    valued(MARK_BOOL, u32::from(b != 0), 0)
 }
 
 fn long_value(bytes: &[u8]) -> Value
     ensures { result ≡ long_or binary_value (integer_value_lem bytes.now) }
 {
-    let Int::Of(v) = integer_value(bytes) else {
+    let Some(v) = integer_value(bytes) else {
         return valued(MARK_BINARY, 0, 0);
     };
     valued(MARK_LONG, word_of(v), 0)
 }
 
+#[tactic(auto, unfolding(numbers::specs::Int::short_of))]
 fn short_value(bytes: &[u8]) -> Value
     ensures { result ≡ short_or binary_value (integer_value_lem bytes.now) }
 {
-    let Int::Of(v) = integer_value(bytes) else {
+    let Some(n) = integer_value(bytes).and_then(short_of) else {
         return valued(MARK_BINARY, 0, 0);
     };
-    let Short::Fits(n) = short_of(v) else {
-        return valued(MARK_BINARY, 0, 0);
-    };
-    valued(MARK_SHORT, word_of(n as i32), 0)
+    valued(MARK_SHORT, word_of(i32::from(n)), 0)
 }
 
+#[tactic(auto, unfolding(crate::specs::Parts::single_or_binary))]
 fn single_value(bytes: &[u8]) -> Value
     ensures { result ≡ single_or_binary bytes.now }
 {
@@ -73,6 +68,7 @@ fn single_value(bytes: &[u8]) -> Value
     }
 }
 
+#[tactic(auto, unfolding(crate::specs::Parts::double_or_binary))]
 fn double_value(bytes: &[u8]) -> Value
     ensures { result ≡ double_or_binary bytes.now }
 {
@@ -83,6 +79,7 @@ fn double_value(bytes: &[u8]) -> Value
     }
 }
 
+#[tactic(auto, unfolding(crate::specs::Parts::guid_or_binary))]
 fn guid_value(bytes: &[u8]) -> Value
     ensures { result ≡ guid_or_binary bytes.now }
 {
@@ -105,27 +102,26 @@ fn text_or(bytes: &[u8], other: u32) -> Value
 }
 
 // ---- the later layout
+#[tactic(auto, unfolding(rules::specs::Value::yes_no_value))]
 pub fn yes_no_value(bytes: &[u8]) -> Value
     ensures { result ≡ yes_no_value bytes.now }
 {
-    if bytes.len() == 0 {
-        return valued(MARK_NOT_DEFAULT, 0, 0);
+    match bytes.len() {
+        0 => valued(MARK_NOT_DEFAULT, 0, 0),
+        1 => bool_value(bytes[0]),
+        _ => long_value(bytes),
     }
-    if bytes.len() == 1 {
-        return bool_value(byte_at(bytes, 0));
-    }
-    long_value(bytes)
 }
 
 // By the type that document 01 gives the number of.
+#[tactic(auto, unfolding(rules::specs::Value::entry_value_lem, crate::specs::Parts::single_or_binary, crate::specs::Parts::double_or_binary, crate::specs::Parts::guid_or_binary))]
 pub fn entry_value(type_code: u32, bytes: &[u8]) -> Value
     ensures { result ≡ entry_value_lem type_code bytes.now }
 {
     match type_code {
         0x01 => yes_no_value(bytes),
         0x02 => short_value(bytes),
-        0x03 => long_value(bytes),
-        0x04 => long_value(bytes),
+        0x03 | 0x04 => long_value(bytes),
         0x06 => single_value(bytes),
         0x08 => double_value(bytes),
         0x09 => guid_value(bytes),
@@ -135,31 +131,27 @@ pub fn entry_value(type_code: u32, bytes: &[u8]) -> Value
 }
 
 // ---- the Access 2000 layout
-// How many bytes a value has: the id tells, or a length before them.
-#[derive(Clone, Copy)]
-pub enum Size {
-    Told(usize),
-    Stored,
-}
-
-pub fn value_size(id: u8) -> Size
+// How many bytes a value has, where its id tells; else a length stands before them.
+#[tactic(auto, unfolding(crate::specs::Sized::size_of))]
+pub fn value_size(id: u8) -> Option<usize>
     ensures { result ≡ size_of id }
 {
     if LAST_SHORT_ID < id {
         if LAST_SIZED_ID < id {
-            return Size::Stored;
+            return None;
         }
-        return Size::Told(4);
+        return Some(4);
     }
     if LAST_BYTE_ID < id {
-        return Size::Told(2);
+        return Some(2);
     }
     if LAST_FLAG_ID < id {
-        return Size::Told(1);
+        return Some(1);
     }
-    Size::Told(0)
+    Some(0)
 }
 
+#[tactic(auto, unfolding(rules::specs::Value::stored_value_lem, rules::specs::Value::word32))]
 pub fn stored_value(id: u8, bytes: &[u8]) -> Value
     ensures { result ≡ stored_value_lem id bytes.now }
 {
@@ -167,7 +159,7 @@ pub fn stored_value(id: u8, bytes: &[u8]) -> Value
         return valued(MARK_NOT_DEFAULT, 0, 0);
     }
     if id <= LAST_BYTE_ID {
-        return valued(MARK_SHORT, byte_at(bytes, 0) as u32, 0);
+        return valued(MARK_SHORT, u32::from(byte_at(bytes, 0)), 0);
     }
     if id <= LAST_SHORT_ID {
         return valued(MARK_SHORT, word_of(signed16(u16_at(bytes, 0))), 0);
@@ -179,6 +171,7 @@ pub fn stored_value(id: u8, bytes: &[u8]) -> Value
 }
 
 // Bytes after a length are read by the kind of the row that ties their id.
+#[tactic(auto, unfolding(rules::specs::Value::value_as_lem, rules::specs::Value::stored_value_lem, crate::specs::Parts::double_or_binary, crate::specs::Parts::guid_or_binary))]
 pub fn value_as(kind: u8, id: u8, bytes: &[u8]) -> Value
     ensures { result ≡ value_as_lem kind id bytes.now }
 {
@@ -194,6 +187,7 @@ pub fn value_as(kind: u8, id: u8, bytes: &[u8]) -> Value
 }
 
 // As stored_value, of at least as many bytes as the id tells: their number isn't tested.
+#[tactic(auto, using(crate::proofs::Sizes::byte_room, crate::proofs::Sizes::short_room, crate::proofs::Sizes::long_room), unfolding(rules::specs::Value::stored_value_lem, rules::specs::Value::word32, rules::specs::Value::signed))]
 pub fn sized_stored_value(id: u8, bytes: &[u8]) -> Value
     requires { SizedValue id (length bytes.now) }
     ensures { result ≡ stored_value_lem id bytes.now }
@@ -205,7 +199,7 @@ pub fn sized_stored_value(id: u8, bytes: &[u8]) -> Value
         return valued(MARK_SHORT, word_of(signed16(u16_inside(bytes, 0))), 0);
     }
     if LAST_FLAG_ID < id {
-        return valued(MARK_SHORT, bytes[0] as u32, 0);
+        return valued(MARK_SHORT, u32::from(bytes[0]), 0);
     }
     valued(MARK_NOT_DEFAULT, 0, 0)
 }
