@@ -1,7 +1,9 @@
 -- What the counting pass counts, of a tree alone: entries with all below them, and their properties.
 use Rattle.std.specs.Prelude.{ℕ, ◌+◌, cond, List, [], ◌∷◌, length}
-use Rattle.std.proofs.Math.Option.{Option, none, some}
+use Rattle.std.specs.Prelude as code
+use Rattle.std.proofs.Math.Option.{Option}
 use Rattle.rules.specs.Tree.{Entry, plain, parent, Entries, end, more, Node, is_reported, reported}
+use Rattle.rules.specs.Told.{told_as}
 use Rattle.rows.specs.declared.Tally.{Tally}
 
 abbrev mutual
@@ -28,20 +30,19 @@ props_in [] = 0
 props_in (n ∷ ns) = length n.props + props_in ns
 
 -- ---- what was read, counted, with the place after it
-abbrev pub tally1 : {P : Type 0} → Option (Entry P × ℕ) → Tally
-tally1 none = Tally.Bad
-tally1 (some x) = Tally.Of (size1 x.0) (props1 x.0) x.1
+abbrev pub tally_record : ℕ → ℕ → ℕ → Tally
+tally_record controls props next = record { controls = controls; props = props; next = next }
 
-abbrev pub tally : {P : Type 0} → Option (Entries P × ℕ) → Tally
-tally none = Tally.Bad
-tally (some x) = Tally.Of (size x.0) (props x.0) x.1
+abbrev pub tally1 : {P : Type 0} → Option (Entry P × ℕ) → code.Option Tally
+tally1 = told_as (λ x. tally_record (size1 x.0) (props1 x.0) x.1)
+
+abbrev pub tally : {P : Type 0} → Option (Entries P × ℕ) → code.Option Tally
+tally = told_as (λ x. tally_record (size x.0) (props x.0) x.1)
 
 -- of the top list, what is reported
-abbrev pub tally_top : {P : Type 0} → Option (Entries P × ℕ) → Tally
-tally_top none = Tally.Bad
-tally_top (some x) = Tally.Of (size (reported x.0)) (props (reported x.0)) x.1
+abbrev pub tally_top : {P : Type 0} → Option (Entries P × ℕ) → code.Option Tally
+tally_top = told_as (λ x. tally_record (size (reported x.0)) (props (reported x.0)) x.1)
 
 -- of an entry of the top list, where it is reported
-abbrev pub tally_kept : {P : Type 0} → Option (Entry P × ℕ) → Tally
-tally_kept none = Tally.Bad
-tally_kept (some x) = cond (is_reported x.0) (tally1 (some x)) (Tally.Of 0 0 x.1)
+abbrev pub tally_kept : {P : Type 0} → Option (Entry P × ℕ) → code.Option Tally
+tally_kept = told_as (λ x. cond (is_reported x.0) (tally_record (size1 x.0) (props1 x.0) x.1) (tally_record 0 0 x.1))

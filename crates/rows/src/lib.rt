@@ -67,13 +67,10 @@ pub struct InfoRow {
 
 // What was counted from a place of a stream on: controls, their properties, and the place after them.
 #[derive(Clone, Copy)]
-pub enum Tally {
-    Bad,
-    Of {
-        controls: usize,
-        props: usize,
-        next: usize,
-    },
+pub struct Tally {
+    pub controls: usize,
+    pub props: usize,
+    pub next: usize,
 }
 
 // Where a writer goes on: the place in the stream, and the next row of each slice.
