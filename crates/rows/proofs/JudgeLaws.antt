@@ -1,5 +1,5 @@
--- One argument for both layouts: counts against room, rows written, and what is seen at exit.
-use Prim.Native.Nat.{ℕ, ◌+◌, ◌≤◌, ◌<◌}
+-- One argument for both layouts: rows written, and what is seen at exit.
+use Prim.Native.Nat.{ℕ, ◌+◌, ◌≤◌}
 use native.Mathlib.Omega.{arith}
 use mathlib.Core.Path.{◌≡◌, refl, sym, ap, ap₂, ◌∙◌}
 use mathlib.Core.Bool.{Bool, true, false, cond}
@@ -7,13 +7,13 @@ use mathlib.Core.List.{List, map}
 use mathlib.Core.Option.{some}
 use lib.Dec.{ltb}
 use lib.ListN.{length, length-append, length-map}
-use borrow.Author.Tests.{ltb-false, lt-ltb, le-ltb}
+use borrow.Author.Tests.{ltb-false}
 use Rattle.rules.specs.Lists.{concat}
-use Rattle.rules.specs.Answer.{answer, longest}
+use Rattle.rules.specs.Answer.{longest}
 use Rattle.rules.specs.Rows.{control_width, property_width, room}
 use Rattle.rules.specs.Tree.{Node}
 use Rattle.rules.specs.Reading.{Control, Reading, properties}
-use Rattle.rules.specs.Blob.{Outcome, refused, read, counted, fit, answer_of, exit_by_lem}
+use Rattle.rules.specs.Blob.{Outcome, refused, read, counted, answer_of, exit_by_lem}
 use Rattle.rules.specs.declared.Answer.{Answer}
 use Rattle.rules.specs.declared.Property.{Property}
 use Rattle.rows.specs.Counting.{props_in}
@@ -22,19 +22,6 @@ use Rattle.rows.specs.Acts.{Fit, stood, act_by}
 use Rattle.rows.proofs.WritingLaws.{reading-written}
 use Rattle.rows.proofs.CountingLaws.{theirs-many}
 use Rattle.rows.specs.Judge.{Counts, Roomy, Written, fit_in, Exits}
-
--- ---- the answer
-module _ {n m o : ℕ} (c p : ℕ) (r : Reading) (k : Counts r n m o) {a : Answer} where
-  pub six : c < n → a ≡ answer 6 n m o → a ≡ answer_of (fit c p (some r))
-  six h e = rw (k.controls-are, k.properties-are, k.own-are, lt-ltb c n h) e
-
-  pub seven : n ≤ c → p < m → a ≡ answer 7 n m o → a ≡ answer_of (fit c p (some r))
-  seven g h e = rw (k.controls-are, k.properties-are, k.own-are, le-ltb c n g, lt-ltb p m h) e
-
-  pub nought : n ≤ c → m ≤ p → a ≡ answer 0 n m o → a ≡ answer_of (fit c p (some r))
-  nought g h e =
-      let z : a ≡ counted 0 r = rw (k.controls-are, k.properties-are, k.own-are) e in
-      rw (k.controls-are, k.properties-are, le-ltb c n g, le-ltb p m h) z
 
 -- ---- what is seen: a refusal writes nothing; 0 says that there is room
 module _ (cs ps : List ℕ) where

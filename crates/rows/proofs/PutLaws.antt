@@ -2,10 +2,11 @@
 use Prim.Native.Nat.{ℕ, suc, ◌+◌, ◌*◌, ◌≤◌}
 use native.Mathlib.Omega.{arith}
 use native.Mathlib.Nat.{zero-mul, add-mul}
-use mathlib.Core.Path.{◌≡◌, refl, sym, ap, ◌∙◌}
+use mathlib.Core.Path.{◌≡◌, refl, sym, ap, ap₂, ◌∙◌}
 use mathlib.Core.List.{List, [], ◌∷◌, ◌++◌, append-nil, append_assoc}
 use lib.ListN.{length, set, take, drop}
-use lib.Seq.{sets, length-sets, sets-eq, length-take-le, take_at, drop_at}
+use borrow.Rule.Slice.PartMut.{put_mid}
+use lib.Seq.{sets, length-sets, sets-eq, length-take-le, take_at, drop_at, drop-drop}
 use Rattle.rules.specs.Lists.{concat}
 use Rattle.rules.specs.Rows.{written, row_at}
 use Rattle.rules.proofs.ListLaws.{concat-append, sets-append}
@@ -40,6 +41,14 @@ put_first w l k r rs h f =
 pub written-put : (w : ℕ) (l : List ℕ) (rows : List (List ℕ)) → put w l 0 rows ≡ written rows l
 unfolding put
 written-put w l rows = rw (zero-mul w)
+
+-- one row, copied to its place
+pub put_copied : (w k n : ℕ) (l ys row : List ℕ) → ys ≡ row → length row ≡ w → n ≡ w → k * w + w ≤ length l → put_mid (k * w) n l ys ≡ put w l k (row ∷ [])
+unfolding put concat
+put_copied w k n l ys row e z m h =
+    let rest : drop n (drop (k * w) l) ≡ drop (k * w + length row) l = drop-drop n (k * w) l ∙ ap (λ j. drop (k * w + j) l) (m ∙ sym z) in
+    ap₂ (λ x y. take (k * w) l ++ (x ++ y)) e rest
+    ∙ sym (sets-eq row l (k * w) (omega (arith, h, z)) ∙ append_assoc (take (k * w) l) row (drop (k * w + length row) l)) ∙ ap (sets l (k * w)) (sym (append-nil row))
 
 -- words stored one by one as code has them: at i, i + 1, i + 2, ..
 abbrev stores_from : ℕ → List ℕ → ℕ → List ℕ → List ℕ

@@ -3,7 +3,6 @@ use Prim.Native.Nat.{ℕ}
 use mathlib.Core.Path.{◌≡◌, refl, sym, ◌∙◌}
 use mathlib.Core.List.{[]}
 use mathlib.Core.Option.{some}
-use Rattle.rules.specs.Lists.{◌>>=◌}
 use Rattle.rules.specs.Tree.{Node}
 use Rattle.rules.specs.Reading.{Control}
 use Rattle.rows.specs.Writing.{State}

@@ -48,6 +48,24 @@ pub struct ControlRow {
     pub parent: u32,
 }
 
+impl ControlRow {
+    // The row as it is lent.
+    fn words(self) -> [u32; CONTROL_WIDTH]
+        ensures { result ≡ control_words self }
+    {
+        [
+            self.type_code,
+            self.mark,
+            self.start,
+            self.size,
+            self.first,
+            self.count,
+            self.level,
+            self.parent,
+        ]
+    }
+}
+
 // Where a control stands in the tree: its level below the reported top entry, and its parent's row.
 #[derive(Clone, Copy)]
 pub struct Nesting {
@@ -63,6 +81,15 @@ pub struct InfoRow {
     pub start: u32,
     pub size: u32,
     pub cut: u32,
+}
+
+impl InfoRow {
+    // The row as it is lent.
+    fn words(self) -> [u32; INFO_WIDTH]
+        ensures { result ≡ info_words self }
+    {
+        [self.type_code, self.index, self.start, self.size, self.cut]
+    }
 }
 
 // What was counted from a place of a stream on: controls, their properties, and the place after them.
@@ -135,20 +162,22 @@ pub fn is_section(entry_type: usize) -> bool
     FIRST_SECTION <= entry_type && entry_type <= LAST_SECTION
 }
 
+// Writes row `at`, where a row has `N` words.
+#[tactic(auto, using(crate::proofs::PutLaws::put_copied))]
+pub fn put_row<const N: usize>(rows: &mut [u32], at: usize, row: [u32; N])
+    requires { at * N + N ≤ length rows.old }
+    ensures { rows.new ≡ put N rows.old at (row.entry ∷ []) }
+{
+    let k = at * N;
+    rows[k..k + N].copy_from_slice(&row);
+}
+
 // Writes row `at` of the control rows.
 pub fn put_control(rows: &mut [u32], at: usize, row: ControlRow)
     requires { at * control_width + control_width ≤ length rows.old }
     ensures { rows.new ≡ put control_width rows.old at (control_words row ∷ []) }
 {
-    let k = at * CONTROL_WIDTH;
-    rows[k] = row.type_code;
-    rows[k + 1] = row.mark;
-    rows[k + 2] = row.start;
-    rows[k + 3] = row.size;
-    rows[k + 4] = row.first;
-    rows[k + 5] = row.count;
-    rows[k + 6] = row.level;
-    rows[k + 7] = row.parent;
+    put_row(rows, at, row.words());
 }
 
 // Writes row `at` of the property rows.
@@ -156,14 +185,8 @@ pub fn put_property(rows: &mut [u32], at: usize, p: Property)
     requires { at * property_width + property_width ≤ length rows.old }
     ensures { rows.new ≡ put property_width rows.old at (property_row p ∷ []) }
 {
-    let k = at * PROPERTY_WIDTH;
     let v = p.value;
-    rows[k] = p.id;
-    rows[k + 1] = v.mark;
-    rows[k + 2] = v.low;
-    rows[k + 3] = v.high;
-    rows[k + 4] = p.start;
-    rows[k + 5] = p.size;
+    put_row(rows, at, [p.id, v.mark, v.low, v.high, p.start, p.size]);
 }
 
 // Writes row `at` of the TypeInfo rows.
@@ -171,12 +194,7 @@ pub fn put_info(rows: &mut [u32], at: usize, row: InfoRow)
     requires { at * type_info_width + type_info_width ≤ length rows.old }
     ensures { rows.new ≡ put type_info_width rows.old at (info_words row ∷ []) }
 {
-    let k = at * INFO_WIDTH;
-    rows[k] = row.type_code;
-    rows[k + 1] = row.index;
-    rows[k + 2] = row.start;
-    rows[k + 3] = row.size;
-    rows[k + 4] = row.cut;
+    put_row(rows, at, row.words());
 }
 
 // Word `i` of row `n`, where a row has `width` words; 0 where the rows end before it.
