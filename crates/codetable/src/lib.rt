@@ -89,17 +89,13 @@ fn codes_ascend(table: &[u8], start: usize, n: usize) -> bool
     requires { start + 2 * n < 2 ^ 60 }
     ensures { result ≡ ascends 0 (t.codes_at table.now start n) }
 {
-    let mut at = start;
-    let mut left = n;
     let mut least = 0;
-    while 0 < left {
-        let code = u16_number(table, at);
+    for i in 0..n {
+        let code = u16_number(table, start + CODE_SIZE * i);
         if code < least {
             return false;
         }
         least = code + 1;
-        at += CODE_SIZE;
-        left -= 1;
     }
     true
 }
@@ -109,10 +105,9 @@ fn ties_ok(table: &[u8], start: usize, n: usize) -> bool
     requires { start + 4 * n ≤ length table.now }
     ensures { result ≡ t.ties_ok (t.ties_at table.now start n) }
 {
-    let end = start + ROW_SIZE * n;
-    let mut at = start;
     let mut least = 0;
-    while at < end {
+    for i in 0..n {
+        let at = start + ROW_SIZE * i;
         let id = number_of(table[at]);
         if id < least {
             return false;
@@ -124,7 +119,6 @@ fn ties_ok(table: &[u8], start: usize, n: usize) -> bool
             return false;
         }
         least = id + 1;
-        at += ROW_SIZE;
     }
     least < PAST_IDS
 }
@@ -134,11 +128,10 @@ fn scopes_fit(table: &[u8], start: usize, bodies: usize, n: usize) -> bool
     requires { ScopesSmall start bodies n }
     ensures { result ≡ t.scopes_fit table.now start bodies n }
 {
-    let mut at = start;
     let mut body = bodies;
-    let mut left = n;
     let mut least = 0;
-    while 0 < left {
+    for i in 0..n {
+        let at = start + SCOPE_SIZE * i;
         let kind = byte_number(table, at);
         let code = u16_number(table, at + CODE_AT);
         let count = u16_number(table, at + ROW_COUNT_AT);
@@ -162,9 +155,7 @@ fn scopes_fit(table: &[u8], start: usize, bodies: usize, n: usize) -> bool
             return false;
         }
         least = key + 1;
-        at += SCOPE_SIZE;
         body += ROW_SIZE * count;
-        left -= 1;
     }
     body == table.len()
 }
@@ -200,15 +191,6 @@ pub fn is_header(table: &[u8], code: u16) -> bool
     ensures { result ≡ has code (t.header table.now) }
 {
     let wanted = code as usize;
-    let mut at = HEADER_AT;
-    let mut codes = byte_number(table, HEADER_COUNT_AT);
-    while 0 < codes {
-        let here = u16_number(table, at);
-        if here == wanted {
-            return true;
-        }
-        at += CODE_SIZE;
-        codes -= 1;
-    }
-    false
+    (0..byte_number(table, HEADER_COUNT_AT)).any(|i| u16_number(table, HEADER_AT + CODE_SIZE * i)
+        == wanted)
 }
