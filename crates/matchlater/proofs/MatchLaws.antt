@@ -38,8 +38,8 @@ match-step s p = enough (length s) (suc (length s)) s p (omega arith) (omega ari
 pub match-here : (s : List ℕ) (p : ℕ) → match_at s p ≡ true → matches_from s p ≡ p ∷ matches_from s (p + 6)
 match-here s p t = match-step s p ∙ rw t
 
-pub match-on : (s : List ℕ) (p : ℕ) → match_at s p ≡ false → matches_from s p ≡ matches_from s (p + 1)
-match-on s p t = match-step s p ∙ rw t
+pub match_skipped : (s : List ℕ) (p : ℕ) → match_at s p ≡ false → matches_from s p ≡ matches_from s (p + 1)
+match_skipped s p t = match-step s p ∙ rw t
 
 pub match-end : (s : List ℕ) (p : ℕ) → length s ≤ p → matches_from s p ≡ []
 unfolding matches_from matches_of
@@ -49,7 +49,7 @@ match-end s p h = enough (length s) zero s p (omega arith) (omega arith)
 on-to : (k : ℕ) (s : List ℕ) (p : ℕ) → ((q : ℕ) → p ≤ q → q < p + k → match_at s q ≡ false) → matches_from s p ≡ matches_from s (p + k)
 on-to zero s p h = ap (matches_from s) (omega arith)
 on-to (suc k) s p h =
-    on-to k s p (λ q a b. h q a (omega arith)) ∙ match-on s (p + k) (h (p + k) (omega arith) (omega arith)) ∙ ap (matches_from s) (omega arith)
+    on-to k s p (λ q a b. h q a (omega arith)) ∙ match_skipped s (p + k) (h (p + k) (omega arith) (omega arith)) ∙ ap (matches_from s) (omega arith)
 
 -- fewer than six bytes hold no match
 pub match_none : (s : List ℕ) (p : ℕ) → p ≤ length s → length s < p + 6 → matches_from s p ≡ matches_from s (length s)
@@ -76,7 +76,11 @@ no-match s p h = go (match_at s p) refl
     go false e = refl
 
 pub leap_one : (s : List ℕ) (p : ℕ) → ruled_out (byte s p) (byte s (p + 2)) ≡ true → matches_from s p ≡ matches_from s (p + 1)
-leap_one s p h = match-on s p (no-match s p h)
+leap_one s p h = match_skipped s p (no-match s p h)
+
+pub none_first : (s : List ℕ) (p : ℕ) → true ≡ none_of_lem 0 s p
+unfolding none_of_lem
+none_first s p = refl
 
 pub none_more : (n : ℕ) (s : List ℕ) (p : ℕ) → (none_of_lem n s p && ruled_out (byte s (p + n)) (byte s (p + n + 2))) ≡ none_of_lem (n + 1) s p
 unfolding none_of_lem

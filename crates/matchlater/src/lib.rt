@@ -25,6 +25,7 @@ const BLOCK: usize = 32;
 const BLOCK_BYTES: usize = 34;
 
 // The six bytes 14 00 0A 00 00 00 stand at `at`.
+#[tactic(auto, using(crate::proofs::MatchLaws::match_past), unfolding(rules::specs::Later::match_at))]
 fn match_at(s: &[u8], at: usize) -> bool
     ensures { result ≡ match_at s.now at }
 {
@@ -45,25 +46,26 @@ fn rules_out(first: u8, third: u8) -> bool
 }
 
 // A match is ruled out at each place of the block from `at` on. No branch and no early end, so that many places are tried at once.
+#[tactic(auto, using(crate::proofs::MatchLaws::none_first, crate::proofs::MatchLaws::none_more))]
 fn none_in_block(s: &[u8], at: usize) -> bool
     requires { at + 34 ≤ length s.now }
     ensures { result ≡ none_of_lem 32 s.now at }
 {
     let mut none = true;
-    let mut i: usize = 0;
-    while i < BLOCK {
+    for i in 0..BLOCK {
         none = none & rules_out(s[at + i], s[at + i + 2]);
-        i += 1;
     }
     none
 }
 
 // Skips the places from `from` on, a block at a time, as long as a match is ruled out at each.
+#[tactic(auto, using(crate::proofs::MatchLaws::leap))]
 fn past_blocks(s: &[u8], from: usize) -> usize
     requires { from ≤ length s.now }
     ensures { Leapt s.now from (length s.now) result }
 {
     let mut p = from;
+    // Kept: a block's bytes overlap the next one's by two, which no chunk iterator gives.
     while BLOCK_BYTES <= s.len() - p {
         if none_in_block(s, p) {
             p = p + BLOCK;
@@ -75,25 +77,21 @@ fn past_blocks(s: &[u8], from: usize) -> usize
 }
 
 // The first match from `from` on before `stop`, or `stop`.
+#[tactic(auto, using(crate::proofs::MatchLaws::match_skipped, crate::proofs::MatchLaws::leap_one))]
 fn match_before(s: &[u8], from: usize, stop: usize) -> usize
     requires { Stretch s.now from stop }
     ensures { MatchBefore s.now from stop result }
 {
-    let mut p = from;
-    while p < stop {
-        if rules_out(s[p], s[p + 2]) {
-            p = p + 1;
-        } else {
-            if match_at(s, p) {
-                return p;
-            }
-            p = p + 1;
+    for p in from..stop {
+        if !rules_out(s[p], s[p + 2]) && match_at(s, p) {
+            return p;
         }
     }
     stop
 }
 
 // The first match from `from` on, or the end. A block where a match isn't ruled out is gone through place by place, and so are the last places.
+#[tactic(auto, using(crate::proofs::MatchLaws::match_none))]
 pub fn find_match(s: &[u8], from: usize) -> usize
     requires { from ≤ length s.now }
     ensures { NextMatch s.now from result }
