@@ -1,7 +1,6 @@
--- What the proofs of several functions use.
+-- Laws that the functions' proofs cite; the public ones serve other crates too.
 pub mod Inverse
 pub mod Extents
 pub mod Runs
-pub mod Heads
 pub mod Grows
 pub mod Room

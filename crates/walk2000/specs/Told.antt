@@ -6,22 +6,18 @@ use Rattle.walk2000.specs.declared.Extent.{Extent}
 use Rattle.walk2000.specs.declared.Run.{Run}
 use Rattle.walk2000.specs.declared.Opens.{Opens}
 
-abbrev pub extent : Option (ℕ × ℕ) → Extent
-extent none = Extent.Bad
-extent (some x) = Extent.At x.0 x.1
+abbrev pub extent : ℕ × ℕ → Extent
+extent x = record { start = x.0; size = x.1 }
 
-abbrev pub value : Option Prop → Extent
-value none = Extent.Bad
-value (some q) = Extent.At q.start q.size
+abbrev pub value : Prop → Extent
+value q = record { start = q.start; size = q.size }
 
-abbrev pub run : Option (List Prop × ℕ) → Run
-run none = Run.Bad
-run (some x) = Run.Of (length x.0) x.1
+abbrev pub run : List Prop × ℕ → Run
+run x = record { count = length x.0; next = x.1 }
 
 abbrev pub head_by : Option ℕ → ℕ → Opens
 head_by none p = Opens.Plain p
 head_by (some n) p = Opens.Listed n p
 
-abbrev pub head : Option (Option ℕ × ℕ) → Opens
-head none = Opens.Bad
-head (some x) = head_by x.0 x.1
+abbrev pub head : Option ℕ × ℕ → Opens
+head x = head_by x.0 x.1
