@@ -7,7 +7,7 @@ ghost use Rattle.rules.specs.CodeTable.{ties_at, is_tied};
 ghost use Rattle.coderows.specs.Look.{Listed, Finds, Sorted, body_rows, as_row};
 ghost use Rattle.codehints.specs.Slots.{slots, RowAsked, RowsAsked};
 
-use coderows::{Body, Glance, Row, SCOPE_LIST_WORDS, row_near, scope_near, seek_row};
+use coderows::{Body, SCOPE_LIST_WORDS, Tie, row_near, scope_near, seek_row};
 use numbers::{low_byte, number_of};
 
 // Hints for rows, and after them hints for scopes: the low byte of a place each.
@@ -46,8 +46,7 @@ pub fn find_scope(
     let slot = scope_slot(code as usize);
     let scope = scope_near(table, scopes, scope_kind, code, number_of(hints[slot]));
     hints[slot] = low_byte(scope.near);
-    let body = scope.body;
-    body
+    scope.body
 }
 
 // What n rows say of an id, where the ids ascend; the row at which the search ends is noted.
@@ -58,18 +57,18 @@ fn learn_row(
     start: usize,
     n: usize,
     wanted: usize,
-) -> Row
+) -> Option<Tie>
     requires { RowsAsked slot start n }
     ensures { Sorted (ties_at table.now start n) → result ≡ as_row (find (is_tied wanted) (ties_at table.now start n)) }
 {
     let sought = seek_row(table, start, n, wanted);
     hints[slot] = low_byte(sought.near);
-    let row = sought.row;
-    row
+    sought.row
 }
 
 // What the rows that were found say of an id, where their ids ascend.
-pub fn find_row(table: &[u8], hints: &mut [u8; HINTS], body: Body, id: u8) -> Row
+#[tactic(auto, unfolding(coderows::specs::Look::body_rows))]
+pub fn find_row(table: &[u8], hints: &mut [u8; HINTS], body: Body, id: u8) -> Option<Tie>
     ensures { Sorted (body_rows table.now body) → result ≡ as_row (find (is_tied id) (body_rows table.now body)) }
 {
     let start = body.start as usize;
@@ -77,8 +76,7 @@ pub fn find_row(table: &[u8], hints: &mut [u8; HINTS], body: Body, id: u8) -> Ro
     let wanted = id as usize;
     let slot = row_slot(start, wanted);
     match row_near(table, start, n, wanted, number_of(hints[slot])) {
-        Glance::Tied { target, kind } => Row::Tied { target, kind },
-        Glance::Untied => Row::Untied,
-        Glance::Unseen => learn_row(table, hints, slot, start, n, wanted),
+        Some(row) => row,
+        None => learn_row(table, hints, slot, start, n, wanted),
     }
 }

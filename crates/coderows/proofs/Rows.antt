@@ -1,14 +1,12 @@
 -- What the search for a row comes to.
 use Prim.Native.Nat.{ℕ, zero, suc, ◌+◌, ◌≤◌}
-use mathlib.Core.Path.{◌≡◌, refl, ap, ◌∙◌}
+use mathlib.Core.Path.{◌≡◌, refl, ap}
 use mathlib.Core.List.{List, ◌∷◌}
-use native.Mathlib.Omega.{arith}
 use Rattle.rules.specs.Lists.{find}
 use Rattle.rules.specs.Bytes.{byte, u16}
 use Rattle.rules.specs.CodeTable.{id_of, tie_at, ties_at, is_tied}
-use Rattle.coderows.specs.declared.Glance.{Glance}
-use Rattle.coderows.specs.declared.Row.TheVariants.{Tied, Untied}
-use Rattle.coderows.specs.Look.{items_at, Sorted, as_row, Glances}
+use Rattle.std.specs.Prelude.{None, Some}
+use Rattle.coderows.specs.Look.{items_at, Sorted, as_row}
 use Rattle.coderows.proofs.Halves.{Narrowed, not_there, Turn, hit}
 
 ties_as_items : (t : List ℕ) (at n : ℕ) → ties_at t at n ≡ items_at (tie_at t) 4 at n
@@ -18,31 +16,9 @@ ties_as_items t at (suc n) = ap (λ l. tie_at t at ∷ l) (ties_as_items t (at +
 
 pub row_hit : (t : List ℕ) {start n wanted at left half mid i : ℕ} → Turn (tie_at t) id_of 4 start n wanted at left half mid i → (x k : ℕ)
     → i ≡ wanted → x ≡ u16 t (mid + 1) → k ≡ byte t (mid + 3)
-    → Sorted (ties_at t start n) → Tied x k ≡ as_row (find (is_tied wanted) (ties_at t start n))
-unfolding as_row
+    → Sorted (ties_at t start n) → Some (record { target = x; kind = k }) ≡ as_row (find (is_tied wanted) (ties_at t start n))
 row_hit t {start} {n} T x k h ex ek a = rw (ex, ek, ties_as_items t start n, hit T h (rw (ties_as_items t start n) at a))
 
 pub row-none : (t : List ℕ) {start n wanted at left : ℕ} → Narrowed (tie_at t) id_of 4 start n wanted at left → left ≤ 0
-    → Sorted (ties_at t start n) → Untied ≡ as_row (find (is_tied wanted) (ties_at t start n))
-unfolding as_row
+    → Sorted (ties_at t start n) → None ≡ as_row (find (is_tied wanted) (ties_at t start n))
 row-none t {start} {n} N h a = rw (ties_as_items t start n, not_there N h (rw (ties_as_items t start n) at a))
-
--- ---- what one row tells
-pub glance_tied : (t : List ℕ) {start n wanted at left half mid i : ℕ} → Turn (tie_at t) id_of 4 start n wanted at left half mid i → (x k : ℕ)
-    → i ≡ wanted → x ≡ u16 t (mid + 1) → k ≡ byte t (mid + 3) → Glances t start n wanted (Glance.Tied x k)
-glance_tied t T x k h ex ek = record {
-  tied = λ x' k' e s.
-      let a : x' ≡ x = cc in
-      let b : k' ≡ k = cc in
-      (λ i. Tied (a i) (b i)) ∙ row_hit t T x k h ex ek s;
-  untied = λ e. absurd (let z : ◌≡◌ {A = ℕ} 0 1 = cc in omega arith);
-}
-
-pub glance_untied : (t : List ℕ) {start n wanted at left : ℕ} → Narrowed (tie_at t) id_of 4 start n wanted at left → left ≤ 0 → Glances t start n wanted Glance.Untied
-glance_untied t N h = record { tied = λ x k e. absurd (let z : ◌≡◌ {A = ℕ} 0 1 = cc in omega arith); untied = λ e. row-none t N h }
-
-pub glance_unseen : (t : List ℕ) (start n wanted : ℕ) → Glances t start n wanted Glance.Unseen
-glance_unseen t start n wanted = record {
-  tied = λ x k e. absurd (let z : ◌≡◌ {A = ℕ} 0 1 = cc in omega arith);
-  untied = λ e. absurd (let z : ◌≡◌ {A = ℕ} 0 1 = cc in omega arith);
-}

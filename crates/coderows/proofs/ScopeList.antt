@@ -1,5 +1,5 @@
 -- What the contents say of the scopes, as it is written down one scope after the other.
-use Prim.Native.Nat.{ℕ, ◌+◌, ◌*◌, ◌≤◌, ◌<◌}
+use Prim.Native.Nat.{ℕ, ◌+◌, ◌*◌, ◌≤◌, ◌<◌, min}
 use mathlib.Core.Path.{◌≡◌, refl, ◌∙◌}
 use mathlib.Core.Logic.{◌⊎◌, inl, inr}
 use mathlib.Core.List.{List}
@@ -11,9 +11,8 @@ use lib.Dec.{ltb}
 use borrow.Author.Tests.{ltb-true, ltb-false}
 use lib.ListN.{length, set, get_or, length-set}
 use lib.Seq.{get_or-set_same, get_or-set_other}
-use Rattle.rules.specs.Bytes.{byte, u16}
-use Rattle.rules.specs.CodeTable.{scope_count, contents_at, key_of}
-use Rattle.coderows.specs.Look.{counts_to, Words, Listed}
+use Rattle.rules.specs.CodeTable.{scope_count, contents_at}
+use Rattle.coderows.specs.Look.{key_at, count_at, counts_to, Words, Listed}
 use Rattle.codetable.proofs.Steps.{Counts}
 
 -- three words written from k on
@@ -49,20 +48,19 @@ module _ (xs : List ℕ) (k a b c : ℕ) where
     three_third = get_or-set_same (set (set xs k a) (k + 1) b) (k + 2) c 0 (omega (arith, long-two))
 
 -- the first i scopes are written down
-pub record Filled (t xs : List ℕ) (contents bodies at body i : ℕ) : Type 0 where
-  pub at-is : at ≡ contents + 5 * i
+pub record Filled (t xs : List ℕ) (contents bodies body i : ℕ) : Type 0 where
   pub body_is : body ≡ bodies + 4 * counts_to t contents i
   pub long : length xs ≡ 192
   pub few : counts_to t contents i ≤ 65535 * i
   pub done : (j : ℕ) → j < i → Words t xs contents bodies j
 
-pub filled_none : (t xs : List ℕ) (contents bodies : ℕ) → length xs ≡ 192 → Filled t xs contents bodies contents bodies 0
+pub filled_none : (t xs : List ℕ) (contents bodies : ℕ) → length xs ≡ 192 → Filled t xs contents bodies bodies 0
 unfolding counts_to
 filled_none t xs contents bodies e =
-    record { at-is = omega arith; body_is = omega arith; long = e; few = omega arith; done = λ j h. absurd (not-suc-le-zero h) }
+    record { body_is = omega arith; long = e; few = omega arith; done = λ j h. absurd (not-suc-le-zero h) }
 
-module _ {t xs : List ℕ} {contents bodies at body i : ℕ} (F : Filled t xs contents bodies at body i) (key count : ℕ)
-    (key-is : key ≡ key_of (byte t at) (u16 t (at + 1))) (count-is : count ≡ u16 t (at + 3)) where
+module _ {t xs : List ℕ} {contents bodies body i : ℕ} (F : Filled t xs contents bodies body i) (key count : ℕ)
+    (key-is : key ≡ key_at t contents i) (count-is : count ≡ count_at t contents i) where
   abbrev filled : List ℕ
   filled = three_at xs (3 * i) key body count
 
@@ -78,9 +76,9 @@ module _ {t xs : List ℕ} {contents bodies at body i : ℕ} (F : Filled t xs co
       let room : 3 * i + 2 < length xs = omega (arith, F.long) in
       rw q
       (record {
-        key = three-first xs (3 * i) key body count room ∙ rw (← F.at-is) key-is;
+        key = three-first xs (3 * i) key body count room ∙ key-is;
         start = three-second xs (3 * i) key body count room ∙ F.body_is;
-        count = three_third xs (3 * i) key body count room ∙ rw (← F.at-is) count-is;
+        count = three_third xs (3 * i) key body count room ∙ count-is;
       })
 
   at_most : (j : ℕ) → j < i + 1 → (j < i) ⊎ (j ≡ i)
@@ -90,22 +88,19 @@ module _ {t xs : List ℕ} {contents bodies at body i : ℕ} (F : Filled t xs co
       go true e = inl (ltb-true j i e)
       go false e = inr (omega (arith, ltb-false j i e))
 
-  pub filled_next : i < 64 → count < 65536 → Filled t filled contents bodies (at + 5) (body + 4 * count) (i + 1)
+  pub filled_next : i < 64 → count < 65536 → Filled t filled contents bodies (body + 4 * count) (i + 1)
   unfolding counts_to
   filled_next h small =
-      let c : count ≡ u16 t (contents + 5 * i + 3) = rw (← F.at-is) count-is in
       record {
-        at-is = omega (arith, F.at-is);
-        body_is = rw (add-one i) (omega (arith, F.body_is, c));
+        body_is = rw (add-one i) (omega (arith, F.body_is, count-is));
         long = length-set (set (set xs (3 * i) key) (3 * i + 1) body) (3 * i + 2) count ∙ long-two xs (3 * i) key body count (omega (arith, F.long)) ∙ F.long;
-        few = rw (add-one i) (omega (arith, F.few, c));
+        few = rw (add-one i) (omega (arith, F.few, count-is));
         done = λ j p. written h j (at_most j p);
       }
 
 -- all are written down, or 64
-pub all_listed : {t xs : List ℕ} {h n at body i : ℕ} → Counts t h n → Filled t xs (4 + 2 * h) (4 + 2 * h + 5 * n) at body i → (n ≤ i) ⊎ (64 ≤ i) → Listed t xs
-all_listed C F (inl e) j p q = rw (← C.headers-is, ← C.scopes-is) (F.done j (omega (arith, C.scopes-is)))
-all_listed C F (inr e) j p q = rw (← C.headers-is, ← C.scopes-is) (F.done j (omega arith))
+pub all_listed : {t xs : List ℕ} {h n body i : ℕ} → Counts t h n → Filled t xs (4 + 2 * h) (4 + 2 * h + 5 * n) body i → min n 64 ≤ i → Listed t xs
+all_listed C F e j p q = rw (← C.headers-is, ← C.scopes-is) (F.done j (omega (arith, C.scopes-is)))
 
 -- the words of a listed scope, by the number of scopes that was read
 pub listed-words : {t xs : List ℕ} {n : ℕ} → Listed t xs → n ≡ scope_count t → (i : ℕ) → i < n → n ≤ 64 → Words t xs (contents_at t) (contents_at t + 5 * n) i

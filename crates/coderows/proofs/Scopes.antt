@@ -3,7 +3,9 @@ use Prim.Native.Nat.{ℕ, zero, suc, ◌+◌, ◌*◌, ◌<◌}
 use mathlib.Core.Path.{◌≡◌, refl, sym, ap, ◌∙◌}
 use mathlib.Core.List.{List, [], ◌∷◌, map}
 use mathlib.Core.Bool.{Bool, true, false, ◌&&◌, cond}
-use mathlib.Core.Option.{Option, none, some}
+use mathlib.Core.Option.{none, some}
+use mathlib.Core.Option as maybe
+use Rattle.std.specs.Prelude.{Option, None, Some}
 use native.Mathlib.Numerals.{add-one}
 use native.Mathlib.Omega.{arith}
 use lib.Dec.{eqb}
@@ -11,9 +13,9 @@ use borrow.Author.Tests.{eqb-true, eqb-false, eq-eqb, ne_eqb}
 use Rattle.rules.specs.Lists.{find, ascends}
 use Rattle.rules.specs.Bytes.{Bytes, byte, u16}
 use Rattle.rules.specs.CodeTable.{Tie, Scope, key, key_of, ties_at, scopes_at, scopes, scope_count, contents_at, bodies_at, is_scope, rows_of, scope_rows}
-use Rattle.coderows.specs.declared.FoundScope.{FoundScope}
-use Rattle.coderows.specs.declared.FoundScope.TheVariants.{At, Missing}
-use Rattle.coderows.specs.Look.{Formed, find_by, items_at, indexes, key_at, count_at, counts_to, as_found, KeysAscend, found_body, no_rows, body_rows}
+use Rattle.coderows.specs.Look.{Formed, find_by, items_at, indexes, key_at, count_at, counts_to, KeysAscend, found_body, no_rows, body_rows}
+use Rattle.rules.specs.Told.{told}
+use Rattle.rules.proofs.ToldLaws.{told_some, told_none}
 use Rattle.rules.proofs.CodeTableLaws.{formed}
 use Rattle.joinlaws.proofs.JoinedLaws.{u16-small}
 
@@ -68,7 +70,7 @@ module _ (t : List ℕ) (contents bodies : ℕ) where
       let b : bodies ≡ bodies + 4 * 0 = omega arith in
       ap (λ x. scopes_at t x bodies n) a ∙ ap (λ x. scopes_at t (contents + 5 * 0) x n) b ∙ scopes-from 0 n
 
-  abbrev rows_at : Option ℕ → List Tie
+  abbrev rows_at : maybe.Option ℕ → List Tie
   rows_at none = []
   rows_at (some i) = (scope_at i).rows
 
@@ -87,31 +89,21 @@ module _ (t : List ℕ) (contents bodies : ℕ) where
   keys_of_places (i ∷ is) = ap (λ l. key_at t contents i ∷ l) (keys_of_places is)
 
 -- ---- what the search for a scope comes to
-found_none : (o : Option ℕ) → as_found o ≡ Missing → o ≡ none
-unfolding as_found
-found_none none e = refl
-found_none (some i) e = absurd (let z : ◌≡◌ {A = ℕ} 0 1 = cc in omega arith)
-
-found_some : (o : Option ℕ) (i : ℕ) → as_found o ≡ At i → o ≡ some i
-unfolding as_found
-found_some none i e = absurd (let z : ◌≡◌ {A = ℕ} 0 1 = cc in omega arith)
-found_some (some j) i e = cc
-
 -- a scope was sought
-pub record ScopeSought (t : List ℕ) (kind code n : ℕ) (p : FoundScope) : Type 0 where
+pub record ScopeSought (t : List ℕ) (kind code n : ℕ) (p : Option ℕ) : Type 0 where
   pub bytes : Bytes t
   pub code_fits : code < 65536
   pub scopes-is : n ≡ scope_count t
-  pub found : KeysAscend t (contents_at t) 0 n → p ≡ as_found (find_by (key_at t (contents_at t)) (key_of kind code) (indexes 0 n))
+  pub found : KeysAscend t (contents_at t) 0 n → p ≡ told (find_by (key_at t (contents_at t)) (key_of kind code) (indexes 0 n))
 
-module _ {t : List ℕ} {kind code n : ℕ} {p : FoundScope} (S : ScopeSought t kind code n p) (F : Formed t) where
+module _ {t : List ℕ} {kind code n : ℕ} {p : Option ℕ} (S : ScopeSought t kind code n p) (F : Formed t) where
   abbrev contents : ℕ
   contents = contents_at t
 
   abbrev bodies : ℕ
   bodies = contents_at t + 5 * n
 
-  abbrev index : Option ℕ
+  abbrev index : maybe.Option ℕ
   index = find_by (key_at t contents) (key_of kind code) (indexes 0 n)
 
   keys-ascend : KeysAscend t contents 0 n
@@ -125,10 +117,10 @@ module _ {t : List ℕ} {kind code n : ℕ} {p : FoundScope} (S : ScopeSought t 
       rw S.scopes-is (rows-by-key t S.bytes kind code S.code_fits) in
       sym (e ∙ rw (scopes-placed t contents bodies n) (rows_of_place t contents bodies (key_of kind code) (indexes 0 n)))
 
-  pub missing_rows : p ≡ Missing → body_rows t no_rows ≡ scope_rows t kind code
+  pub missing_rows : p ≡ None → body_rows t no_rows ≡ scope_rows t kind code
   unfolding body_rows ties_at
-  missing_rows e = ap (rows_at t contents bodies) (sym (found_none index (sym (S.found keys-ascend) ∙ e))) ∙ rows-there
+  missing_rows e = ap (rows_at t contents bodies) (sym (told_none index p (S.found keys-ascend) e)) ∙ rows-there
 
-  pub listed-rows : (i : ℕ) → p ≡ At i → body_rows t (found_body (bodies + 4 * counts_to t contents i) (count_at t contents i)) ≡ scope_rows t kind code
+  pub listed-rows : (i : ℕ) → p ≡ Some i → body_rows t (found_body (bodies + 4 * counts_to t contents i) (count_at t contents i)) ≡ scope_rows t kind code
   unfolding body_rows
-  listed-rows i e = ap (rows_at t contents bodies) (sym (found_some index i (sym (S.found keys-ascend) ∙ e))) ∙ rows-there
+  listed-rows i e = ap (rows_at t contents bodies) (sym (told_some index p (S.found keys-ascend) e)) ∙ rows-there

@@ -1,22 +1,20 @@
 -- The answers of the code, read in the terms of document 01's code table, and its look-ups as they go on from the middle.
-use Rattle.std.specs.Prelude.{ℕ, zero, suc, ◌+◌, ◌*◌, ◌^◌, ◌≤◌, ◌<◌, ◌≡◌, List, [], ◌∷◌, map, true, eqb, get_or}
-use Rattle.std.proofs.Math.Option.{Option, none, some}
+use Rattle.std.specs.Prelude.{ℕ, zero, suc, ◌+◌, ◌*◌, ◌^◌, ◌≤◌, ◌<◌, ◌≡◌, List, [], ◌∷◌, map, true, eqb, get_or, Option, Some}
+use Rattle.std.proofs.Math.Option as maybe
 use Rattle.rules.specs.Lists.{find, ascends}
 use Rattle.rules.specs.Bytes.{byte, u16}
-use Rattle.rules.specs.CodeTable.{Tie, id_of, key_of, ties_at, scope_count, contents_at, bodies_at, well_formed_lem, is_tied, scope_rows}
+use Rattle.rules.specs.CodeTable as table
+use Rattle.rules.specs.CodeTable.{id_of, key_of, ties_at, scope_count, contents_at, bodies_at, well_formed_lem, is_tied, scope_rows}
+use Rattle.rules.specs.Told.{told, told_as}
 use Rattle.coderows.specs.declared.Body.{Body}
-use Rattle.coderows.specs.declared.Row.{Row}
-use Rattle.coderows.specs.declared.Row.TheVariants.{Tied, Untied}
-use Rattle.coderows.specs.declared.Glance.{Glance}
-use Rattle.coderows.specs.declared.FoundScope.{FoundScope}
-use Rattle.coderows.specs.declared.FoundScope.TheVariants.{At, Missing}
+use Rattle.coderows.specs.declared.Tie.{Tie}
 
 abbrev pub Formed : List ℕ → Type 0
 Formed t = well_formed_lem t ≡ true
 
 -- ---- looking up
 -- the first of xs whose number is k
-abbrev pub find_by : {A : Type 0} → (A → ℕ) → ℕ → List A → Option A
+abbrev pub find_by : {A : Type 0} → (A → ℕ) → ℕ → List A → maybe.Option A
 find_by f k xs = find (λ x. eqb (f x) k) xs
 
 -- n things, each a step of w further on
@@ -49,10 +47,6 @@ pub record Words (t xs : List ℕ) (contents bodies i : ℕ) : Type 0 where
 abbrev pub Listed : List ℕ → List ℕ → Type 0
 Listed t xs = (i : ℕ) → i < scope_count t → i < 64 → Words t xs (contents_at t) (bodies_at t) i
 
-unfoldable pub as_found : Option ℕ → FoundScope
-as_found none = Missing
-as_found (some i) = At i
-
 -- the keys of n scopes ascend
 abbrev pub KeysAscend : List ℕ → ℕ → ℕ → ℕ → Type 0
 KeysAscend t contents first n = ascends 0 (map (key_at t contents) (indexes first n)) ≡ true
@@ -62,14 +56,14 @@ pub record Wanted (n wanted : ℕ) : Type 0 where
   pub few : n ≤ 64
   pub key-small : wanted < 2 ^ 32
 
-pub record Seeks (t : List ℕ) (contents n wanted : ℕ) (r : FoundScope) : Type 0 where
-  pub is : KeysAscend t contents 0 n → r ≡ as_found (find_by (key_at t contents) wanted (indexes 0 n))
-  pub inside : (i : ℕ) → r ≡ At i → i < n
+pub record Seeks (t : List ℕ) (contents n wanted : ℕ) (r : Option ℕ) : Type 0 where
+  pub is : KeysAscend t contents 0 n → r ≡ told (find_by (key_at t contents) wanted (indexes 0 n))
+  pub inside : (i : ℕ) → r ≡ Some i → i < n
 
 -- where the scopes are listed too
-pub record SeeksListed (t xs : List ℕ) (n wanted : ℕ) (r : FoundScope) : Type 0 where
-  pub is : Listed t xs → n ≡ scope_count t → KeysAscend t (contents_at t) 0 n → r ≡ as_found (find_by (key_at t (contents_at t)) wanted (indexes 0 n))
-  pub inside : (i : ℕ) → r ≡ At i → i < n
+pub record SeeksListed (t xs : List ℕ) (n wanted : ℕ) (r : Option ℕ) : Type 0 where
+  pub is : Listed t xs → n ≡ scope_count t → KeysAscend t (contents_at t) 0 n → r ≡ told (find_by (key_at t (contents_at t)) wanted (indexes 0 n))
+  pub inside : (i : ℕ) → r ≡ Some i → i < n
 
 -- the rows of a body that was found
 abbrev pub found_body : ℕ → ℕ → Body
@@ -78,21 +72,19 @@ found_body start count = record { start = start; count = count }
 abbrev pub no_rows : Body
 no_rows = found_body 0 0
 
-unfoldable pub body_rows : List ℕ → Body → List Tie
+unfoldable pub body_rows : List ℕ → Body → List table.Tie
 body_rows t body = ties_at t body.start body.count
 
-unfoldable pub as_row : Option Tie → Row
-as_row none = Untied
-as_row (some r) = Tied r.target r.kind
+-- what is said of the id of a row
+abbrev pub tie_of : table.Tie → Tie
+tie_of r = record { target = r.target; kind = r.kind }
+
+abbrev pub as_row : maybe.Option table.Tie → Option Tie
+as_row o = told_as tie_of o
 
 -- the ids of the rows ascend
-abbrev pub Sorted : List Tie → Type 0
+abbrev pub Sorted : List table.Tie → Type 0
 Sorted rs = ascends 0 (map id_of rs) ≡ true
-
--- what a row tells is what the rows say of the id
-pub record Glances (t : List ℕ) (start n wanted : ℕ) (r : Glance) : Type 0 where
-  pub tied : (x k : ℕ) → r ≡ Glance.Tied x k → Sorted (ties_at t start n) → Tied x k ≡ as_row (find (is_tied wanted) (ties_at t start n))
-  pub untied : r ≡ Glance.Untied → Sorted (ties_at t start n) → Untied ≡ as_row (find (is_tied wanted) (ties_at t start n))
 
 -- a body of a well-formed table holds the scope's rows, in the order of their ids
 pub record Finds (t : List ℕ) (kind code : ℕ) (body : Body) : Type 0 where

@@ -1,10 +1,10 @@
 // What a code table that a caller lends ties an id to: the rows of a scope, and the row of an id.
 #![tactic(auto)]
 
-ghost use Rattle.std.specs.Prelude.{◌≡◌, ◌+◌, ◌*◌, ◌<◌, ◌^◌, length};
+ghost use Rattle.std.specs.Prelude.{◌≡◌, ◌+◌, ◌*◌, ◌<◌, ◌^◌, length, IfSome};
 ghost use Rattle.rules.specs.Lists.{find};
 ghost use Rattle.rules.specs.CodeTable as t;
-ghost use Rattle.coderows.specs.Look.{Listed, Seeks, SeeksListed, Wanted, Finds, Glances, Sorted, no_rows, as_row};
+ghost use Rattle.coderows.specs.Look.{Listed, Seeks, SeeksListed, Wanted, Finds, Sorted, no_rows, as_row};
 
 use codetable::{
     CODE_AT, CODE_SIZE, CODES, HEADER_AT, HEADER_COUNT_AT, MOST_SCOPES, ROW_COUNT_AT, ROW_SIZE,
@@ -36,40 +36,26 @@ pub struct Scope {
     pub near: usize,
 }
 
-// What a scope says of an id: the target, and the kind of the value.
+// What a row ties its id to: the target, and the kind of the value.
 #[derive(Clone, Copy)]
-pub enum Row {
-    Tied { target: u16, kind: u8 },
-    Untied,
+pub struct Tie {
+    pub target: u16,
+    pub kind: u8,
 }
 
 // What rows say of an id, and the row at which to look first for it the next time.
 #[derive(Clone, Copy)]
 pub struct Sought {
-    pub row: Row,
+    pub row: Option<Tie>,
     pub near: usize,
 }
 
-// What a row, with the one before it, tells of an id.
-#[derive(Clone, Copy)]
-pub enum Glance {
-    Tied { target: u16, kind: u8 },
-    Untied,
-    Unseen,
-}
-
-// Which scope of the contents is wanted, counted from 0.
-#[derive(Clone, Copy)]
-enum FoundScope {
-    At(usize),
-    Missing,
-}
-
 // Which of n scopes has the wanted kind and code, by halves, where these ascend.
-fn seek_scope(table: &[u8], contents: usize, n: usize, wanted: usize) -> FoundScope
+fn seek_scope(table: &[u8], contents: usize, n: usize, wanted: usize) -> Option<usize>
     requires { contents + 5 * n < 2 ^ 32 }
     ensures { Seeks table.now contents n wanted result }
 {
+    // Kept: binary_search takes a slice of what is looked through; these keys stand in bytes.
     let mut first = 0;
     let mut scopes = n;
     while 0 < scopes {
@@ -78,7 +64,7 @@ fn seek_scope(table: &[u8], contents: usize, n: usize, wanted: usize) -> FoundSc
         let at = contents + SCOPE_SIZE * mid;
         let key = byte_number(table, at) * CODES + u16_number(table, at + CODE_AT);
         if key == wanted {
-            return FoundScope::At(mid);
+            return Some(mid);
         }
         if key < wanted {
             first = mid + 1;
@@ -87,7 +73,7 @@ fn seek_scope(table: &[u8], contents: usize, n: usize, wanted: usize) -> FoundSc
             scopes = half;
         }
     }
-    FoundScope::Missing
+    None
 }
 
 // Writes what the contents say of each scope, 64 at most, in three words: its kind and code as one number, where its rows start, and how many they are.
@@ -96,13 +82,10 @@ pub fn list_scopes(table: &[u8], scopes: &mut [u32])
     ensures { Listed table.now scopes.new }
 {
     let listed = u16_number(table, SCOPE_COUNT_AT);
-    let mut at = HEADER_AT + CODE_SIZE * byte_number(table, HEADER_COUNT_AT);
-    let mut body = at + SCOPE_SIZE * listed;
-    let mut i = 0;
-    while i < listed {
-        if MOST_SCOPES <= i {
-            return;
-        }
+    let contents = HEADER_AT + CODE_SIZE * byte_number(table, HEADER_COUNT_AT);
+    let mut body = contents + SCOPE_SIZE * listed;
+    for i in 0..listed.min(MOST_SCOPES) {
+        let at = contents + SCOPE_SIZE * i;
         let key = byte_number(table, at) * CODES + u16_number(table, at + CODE_AT);
         let count = u16_number(table, at + ROW_COUNT_AT);
         let k = LISTED_WORDS * i;
@@ -110,8 +93,6 @@ pub fn list_scopes(table: &[u8], scopes: &mut [u32])
         scopes[k + LISTED_START_AT] = body as u32;
         scopes[k + LISTED_COUNT_AT] = count as u32;
         body += ROW_SIZE * count;
-        at += SCOPE_SIZE;
-        i += 1;
     }
 }
 
@@ -122,14 +103,12 @@ fn find_index(
     n: usize,
     wanted: usize,
     near: usize,
-) -> FoundScope
+) -> Option<usize>
     requires { Wanted n wanted }
     ensures { SeeksListed table.now scopes.now n wanted result }
 {
-    if near < n {
-        if scopes[LISTED_WORDS * near] == wanted as u32 {
-            return FoundScope::At(near);
-        }
+    if near < n && scopes[LISTED_WORDS * near] == wanted as u32 {
+        return Some(near);
     }
     seek_scope(
         table,
@@ -163,7 +142,7 @@ pub fn scope_near(
         return missing(near);
     }
     let wanted = scope_kind as usize * CODES + code as usize;
-    let FoundScope::At(index) = find_index(table, scopes, listed, wanted, near) else {
+    let Some(index) = find_index(table, scopes, listed, wanted, near) else {
         return missing(near);
     };
     let k = LISTED_WORDS * index;
@@ -181,6 +160,7 @@ pub fn seek_row(table: &[u8], start: usize, n: usize, wanted: usize) -> Sought
     requires { start + 4 * n < 2 ^ 60 }
     ensures { Sorted (t.ties_at table.now start n) → result.row ≡ as_row (find (t.is_tied wanted) (t.ties_at table.now start n)) }
 {
+    // Kept: binary_search takes a slice of what is looked through; these ids stand in bytes, perhaps past the table's end.
     let mut at = start;
     let mut rows = n;
     while 0 < rows {
@@ -190,10 +170,10 @@ pub fn seek_row(table: &[u8], start: usize, n: usize, wanted: usize) -> Sought
         let id = row.id;
         if id == wanted {
             return Sought {
-                row: Row::Tied {
+                row: Some(Tie {
                     target: row.target as u16,
                     kind: row.kind as u8,
-                },
+                }),
                 near: (mid - start) / ROW_SIZE,
             };
         }
@@ -205,35 +185,41 @@ pub fn seek_row(table: &[u8], start: usize, n: usize, wanted: usize) -> Sought
         }
     }
     Sought {
-        row: Row::Untied,
+        row: None,
         near: (at - start) / ROW_SIZE,
     }
 }
 
-// What the row `near` of n rows tells of an id: it ties it, or it is above and the one before it below.
-pub fn row_near(table: &[u8], start: usize, n: usize, wanted: usize, near: usize) -> Glance
+// What the row `near` of n rows tells of an id, if it does: it ties it, or it is above and the one before it below.
+pub fn row_near(
+    table: &[u8],
+    start: usize,
+    n: usize,
+    wanted: usize,
+    near: usize,
+) -> Option<Option<Tie>>
     requires { start + 4 * n < 2 ^ 60 }
-    ensures { Glances table.now start n wanted result }
+    ensures { IfSome result (λ row. Sorted (t.ties_at table.now start n) → row ≡ as_row (find (t.is_tied wanted) (t.ties_at table.now start n))) }
 {
     if n <= near {
-        return Glance::Unseen;
+        return None;
     }
     let mid = start + ROW_SIZE * near;
     let row = read_row(table, mid);
     if row.id == wanted {
-        return Glance::Tied {
+        return Some(Some(Tie {
             target: row.target as u16,
             kind: row.kind as u8,
-        };
+        }));
     }
     if row.id < wanted {
-        return Glance::Unseen;
+        return None;
     }
     if near == 0 {
-        return Glance::Untied;
+        return Some(None);
     }
     if byte_number(table, mid - ROW_SIZE) < wanted {
-        return Glance::Untied;
+        return Some(None);
     }
-    Glance::Unseen
+    None
 }
