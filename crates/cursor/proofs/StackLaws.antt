@@ -40,18 +40,19 @@ outer-push a l left up h =
     λ i. frame (x i) (y i) ∷ r i
 
 -- ---- closing
--- what closing keeps: the lists that stay open are those of the start
-pub record Closing (a : List ℕ) (level₀ left₀ up₀ level left up : ℕ) : Type 0 where
-  pub same : unwind (frame left up) (outer a level) ≡ unwind (frame left₀ up₀) (outer a level₀)
-  pub lower : level ≤ level₀
-  pub low : level₀ ≤ levels
+-- what closing keeps, come from c to r with `level` lists around it: the lists that stay open are those of the start
+pub record Closing (a : List ℕ) (c r : Cursor) (level : ℕ) : Type 0 where
+  pub at-is : r.at ≡ c.at
+  pub level-is : r.level ≡ level
+  pub lower : level ≤ c.level
+  pub same : unwind (frame r.left r.parent) (outer a level) ≡ unwind (frame c.left c.parent) (outer a c.level)
 
 module _ (a : List ℕ) (level left up : ℕ) where
-  pub unwind-end : level ≡ 0 → unwind (frame left up) (outer a level) ≡ (frame left up, outer a level)
+  unwind-end : level ≡ 0 → unwind (frame left up) (outer a level) ≡ (frame left up, outer a level)
   unfolding unwind outer
   unwind-end e = rw e
 
-  pub unwind_some : 0 < left → unwind (frame left up) (outer a level) ≡ (frame left up, outer a level)
+  unwind_some : 0 < left → unwind (frame left up) (outer a level) ≡ (frame left up, outer a level)
   unfolding unwind
   unwind_some h = go left (outer a level) h
     where
@@ -60,7 +61,7 @@ module _ (a : List ℕ) (level left up : ℕ) where
       go zero (g ∷ fs) h = absurd (omega arith)
       go (suc k) (g ∷ fs) h = refl
 
-  pub unwind-up : left ≡ 0 → 0 < level
+  unwind-up : left ≡ 0 → 0 < level
       → unwind (frame left up) (outer a level) ≡ unwind (frame (get_or a ((level - 1) * 2) 0) (get_or a ((level - 1) * 2 + 1) 0)) (outer a (level - 1))
   unfolding unwind outer
   unwind-up e h = rw e (go level h)
@@ -68,6 +69,20 @@ module _ (a : List ℕ) (level left up : ℕ) where
       go : (l : ℕ) → 0 < l → unwind (frame 0 up) (outer a l) ≡ unwind (frame (get_or a ((l - 1) * 2) 0) (get_or a ((l - 1) * 2 + 1) 0)) (outer a (l - 1))
       go zero h = absurd (omega arith)
       go (suc l) h = rw (sub-one (suc l))
+
+module _ {a : List ℕ} {c r : Cursor} {level : ℕ} (h : Closing a c r level) where
+  closed : unwind (frame r.left r.parent) (outer a level) ≡ (frame r.left r.parent, outer a level) → Unwound a c r
+  closed e = record { at-is = h.at-is; low = omega (arith, h.lower, h.level-is); is = ap (λ l. (frame r.left r.parent, outer a l)) h.level-is ∙ sym e ∙ h.same }
+
+  pub closed_last : level ≤ 0 → Unwound a c r
+  closed_last e = closed (unwind-end a level r.left r.parent (omega arith))
+
+  pub closed-some : 0 < r.left → Unwound a c r
+  closed-some e = closed (unwind_some a level r.left r.parent e)
+
+  pub closing_more : r.left ≡ 0 → 0 < level
+      → Closing a c (record { at = c.at; level = level - 1; left = get_or a ((level - 1) * 2) 0; parent = get_or a ((level - 1) * 2 + 1) 0 }) (level - 1)
+  closing_more e l = record { at-is = refl; level-is = refl; lower = omega (arith, h.lower); same = sym (unwind-up a level r.left r.parent e l) ∙ h.same }
 
 -- only the outermost list is left without entries
 unwind-done : (left up : ℕ) (fs : List Frame) → (unwind (frame left up) fs).0.left ≡ 0 → is_empty (unwind (frame left up) fs).1

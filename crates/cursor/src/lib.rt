@@ -42,29 +42,19 @@ fn unwound(stack: &[u32; STACK_WORDS], c: Cursor) -> Cursor
     requires { c.level ≤ levels }
     ensures { Unwound stack.now c result }
 {
-    let at = c.at;
-    let mut level = c.level;
-    let mut left = c.left;
-    let mut parent = c.parent;
-    while left == 0 {
-        if level == 0 {
-            return Cursor {
-                at,
-                level,
-                left,
-                parent,
-            };
+    let mut inner = c;
+    for level in (0..c.level).rev() {
+        if 0 < inner.left {
+            break;
         }
-        level = level - 1;
-        left = stack[level * LEVEL_WORDS];
-        parent = stack[level * LEVEL_WORDS + 1];
+        inner = Cursor {
+            at: c.at,
+            level,
+            left: stack[level * LEVEL_WORDS],
+            parent: stack[level * LEVEL_WORDS + 1],
+        };
     }
-    Cursor {
-        at,
-        level,
-        left,
-        parent,
-    }
+    inner
 }
 
 // Goes on after the entry at `c`, which has row `row`, and whose list has `count` entries and starts at `next`.
@@ -78,25 +68,22 @@ pub fn after_entry(
     requires { Before stack.old c }
     ensures { Moved stack.old c row count next stack.new result }
 {
-    let level = c.level;
     let left = c.left - 1;
-    let parent = c.parent;
     if count == 0 {
         return unwound(
             stack,
             Cursor {
                 at: next,
-                level,
                 left,
-                parent,
+                ..c
             },
         );
     }
-    stack[level * LEVEL_WORDS] = left;
-    stack[level * LEVEL_WORDS + 1] = parent;
+    stack[c.level * LEVEL_WORDS] = left;
+    stack[c.level * LEVEL_WORDS + 1] = c.parent;
     Cursor {
         at: next,
-        level: level + 1,
+        level: c.level + 1,
         left: count,
         parent: row,
     }
