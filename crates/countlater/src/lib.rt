@@ -37,46 +37,33 @@ const BELOW_TOP: usize = 255;
 // ---- properties and groups
 // A property inside its group: its value's size, where the next one starts, and its trailer.
 #[derive(Clone, Copy)]
-pub enum Extent {
-    Outside,
-    Inside(usize, usize, u32),
+pub struct Extent {
+    pub size: usize,
+    pub next: usize,
+    pub trailer: u32,
 }
 
+// How many properties a group has, where they stop, and the trailer that ended it, if one did.
 #[derive(Clone, Copy)]
-pub enum Group {
-    Unended {
-        count: usize,
-        stop: usize,
-    },
-    Ended {
-        count: usize,
-        stop: usize,
-        trailer: u32,
-    },
+pub struct Group {
+    pub count: usize,
+    pub stop: usize,
+    pub trailer: Option<u32>,
 }
 
+// How many nodes follow a group, and where they start.
 #[derive(Clone, Copy)]
-pub enum Children {
-    Bad,
-    Of { count: usize, next: usize },
+pub struct Children {
+    pub count: usize,
+    pub next: usize,
 }
 
 // A node's head: how many properties it has, how many children, and where they start.
 #[derive(Clone, Copy)]
-pub enum Head {
-    Bad,
-    Of {
-        count: usize,
-        below: usize,
-        next: usize,
-    },
-}
-
-// A top node is reported, or it is skipped.
-#[derive(Clone, Copy)]
-pub enum TopNode {
-    Reported,
-    Skipped { next: usize },
+pub struct Head {
+    pub count: usize,
+    pub below: usize,
+    pub next: usize,
 }
 
 #[derive(Clone, Copy)]
@@ -94,21 +81,26 @@ pub struct Counts {
 }
 
 // The property at `at`. What is compared is what is left, since a stored length can be near 2^32.
-pub fn parse_entry(s: &[u8], limit: usize, at: usize) -> Extent
+#[tactic(auto, using(crate::proofs::PassedLaws::extent_out, crate::proofs::PassedLaws::extent_in))]
+pub fn parse_entry(s: &[u8], limit: usize, at: usize) -> Option<Extent>
     ensures { result ≡ extent s.now limit at }
 {
     if limit < at {
-        return Extent::Outside;
+        return None;
     }
     if limit - at < PROPERTY_LEAST {
-        return Extent::Outside;
+        return None;
     }
     let size = u32_at(s, at + LENGTH_AT) as usize;
     if limit - at - PROPERTY_LEAST < size {
-        return Extent::Outside;
+        return None;
     }
     let trailer = u32_at(s, at + VALUE_AT + size);
-    Extent::Inside(size, at + VALUE_AT + size + TRAILER_SIZE, trailer)
+    Some(Extent {
+        size,
+        next: at + VALUE_AT + size + TRAILER_SIZE,
+        trailer,
+    })
 }
 
 pub fn ends_group(trailer: u32) -> bool
@@ -118,243 +110,155 @@ pub fn ends_group(trailer: u32) -> bool
 }
 
 // Counts the properties of the group at `at`, which reaches to `limit` at most.
+#[tactic(auto, using(crate::proofs::PassedLaws::passed_start))]
 fn parse_group(s: &[u8], limit: usize, at: usize) -> Group
     requires { limit ≤ length s.now }
     ensures { result ≡ group (group_at s.now limit at) }
 {
     let mut p = at;
-    let mut n: usize = 0;
-    loop {
-        match parse_entry(s, limit, p) {
-            Extent::Outside => {
-                return Group::Unended { count: n, stop: p };
-            }
-            Extent::Inside(_, next, trailer) => {
-                n = n + 1;
-                p = next;
-                if ends_group(trailer) {
-                    return Group::Ended {
-                        count: n,
-                        stop: p,
-                        trailer,
-                    };
-                }
-            }
+    let mut count: usize = 0;
+    while let Some(property) = parse_entry(s, limit, p) {
+        count += 1;
+        p = property.next;
+        if ends_group(property.trailer) {
+            return Group {
+                count,
+                stop: p,
+                trailer: Some(property.trailer),
+            };
         }
+    }
+    Group {
+        count,
+        stop: p,
+        trailer: None,
     }
 }
 
 // How many nodes follow a group that ended by `trailer`, and where they start.
-pub fn children_at(s: &[u8], trailer: u32, at: usize) -> Children
+#[tactic(auto, unfolding(rules::specs::Later::children_at))]
+pub fn children_at(s: &[u8], trailer: u32, at: usize) -> Option<Children>
     ensures { result ≡ children (children_at s.now trailer at) }
 {
     if trailer == NO_CHILD {
-        return Children::Of { count: 0, next: at };
+        return Some(Children { count: 0, next: at });
     }
     if trailer == ONE_CHILD {
-        return Children::Of { count: 1, next: at };
+        return Some(Children { count: 1, next: at });
     }
     if s.len() < at {
-        return Children::Bad;
+        return None;
     }
     if s.len() - at < 2 {
-        return Children::Bad;
+        return None;
     }
-    Children::Of {
+    Some(Children {
         count: u16_at(s, at) as usize,
         next: at + 2,
-    }
+    })
 }
 
 // ---- the tree
 // The head of the node at `at`: its group, and its children's count.
-fn head_at(s: &[u8], at: usize) -> Head
+fn head_at(s: &[u8], at: usize) -> Option<Head>
     ensures { result ≡ head s.now at }
 {
     if s.len() < at {
-        return Head::Bad;
+        return None;
     }
-    let Group::Ended {
-        count,
-        stop,
-        trailer,
-    } = parse_group(s, s.len(), at + GROUP_AT)
-    else {
-        return Head::Bad;
-    };
-    match children_at(s, trailer, stop) {
-        Children::Bad => Head::Bad,
-        Children::Of { count: below, next } => Head::Of { count, below, next },
-    }
+    let group = parse_group(s, s.len(), at + GROUP_AT);
+    let trailer = group.trailer?;
+    let below = children_at(s, trailer, group.stop)?;
+    Some(Head {
+        count: group.count,
+        below: below.count,
+        next: below.next,
+    })
 }
 
 // Counts the node at `at` and all below it, where `left` levels are left below it.
 #[cycle(parse_node_parse_nodes)]
-fn parse_node(s: &[u8], at: usize, left: usize) -> Tally
+fn parse_node(s: &[u8], at: usize, left: usize) -> Option<Tally>
     ensures { result ≡ tally1 (one_node left s.now at) }
 {
-    let Head::Of {
-        count,
-        below,
-        next: q,
-    } = head_at(s, at)
-    else {
-        return Tally::Bad;
-    };
-    match parse_nodes(s, below, q, left) {
-        Tally::Bad => Tally::Bad,
-        Tally::Of {
-            controls,
-            props,
-            next,
-        } => Tally::Of {
-            controls: 1 + controls,
-            props: count + props,
-            next,
-        },
-    }
+    let head = head_at(s, at)?;
+    let below = parse_nodes(s, head.below, head.next, left)?;
+    Some(Tally {
+        controls: 1 + below.controls,
+        props: head.count + below.props,
+        next: below.next,
+    })
 }
 
 // Counts `n` nodes from `at` on, with `left` levels left.
 #[cycle(parse_node_parse_nodes)]
-fn parse_nodes(s: &[u8], n: usize, at: usize, left: usize) -> Tally
+fn parse_nodes(s: &[u8], n: usize, at: usize, left: usize) -> Option<Tally>
     ensures { result ≡ tally (nodes_at left s.now n at) }
 {
-    let mut p = at;
-    let mut k = n;
-    let mut all: usize = 0;
-    let mut theirs: usize = 0;
-    while 0 < k {
+    let mut all = Tally {
+        controls: 0,
+        props: 0,
+        next: at,
+    };
+    for _ in 0..n {
         if left == 0 {
-            return Tally::Bad;
+            return None;
         }
-        match parse_node(s, p, left - 1) {
-            Tally::Bad => {
-                return Tally::Bad;
-            }
-            Tally::Of {
-                controls,
-                props,
-                next,
-            } => {
-                all = all + controls;
-                theirs = theirs + props;
-                p = next;
-                k = k - 1;
-            }
-        }
+        let node = parse_node(s, all.next, left - 1)?;
+        all.controls += node.controls;
+        all.props += node.props;
+        all.next = node.next;
     }
-    Tally::Of {
-        controls: all,
-        props: theirs,
-        next: p,
-    }
+    Some(all)
 }
 
-// Is the top node at `at` reported? It is where its type is a topNode's, or where it has a child.
-pub fn top_node_at(s: &[u8], at: usize) -> TopNode
+// Where the next one starts, if the top node at `at` is left out: it has no child, and its type is not a topNode's.
+pub fn top_node_at(s: &[u8], at: usize) -> Option<usize>
     ensures { result ≡ top_node (one_node 255 s.now at) }
 {
     if is_section(u16_at(s, at) as usize) {
-        return TopNode::Reported;
+        return None;
     }
-    match head_at(s, at) {
-        Head::Bad => TopNode::Reported,
-        Head::Of {
-            count: _,
-            below: count,
-            next,
-        } => {
-            if 0 < count {
-                TopNode::Reported
-            } else {
-                TopNode::Skipped { next }
-            }
-        }
+    let head = head_at(s, at)?;
+    if head.below == 0 {
+        Some(head.next)
+    } else {
+        None
     }
 }
 
 // Counts the reported of the `n` top nodes from `at` on, with all below them.
-fn top_nodes(s: &[u8], n: usize, at: usize) -> Tally
+fn top_nodes(s: &[u8], n: usize, at: usize) -> Option<Tally>
     ensures { result ≡ tally_top (nodes_at 256 s.now n at) }
 {
-    let mut p = at;
-    let mut k = n;
-    let mut all: usize = 0;
-    let mut theirs: usize = 0;
-    while 0 < k {
-        match top_node_at(s, p) {
-            TopNode::Skipped { next } => {
-                p = next;
-                k = k - 1;
-            }
-            TopNode::Reported => match parse_node(s, p, BELOW_TOP) {
-                Tally::Bad => {
-                    return Tally::Bad;
-                }
-                Tally::Of {
-                    controls,
-                    props,
-                    next,
-                } => {
-                    all = all + controls;
-                    theirs = theirs + props;
-                    p = next;
-                    k = k - 1;
-                }
-            },
+    let mut all = Tally {
+        controls: 0,
+        props: 0,
+        next: at,
+    };
+    for _ in 0..n {
+        if let Some(next) = top_node_at(s, all.next) {
+            all.next = next;
+        } else {
+            let node = parse_node(s, all.next, BELOW_TOP)?;
+            all.controls += node.controls;
+            all.props += node.props;
+            all.next = node.next;
         }
     }
-    Tally::Of {
-        controls: all,
-        props: theirs,
-        next: p,
-    }
+    Some(all)
 }
 
 // Counts the tree after the object's group, which ended by `trailer` at `at`. It must use up the stream.
-fn controls_of_tree(s: &[u8], trailer: u32, at: usize) -> Tally
+fn controls_of_tree(s: &[u8], trailer: u32, at: usize) -> Option<Tally>
     ensures { result ≡ tally_top (whole_tree s.now trailer at) }
 {
-    let Children::Of { count: n, next: q } = children_at(s, trailer, at) else {
-        return Tally::Bad;
-    };
-    match top_nodes(s, n, q) {
-        Tally::Bad => Tally::Bad,
-        Tally::Of {
-            controls,
-            props,
-            next,
-        } => {
-            if next == s.len() {
-                Tally::Of {
-                    controls,
-                    props,
-                    next,
-                }
-            } else {
-                Tally::Bad
-            }
-        }
-    }
+    let top = children_at(s, trailer, at)?;
+    let all = top_nodes(s, top.count, top.next)?;
+    if all.next == s.len() { Some(all) } else { None }
 }
 
 // ---- the scan
-// How many properties the group has that reaches from a match to the next one.
-fn group_size(s: &[u8], limit: usize, at: usize) -> usize
-    requires { limit ≤ length s.now }
-    ensures { result ≡ length (group_at s.now limit at).props }
-{
-    match parse_group(s, limit, at) {
-        Group::Unended { count, stop: _ } => count,
-        Group::Ended {
-            count,
-            stop: _,
-            trailer: _,
-        } => count,
-    }
-}
-
 // Counts what the scan from `from` on finds.
 fn scan_control_sections(s: &[u8], from: usize) -> Scanned
     requires { from ≤ length s.now }
@@ -365,14 +269,12 @@ fn scan_control_sections(s: &[u8], from: usize) -> Scanned
     let mut theirs: usize = 0;
     while a < s.len() {
         let b = find_match(s, a + MATCH_SIZE);
-        let n = group_size(s, b, a);
+        let n = parse_group(s, b, a).count;
         if 0 < n {
-            all = all + 1;
-            theirs = theirs + n;
-            a = b;
-        } else {
-            a = b;
+            all += 1;
+            theirs += n;
         }
+        a = b;
     }
     Scanned {
         controls: all,
@@ -400,24 +302,16 @@ pub fn count(s: &[u8]) -> Counts
     requires { 14 ≤ length s.now }
     ensures { Counted s.now result }
 {
-    match parse_group(s, s.len(), OBJECT_AT) {
-        Group::Unended { count, stop } => count_scanned(s, count, stop),
-        Group::Ended {
-            count,
-            stop,
-            trailer,
-        } => match controls_of_tree(s, trailer, stop) {
-            Tally::Bad => count_scanned(s, count, stop),
-            Tally::Of {
-                controls,
-                props,
-                next: _,
-            } => Counts {
+    let own = parse_group(s, s.len(), OBJECT_AT);
+    if let Some(trailer) = own.trailer {
+        if let Some(all) = controls_of_tree(s, trailer, own.stop) {
+            return Counts {
                 tree: true,
-                own: count,
-                controls,
-                props,
-            },
-        },
+                own: own.count,
+                controls: all.controls,
+                props: all.props,
+            };
+        }
     }
+    count_scanned(s, own.count, own.stop)
 }
