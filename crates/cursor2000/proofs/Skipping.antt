@@ -1,26 +1,17 @@
 -- Which entries of the top list are skipped.
 use Prim.Native.Nat.{ℕ, ◌+◌}
-use native.Mathlib.Omega.{arith}
 use mathlib.Core.Path.{◌≡◌, refl, sym, ap, ◌∙◌}
-use mathlib.Core.Bool.{Bool, true, false}
+use mathlib.Core.Bool.{true, false}
 use mathlib.Core.List.{List}
 use mathlib.Core.Option.{Option, none, some}
-use lib.ListN.{length}
+use Rattle.std.proofs.Common as code
 use Rattle.rules.specs.Lists.{◌>>=◌}
 use Rattle.rules.specs.Bytes.{half_at_lem}
 use Rattle.rules.specs.Tree.{Entry, Entries, plain, parent, levels_at, is_section, is_reported}
 use Rattle.rules.specs.Access2000.{Prop, run_at, head_at_lem, close_at, entry_at}
 use Rattle.rules.proofs.ListLaws.{Every, every_when}
-use Rattle.numbers.proofs.Inside.{number-inside, number_outside}
-use Rattle.walk2000.specs.Told as told
-use Rattle.numbers.specs.Reads.{if_inside}
-use Rattle.numbers.specs.declared.IfInside.{IfInside}
-use Rattle.walk2000.specs.declared.Run.{Run}
-use Rattle.walk2000.specs.declared.Opens.{Opens}
-use Rattle.walk2000.proofs.Inverse.{run_of, run_bad, opens_plain, opens_listed, opens_bad}
 use Rattle.cursor.specs.Walk.{entry_by}
 use Rattle.cursor2000.specs.Steps.{step_at, Skips}
-use Rattle.cursor2000.specs.declared.Pass.{Pass}
 use Rattle.cursor2000.proofs.StepLaws.{entry-same}
 
 abbrev Reported : Entry Prop × ℕ → Type 0
@@ -34,8 +25,8 @@ abbrev deep : List ℕ → Below
 deep s = levels_at (entry_by (step_at s)) 255
 
 -- an entry that is read is reported
-kept : (s : List ℕ) (p : ℕ) → Every Reported (entry_at s (deep s) p) → Skips s p Pass.Not
-kept s p h = record { over = λ next e. absurd (let z : ◌≡◌ {A = ℕ} 0 1 = cc in omega arith); kept = λ e. rw (entry-same s (deep s) p) at h }
+kept : (s : List ℕ) (p : ℕ) {r : code.Option ℕ} → Every Reported (entry_at s (deep s) p) → r ≡ code.None → Skips s p r
+kept s p h z = record { over = λ next e. cc; kept = λ e. rw (entry-same s (deep s) p) at h }
 
 close_section : (below : Below) (type : ℕ) (ps : List Prop) (h : Option ℕ × ℕ) → is_section type ≡ true → Every Reported (close_at below type ps h)
 unfolding close_at
@@ -45,46 +36,37 @@ close_section below type ps h e = go h.0
     go none = e
     go (some n) = every_when Reported (below n h.1) _ λ l _. refl
 
-module _ (s : List ℕ) (p : ℕ) {w : IfInside} (we : w ≡ if_inside (half_at_lem s p)) where
-  pub skip_short : w ≡ IfInside.Outside → Skips s p Pass.Not
+module _ (s : List ℕ) (p : ℕ) {r : code.Option ℕ} where
+  pub skip_short : half_at_lem s p ≡ none → r ≡ code.None → Skips s p r
   unfolding entry_at
-  skip_short wk = kept s p (rw (number_outside (half_at_lem s p) w we wk) tt)
+  skip_short h = kept s p (rw h tt)
 
-  module _ {type : ℕ} (wk : w ≡ IfInside.Of type) {b : Bool} (be : b ≡ is_section type) where
-    pub skip_section : b ≡ true → Skips s p Pass.Not
+  module _ {type : ℕ} (h : half_at_lem s p ≡ some type) where
+    pub skip_section : is_section type ≡ true → r ≡ code.None → Skips s p r
     unfolding entry_at
-    skip_section bk = kept s p
-        (rw (number-inside (half_at_lem s p) w type we wk)
-        (every_when Reported (run_at s (p + 2)) _ λ x _. every_when Reported (head_at_lem s x.1) _ λ h _. close_section (deep s) type x.0 h (sym be ∙ bk)))
+    skip_section e = kept s p
+        (rw h (every_when Reported (run_at s (p + 2)) _ λ x _. every_when Reported (head_at_lem s x.1) _ λ h _. close_section (deep s) type x.0 h e))
 
-    module _ {u : Run} (ue : u ≡ told.run (run_at s (p + 2))) where
-      pub skip_run_bad : u ≡ Run.Bad → Skips s p Pass.Not
+    pub skip_run_bad : run_at s (p + 2) ≡ none → r ≡ code.None → Skips s p r
+    unfolding entry_at
+    skip_run_bad u = kept s p (rw (h, u) tt)
+
+    module _ {ps : List Prop} {q : ℕ} (u : run_at s (p + 2) ≡ some (ps, q)) where
+      pub skip_head_bad : head_at_lem s q ≡ none → r ≡ code.None → Skips s p r
       unfolding entry_at
-      skip_run_bad uk = kept s p (rw (number-inside (half_at_lem s p) w type we wk, run_bad (run_at s (p + 2)) u ue uk) tt)
+      skip_head_bad o = kept s p (rw (h, u, o) tt)
 
-      module _ {n q : ℕ} (uk : u ≡ Run.Of n q) {o : Opens} (oe : o ≡ told.head (head_at_lem s q)) where
-        pub skip_head_bad : o ≡ Opens.Bad → Skips s p Pass.Not
-        unfolding entry_at
-        skip_head_bad ok =
-            let x = run_of (run_at s (p + 2)) u n q ue uk in
-            kept s p (rw (number-inside (half_at_lem s p) w type we wk, x.2, opens_bad (head_at_lem s q) o oe ok) tt)
+      pub skip_listed : {m e : ℕ} → head_at_lem s q ≡ some (some m, e) → r ≡ code.None → Skips s p r
+      unfolding entry_at close_at
+      skip_listed {m = m} {e = e} o = kept s p (rw (h, u, o) (every_when Reported (deep s m e) _ λ l _. refl))
 
-        pub skip_listed : {m e : ℕ} → o ≡ Opens.Listed m e → Skips s p Pass.Not
-        unfolding entry_at close_at
-        skip_listed {m = m} {e = e} ok =
-            let x = run_of (run_at s (p + 2)) u n q ue uk in
-            kept s p (rw (number-inside (half_at_lem s p) w type we wk, x.2, opens_listed (head_at_lem s q) o m e oe ok) (every_when Reported (deep s m e) _ λ l _. refl))
-
-        pub skip_plain : {e : ℕ} → o ≡ Opens.Plain e → b ≡ false → Skips s p (Pass.Over e)
-        unfolding entry_at close_at
-        skip_plain {e = e} ok bk = go (run_of (run_at s (p + 2)) u n q ue uk)
-          where
-            go : (ps : List Prop) × (length ps ≡ n) × (run_at s (p + 2) ≡ some (ps, q)) → Skips s p (Pass.Over e)
-            go x =
-                let r : entry_at s (deep s) p ≡ some (plain type x.0, e) = rw (number-inside (half_at_lem s p) w type we wk, x.2, opens_plain (head_at_lem s q) o e oe ok) in
-                record {
-                  over = λ next k.
-                      let z : e ≡ next = cc in
-                      (plain type x.0, sym (entry-same s (deep s) p) ∙ r ∙ ap (λ y. some (plain type x.0, y)) z, sym be ∙ bk);
-                  kept = λ k. absurd (let z : ◌≡◌ {A = ℕ} 0 1 = cc in omega arith);
-                }
+      pub skip_plain : {e : ℕ} → head_at_lem s q ≡ some (none, e) → is_section type ≡ false → r ≡ code.Some e → Skips s p r
+      unfolding entry_at close_at
+      skip_plain {e = e} o b k =
+          let z : entry_at s (deep s) p ≡ some (plain type ps, e) = rw (h, u, o) in
+          record {
+            over = λ next m.
+                let n : e ≡ next = cc in
+                (plain type ps, sym (entry-same s (deep s) p) ∙ z ∙ ap (λ y. some (plain type ps, y)) n, b);
+            kept = λ m. cc;
+          }

@@ -1,5 +1,6 @@
 -- The entries of an Access 2000 stream, one at a time, and what the functions that move a cursor over them answer.
 use Rattle.std.specs.Prelude.{ℕ, ◌+◌, ◌≡◌, true, false, List}
+use Rattle.std.specs.Prelude as code
 use Rattle.std.proofs.Math.Option.{Option, some}
 use Rattle.rules.specs.Lists.{◌>>=◌}
 use Rattle.rules.specs.Bytes.{half_at_lem}
@@ -9,7 +10,6 @@ use Rattle.rules.proofs.ListLaws.{Every}
 use Rattle.cursor.specs.Walk.{Steps}
 use Rattle.cursor.specs.Stack.{count_of}
 use Rattle.cursor.specs.Cursors.{top_at}
-use Rattle.cursor2000.specs.declared.Pass.{Pass}
 
 -- "Entry: u16 type, a run, then 0xFD for no list, or a list", up to the list's entries
 unfoldable pub step_at : List ℕ → Steps Prop
@@ -23,7 +23,7 @@ step_at s p = do
 unfoldable pub list_at_lem : List ℕ → ℕ → Option (ℕ × ℕ)
 list_at_lem s q = head_at_lem s q >>= λ h. some (count_of h.0, h.1)
 
--- whether an entry of the top list is skipped
-pub record Skips (s : List ℕ) (at : ℕ) (r : Pass) : Type 0 where
-  pub over : (next : ℕ) → r ≡ Pass.Over next → (e : Entry Prop) × (top_at (step_at s) at ≡ some (e, next)) × (is_reported e ≡ false)
-  pub kept : r ≡ Pass.Not → Every (λ e. is_reported e.0 ≡ true) (top_at (step_at s) at)
+-- the place after an entry of the top list that is skipped
+pub record Skips (s : List ℕ) (at : ℕ) (r : code.Option ℕ) : Type 0 where
+  pub over : (next : ℕ) → r ≡ code.Some next → (e : Entry Prop) × (top_at (step_at s) at ≡ some (e, next)) × (is_reported e ≡ false)
+  pub kept : r ≡ code.None → Every (λ e. is_reported e.0 ≡ true) (top_at (step_at s) at)

@@ -6,34 +6,22 @@ ghost use Rattle.cursor.specs.Cursors.{Passed, PastReady, Past};
 ghost use Rattle.cursor2000.specs.Steps.{step_at, list_at_lem, Skips};
 
 use cursor::{Cursor, STACK_WORDS, after_entry};
-use numbers::{IfInside, u16_if_inside};
+use numbers::u16_if_inside;
 use rows::is_section;
-use walk2000::{Opens, Run, head, run_at};
+use walk2000::{Opens, head, run_at};
 
-// Whether an entry of the top list is skipped.
-#[derive(Clone, Copy)]
-enum Pass {
-    Over(usize),
-    Not,
-}
-
-// An entry of the top list that has no list, and no type of a section, is skipped: its run is all there is to walk.
-fn skip(s: &[u8], at: usize) -> Pass
+// The place after an entry of the top list that is skipped: it has no list, and no type of a section, so its run is all there is to walk.
+fn skip(s: &[u8], at: usize) -> Option<usize>
     ensures { Skips s.now at result }
 {
-    let IfInside::Of(entry_type) = u16_if_inside(s, at) else {
-        return Pass::Not;
-    };
+    let entry_type = u16_if_inside(s, at)?;
     if is_section(entry_type) {
-        return Pass::Not;
+        return None;
     }
-    let Run::Of { count: _, next } = run_at(s, at + 2) else {
-        return Pass::Not;
-    };
-    match head(s, next) {
-        Opens::Plain { next: end } => Pass::Over(end),
-        Opens::Listed { count: _, next: _ } => Pass::Not,
-        Opens::Bad => Pass::Not,
+    let run = run_at(s, at + 2)?;
+    match head(s, run.next)? {
+        Opens::Plain { next } => Some(next),
+        Opens::Listed { .. } => None,
     }
 }
 
@@ -41,35 +29,17 @@ fn skip(s: &[u8], at: usize) -> Pass
 pub fn reported(s: &[u8], c: Cursor) -> Cursor
     ensures { Passed (step_at s.now) is_reported c result }
 {
-    let level = c.level;
-    let parent = c.parent;
-    if 0 < level {
+    if 0 < c.level {
         return c;
     }
-    let mut at = c.at;
-    let mut left = c.left;
-    while 0 < left {
-        match skip(s, at) {
-            Pass::Over(next) => {
-                at = next;
-                left = left - 1;
-            }
-            Pass::Not => {
-                return Cursor {
-                    at,
-                    level,
-                    left,
-                    parent,
-                };
-            }
-        }
+    let mut here = c;
+    for left in (0..c.left).rev() {
+        let Some(at) = skip(s, here.at) else {
+            break;
+        };
+        here = Cursor { at, left, ..c };
     }
-    Cursor {
-        at,
-        level,
-        left,
-        parent,
-    }
+    here
 }
 
 // Goes on after the entry at `c`, which has row `row`, and whose run ends at `run`.
@@ -78,8 +48,8 @@ pub fn past(s: &[u8], stack: &mut [u32; STACK_WORDS], c: Cursor, row: u32, run: 
     ensures { Past stack.old c row (list_at_lem s.now run) stack.new result }
 {
     match head(s, run) {
-        Opens::Bad => c,
-        Opens::Plain { next } => after_entry(stack, c, row, 0, next),
-        Opens::Listed { count, next } => after_entry(stack, c, row, count as u32, next),
+        Some(Opens::Plain { next }) => after_entry(stack, c, row, 0, next),
+        Some(Opens::Listed { count, next }) => after_entry(stack, c, row, count as u32, next),
+        None => c,
     }
 }
