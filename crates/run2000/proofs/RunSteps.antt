@@ -5,10 +5,12 @@ use mathlib.Core.Path.{◌≡◌, refl, sym, ap, ◌∙◌}
 use mathlib.Core.Bool.{Bool, true, false, cond}
 use mathlib.Core.Logic.{◌⊎◌, inl, inr}
 use mathlib.Core.List.{List, [], ◌∷◌, map}
-use mathlib.Core.Option.{Option, none, some}
+use mathlib.Core.Option.{none, some}
+use mathlib.Core.Option as maybe
 use lib.Dec.{leb, eqb}
 use lib.ListN.{length}
 use borrow.Author.Tests.{eq-eqb, ne_eqb, eqb-true, eqb-false}
+use Rattle.std.proofs.Common.{Option, Some, None}
 use Rattle.rules.specs.Lists.{◌>>=◌, find}
 use Rattle.rules.specs.Bytes.{byte}
 use Rattle.rules.specs.Rows.{property_width}
@@ -16,6 +18,8 @@ use Rattle.rules.specs.Access2000.{Prop, extent_at, property_at, goes_on_lem, ru
 use Rattle.rules.specs.Reading.{property_row}
 use Rattle.rules.specs.declared.Name.{Name}
 use Rattle.rules.specs.declared.Property.{Property}
+use Rattle.rules.specs.Told.{told_as}
+use Rattle.rules.proofs.ToldLaws.{told_as_none}
 use Rattle.rules.proofs.ListLaws.{Every, every_if, every_when}
 use Rattle.rules.proofs.Access2000Laws.{after, run_step}
 use Rattle.rows.specs.Put.{put}
@@ -36,36 +40,32 @@ property-id s p =
     every_when (λ q. q.id ≡ byte s p) (extent_at s (byte s p) (p + 1)) _ λ x _.
     every_if (λ q. q.id ≡ byte s p) (leb (x.0 + x.1) (length s)) _ _ (λ _. refl) λ _. tt
 
-pub property-is : (s : List ℕ) (p : ℕ) (r : Extent) (st sz : ℕ) → r ≡ told.value (property_at s p) → r ≡ Extent.At st sz → property_at s p ≡ some (prop (byte s p) st sz)
-property-is s p r st sz e k = go (property_at s p) (property-id s p) (sym e ∙ k)
+pub property-is : (s : List ℕ) (p : ℕ) (r : Option Extent) (v : Extent) → r ≡ told_as told.value (property_at s p) → r ≡ Some v → property_at s p ≡ some (prop (byte s p) v.start v.size)
+property-is s p r v e k = go (property_at s p) (property-id s p) (sym e ∙ k)
   where
-    go : (o : Option Prop) → Every (λ q. q.id ≡ byte s p) o → told.value o ≡ Extent.At st sz → o ≡ some (prop (byte s p) st sz)
+    go : (o : maybe.Option Prop) → Every (λ q. q.id ≡ byte s p) o → told_as told.value o ≡ Some v → o ≡ some (prop (byte s p) v.start v.size)
     go none h e = cc
     go (some q) h e =
-        let e₀ : q.start ≡ st = cc in
-        let e₁ : q.size ≡ sz = cc in
+        let e₀ : q.start ≡ v.start = cc in
+        let e₁ : q.size ≡ v.size = cc in
         λ i. some (prop (h i) (e₀ i) (e₁ i))
-
-property_bad : (o : Option Prop) (r : Extent) → r ≡ told.value o → r ≡ Extent.Bad → o ≡ none
-property_bad none r e k = refl
-property_bad (some q) r e k = cc
 
 -- ---- what is left of a run
 abbrev pub Rest : Type 0
-Rest = Option (List Prop × ℕ)
+Rest = maybe.Option (List Prop × ℕ)
 
 abbrev pub with_first : Prop → Rest → Rest
 with_first q o = o >>= λ x. some (q ∷ x.0, x.1)
 
-pub run_more : (s : List ℕ) (p : ℕ) (r : Extent) (st sz : ℕ) → goes_on_lem s p ≡ true → r ≡ told.value (property_at s p) → r ≡ Extent.At st sz
-    → run_at s p ≡ with_first (prop (byte s p) st sz) (run_at s (st + sz))
-run_more s p r st sz t e k = (rw t at (run_step s p)) ∙ ap (λ o. o >>= after (run_at s)) (property-is s p r st sz e k)
+pub run_more : (s : List ℕ) (p : ℕ) (r : Option Extent) (v : Extent) → goes_on_lem s p ≡ true → r ≡ told_as told.value (property_at s p) → r ≡ Some v
+    → run_at s p ≡ with_first (prop (byte s p) v.start v.size) (run_at s (v.start + v.size))
+run_more s p r v t e k = (rw t at (run_step s p)) ∙ ap (λ o. o >>= after (run_at s)) (property-is s p r v e k)
 
 pub run-stop : (s : List ℕ) (p : ℕ) → goes_on_lem s p ≡ false → run_at s p ≡ some ([], p)
 run-stop s p t = rw t at (run_step s p)
 
-pub run_bad : (s : List ℕ) (p : ℕ) (r : Extent) → goes_on_lem s p ≡ true → r ≡ told.value (property_at s p) → r ≡ Extent.Bad → run_at s p ≡ none
-run_bad s p r t e k = (rw t at (run_step s p)) ∙ ap (λ o. o >>= after (run_at s)) (property_bad (property_at s p) r e k)
+pub run_bad : (s : List ℕ) (p : ℕ) (r : Option Extent) → goes_on_lem s p ≡ true → r ≡ told_as told.value (property_at s p) → r ≡ None → run_at s p ≡ none
+run_bad s p r t e k = (rw t at (run_step s p)) ∙ ap (λ o. o >>= after (run_at s)) (told_as_none told.value (property_at s p) r e k)
 
 -- ---- rows: what is left to write from here is what there was to write
 pub record Left (f : Prop → Property) (s : List ℕ) (at : ℕ) (old : List ℕ) (first : ℕ) (new : List ℕ) (p n : ℕ) : Type 0 where
@@ -99,22 +99,22 @@ module _ {f : Prop → Property} {s : List ℕ} {at : ℕ} {old : List ℕ} {fir
       let e : some (ran new n p) ≡ run_act f (some ([], p)) new n = λ i. some (ran (sym a i) (b i) p) in
       e ∙ ap (λ o. run_act f o new n) (sym (run-stop s p t)) ∙ known.is
 
-  module _ {r : Extent} (goes : goes_on_lem s p ≡ true) (re : r ≡ told.value (property_at s p)) where
-    pub left_bad : r ≡ Extent.Bad → ⊥
+  module _ {r : Option Extent} (goes : goes_on_lem s p ≡ true) (re : r ≡ told_as told.value (property_at s p)) where
+    pub left_bad : r ≡ None → ⊥
     left_bad k = rw (run_bad s p r goes re k) at known.fits
 
-    module _ {st sz : ℕ} (k : r ≡ Extent.At st sz) where
+    module _ {v : Extent} (k : r ≡ Some v) where
       pub left-room : n * property_width + property_width ≤ length new
-      left-room = one-room (prop (byte s p) st sz) new n (run_at s (st + sz)) (rw (run_more s p r st sz goes re k) at known.fits)
+      left-room = one-room (prop (byte s p) v.start v.size) new n (run_at s (v.start + v.size)) (rw (run_more s p r v goes re k) at known.fits)
 
-      pub left-more : {q : Property} {new' : List ℕ} → q ≡ f (prop (byte s p) st sz) → new' ≡ put property_width new n (property_row q ∷ []) → Left f s at old first new' (st + sz) (n + 1)
+      pub left-more : {q : Property} {new' : List ℕ} → q ≡ f (prop (byte s p) v.start v.size) → new' ≡ put property_width new n (property_row q ∷ []) → Left f s at old first new' (v.start + v.size) (n + 1)
       left-more {q = q} {new' = new'} qe ne =
-          let m = run_more s p r st sz goes re k in
-          let e : new' ≡ put property_width new n (property_row (f (prop (byte s p) st sz)) ∷ []) = ne ∙ ap (λ x. put property_width new n (property_row x ∷ [])) qe in
+          let m = run_more s p r v goes re k in
+          let e : new' ≡ put property_width new n (property_row (f (prop (byte s p) v.start v.size)) ∷ []) = ne ∙ ap (λ x. put property_width new n (property_row x ∷ [])) qe in
           let l : length new' ≡ length new = ap length ne ∙ put-length property_width new n (property_row q ∷ []) in
           record {
-            fits = fits_more (prop (byte s p) st sz) new new' n (run_at s (st + sz)) l (rw m at known.fits);
-            is = rw e (act-more f (prop (byte s p) st sz) new n (run_at s (st + sz)) ∙ ap (λ o. run_act f o new n) (sym m) ∙ known.is);
+            fits = fits_more (prop (byte s p) v.start v.size) new new' n (run_at s (v.start + v.size)) l (rw m at known.fits);
+            is = rw e (act-more f (prop (byte s p) v.start v.size) new n (run_at s (v.start + v.size)) ∙ ap (λ o. run_act f o new n) (sym m) ∙ known.is);
             same = l ∙ known.same;
           }
 
@@ -145,19 +145,19 @@ module _ (s : List ℕ) (w at p : ℕ) (known : Unnamed s w at p) where
   unfolding find
   unnamed-stop t = ap (name_in_lem s w) (sym (run-stop s p t)) ∙ known.is
 
-  module _ (r : Extent) (goes : goes_on_lem s p ≡ true) (re : r ≡ told.value (property_at s p)) where
-    module _ (st sz : ℕ) (k : r ≡ Extent.At st sz) where
-      unnamed-found : (x : Name) → byte s p ≡ w → x ≡ name_at s st sz → x ≡ name_in_lem s w (run_at s at)
+  module _ (r : Option Extent) (goes : goes_on_lem s p ≡ true) (re : r ≡ told_as told.value (property_at s p)) where
+    module _ (v : Extent) (k : r ≡ Some v) where
+      unnamed-found : (x : Name) → byte s p ≡ w → x ≡ name_at s v.start v.size → x ≡ name_in_lem s w (run_at s at)
       unnamed-found x e xe =
-          let m = run_more s p r st sz goes re k in
-          xe ∙ sym (first-is s w (prop (byte s p) st sz) (run_at s (st + sz)) e (rw m at known.good)) ∙ ap (name_in_lem s w) (sym m) ∙ known.is
+          let m = run_more s p r v goes re k in
+          xe ∙ sym (first-is s w (prop (byte s p) v.start v.size) (run_at s (v.start + v.size)) e (rw m at known.good)) ∙ ap (name_in_lem s w) (sym m) ∙ known.is
 
-      unnamed-more : (byte s p ≡ w → ⊥) → Unnamed s w at (st + sz)
+      unnamed-more : (byte s p ≡ w → ⊥) → Unnamed s w at (v.start + v.size)
       unnamed-more e =
-          let m = run_more s p r st sz goes re k in
+          let m = run_more s p r v goes re k in
           record {
-            good = good_more (prop (byte s p) st sz) (run_at s (st + sz)) (rw m at known.good);
-            is = sym (first_not s w (prop (byte s p) st sz) (run_at s (st + sz)) e) ∙ ap (name_in_lem s w) (sym m) ∙ known.is;
+            good = good_more (prop (byte s p) v.start v.size) (run_at s (v.start + v.size)) (rw m at known.good);
+            is = sym (first_not s w (prop (byte s p) v.start v.size) (run_at s (v.start + v.size)) e) ∙ ap (name_in_lem s w) (sym m) ∙ known.is;
           }
 
 -- nothing was found yet
@@ -174,7 +174,7 @@ record Found (s : List ℕ) (w at : ℕ) (x : Naming) : Type 0 where
 pub record Named (s : List ℕ) (w at : ℕ) (x : Naming) (p : ℕ) : Type 0 where
   known : NotYet s w at x p ⊎ Found s w at x
 
-held_good : {A : Type 0} (P : A → Type 0) (o : Option A) → Held P o → Held (λ _. Unit {0}) o
+held_good : {A : Type 0} (P : A → Type 0) (o : maybe.Option A) → Held P o → Held (λ _. Unit {0}) o
 held_good P none h = h
 held_good P (some x) h = tt
 
@@ -188,29 +188,29 @@ named-stop {s = s} {w = w} {at = at} {x = x} {p = p} h t = go h.known
     go (inl u) = u.numbered ∙ unnamed-stop s w at p u.unnamed t
     go (inr e) = e.name-is
 
-module _ {s : List ℕ} {w at p : ℕ} {x : Naming} (h : Named s w at x p) {r : Extent} (goes : goes_on_lem s p ≡ true) (re : r ≡ told.value (property_at s p)) {st sz : ℕ} (k : r ≡ Extent.At st sz) where
-  same-named : (byte s p ≡ x.wanted → ⊥) → Named s w at x (st + sz)
+module _ {s : List ℕ} {w at p : ℕ} {x : Naming} (h : Named s w at x p) {r : Option Extent} (goes : goes_on_lem s p ≡ true) (re : r ≡ told_as told.value (property_at s p)) {v : Extent} (k : r ≡ Some v) where
+  same-named : (byte s p ≡ x.wanted → ⊥) → Named s w at x (v.start + v.size)
   same-named n = record { known = go h.known }
     where
-      go : NotYet s w at x p ⊎ Found s w at x → NotYet s w at x (st + sz) ⊎ Found s w at x
+      go : NotYet s w at x p ⊎ Found s w at x → NotYet s w at x (v.start + v.size) ⊎ Found s w at x
       go (inl u) = inl (record {
-        unnamed = unnamed-more s w at p u.unnamed r goes re st sz k (λ e. n (e ∙ sym u.wanted_is));
+        unnamed = unnamed-more s w at p u.unnamed r goes re v k (λ e. n (e ∙ sym u.wanted_is));
         numbered = u.numbered;
         wanted_is = u.wanted_is;
       })
       go (inr e) = inr e
 
-  now_named : byte s p < 0xFD → byte s p ≡ x.wanted → name_at s st sz ≡ name_in_lem s w (run_at s at)
+  now_named : byte s p < 0xFD → byte s p ≡ x.wanted → name_at s v.start v.size ≡ name_in_lem s w (run_at s at)
   now_named low e = go h.known
     where
-      go : NotYet s w at x p ⊎ Found s w at x → name_at s st sz ≡ name_in_lem s w (run_at s at)
-      go (inl u) = unnamed-found s w at p u.unnamed r goes re st sz k (name_at s st sz) (e ∙ u.wanted_is) refl
+      go : NotYet s w at x p ⊎ Found s w at x → name_at s v.start v.size ≡ name_in_lem s w (run_at s at)
+      go (inl u) = unnamed-found s w at p u.unnamed r goes re v k (name_at s v.start v.size) (e ∙ u.wanted_is) refl
       go (inr f) = absurd (omega (arith, low, e, f.done))
 
-  pub named_more : {x' : Naming} → byte s p < 0xFD → x' ≡ next_name s (byte s p) st sz x → Named s w at x' (st + sz)
+  pub named_more : {x' : Naming} → byte s p < 0xFD → x' ≡ next_name s (byte s p) v.start v.size x → Named s w at x' (v.start + v.size)
   named_more low e = rw e (go (eqb (byte s p) x.wanted) refl)
     where
-      go : (b : Bool) → eqb (byte s p) x.wanted ≡ b → Named s w at (cond b (record { name = name_at s st sz; wanted = 0xFF }) x) (st + sz)
+      go : (b : Bool) → eqb (byte s p) x.wanted ≡ b → Named s w at (cond b (record { name = name_at s v.start v.size; wanted = 0xFF }) x) (v.start + v.size)
       go true q = record { known = inr (record { name-is = now_named low (eqb-true _ _ q); done = refl }) }
       go false q = same-named (eqb-false _ _ q)
 
@@ -222,7 +222,7 @@ module _ {s : List ℕ} {w at p : ℕ} {x : Naming} (h : Named s w at x p) {r : 
       go (inl u) = omega (arith, u.wanted_is)
       go (inr f) = omega (arith, f.done)
 
-  pub named_past : {x' : Naming} → 0xBC < w → byte s p ≤ 0xBC → x' ≡ x → Named s w at x' (st + sz)
+  pub named_past : {x' : Naming} → 0xBC < w → byte s p ≤ 0xBC → x' ≡ x → Named s w at x' (v.start + v.size)
   named_past hw hb e = rw e (same-named (not_wanted hw hb))
 
 -- ---- what the loop keeps

@@ -4,46 +4,47 @@ use native.Mathlib.Omega.{arith}
 use mathlib.Core.Path.{◌≡◌, refl, sym, ap, ◌∙◌}
 use mathlib.Core.Bool.{Bool, true, false, cond, ◌&&◌}
 use mathlib.Core.List.{List}
-use mathlib.Core.Option.{Option, none, some}
+use mathlib.Core.Option.{none, some}
+use mathlib.Core.Option as maybe
 use lib.Bits.{bit_or}
 use lib.Dec.{leb, ltb, eqb}
 use lib.ListN.{length}
 use borrow.Author.Tests.{lt-ltb, eq-eqb}
+use Rattle.std.proofs.Common.{Option, Some, None}
 use Rattle.rules.specs.Lists.{find}
 use Rattle.rules.specs.Bytes.{part, u32}
 use Rattle.rules.specs.Utf16.{is_utf16_lem}
 use Rattle.rules.specs.Value.{value, guid_value, stored_value_lem, value_as_lem}
 use Rattle.rules.specs.CodeTable.{Tie, is_tied}
 use Rattle.rules.specs.Read2000.{property, shown}
-use Rattle.rules.specs.declared.Name.{Name}
 use Rattle.rules.specs.declared.Property.{Property}
 use Rattle.rules.specs.declared.Value.{Value}
 use Rattle.coderows.specs.Look.{as_row}
-use Rattle.coderows.specs.declared.Row.{Row}
-use Rattle.run2000.specs.Runs.{prop, shown_in, name_at}
+use Rattle.coderows.specs.declared.Tie as tied
+use Rattle.run2000.specs.Runs.{prop, shown_in}
 
-module _ (ties : List Tie) (s : List ℕ) (id st sz : ℕ) {row : Row} (re : row ≡ as_row (find (is_tied id) ties)) {bytes : List ℕ} (be : bytes ≡ part s st sz) {v : Value} where
-  pub shown-tied : {target kind : ℕ} → row ≡ Row.Tied target kind → v ≡ value_as_lem kind id bytes → property target v (prop id st sz) ≡ shown_in ties s (prop id st sz)
-  unfolding shown_in as_row
-  shown-tied {target = target} {kind = kind} k ve = go (find (is_tied id) ties) (sym re ∙ k)
+module _ (ties : List Tie) (s : List ℕ) (id st sz : ℕ) {row : Option tied.Tie} (re : row ≡ as_row (find (is_tied id) ties)) {bytes : List ℕ} (be : bytes ≡ part s st sz) {v : Value} where
+  pub shown-tied : {t : tied.Tie} → row ≡ Some t → v ≡ value_as_lem t.kind id bytes → property t.target v (prop id st sz) ≡ shown_in ties s (prop id st sz)
+  unfolding shown_in
+  shown-tied {t} k ve = go (find (is_tied id) ties) (sym re ∙ k)
     where
-      go : (o : Option Tie) → as_row o ≡ Row.Tied target kind → property target v (prop id st sz) ≡ shown s (prop id st sz) o
-      go none e = absurd (let z : ◌≡◌ {A = ℕ} 0 1 = cc in omega arith)
+      go : (o : maybe.Option Tie) → as_row o ≡ Some t → property t.target v (prop id st sz) ≡ shown s (prop id st sz) o
+      go none e = cc
       go (some r) e =
-          let a : target ≡ r.target = cc in
-          let b : kind ≡ r.kind = cc in
+          let a : t.target ≡ r.target = cc in
+          let b : t.kind ≡ r.kind = cc in
           let c : v ≡ value_as_lem r.kind id (part s st sz) = ve ∙ (λ i. value_as_lem (b i) id (be i)) in
           λ i. property (a i) (c i) (prop id st sz)
 
-  pub shown-untied : {code : ℕ} → row ≡ Row.Untied → code ≡ bit_or 0x8000 id → v ≡ stored_value_lem id bytes → property code v (prop id st sz) ≡ shown_in ties s (prop id st sz)
-  unfolding shown_in as_row
+  pub shown-untied : {code : ℕ} → row ≡ None → code ≡ bit_or 0x8000 id → v ≡ stored_value_lem id bytes → property code v (prop id st sz) ≡ shown_in ties s (prop id st sz)
+  unfolding shown_in
   shown-untied {code = code} k ce ve = go (find (is_tied id) ties) (sym re ∙ k)
     where
-      go : (o : Option Tie) → as_row o ≡ Row.Untied → property code v (prop id st sz) ≡ shown s (prop id st sz) o
+      go : (o : maybe.Option Tie) → as_row o ≡ None → property code v (prop id st sz) ≡ shown s (prop id st sz) o
       go none e =
           let c : v ≡ stored_value_lem id (part s st sz) = ve ∙ ap (stored_value_lem id) be in
           λ i. property (ce i) (c i) (prop id st sz)
-      go (some r) e = absurd (let z : ◌≡◌ {A = ℕ} 0 1 = cc in omega arith)
+      go (some r) e = cc
 
 -- ---- only UTF-16 is marked as text
 six_else : (c : Bool) (x y : Value) → (x.mark ≡ 6 → ⊥) → (y.mark ≡ 6 → ⊥) → (cond c x y).mark ≡ 6 → ⊥
@@ -78,19 +79,9 @@ pub shown-six : (ties : List Tie) (s : List ℕ) (id st sz : ℕ) {p : Property}
 unfolding shown_in
 shown-six ties s id st sz pe e = go (find (is_tied id) ties) (ap (λ q. q.value.mark) (sym pe) ∙ e)
   where
-    go : (o : Option Tie) → (shown s (prop id st sz) o).value.mark ≡ 6 → is_utf16_lem (part s st sz) ≡ true
+    go : (o : maybe.Option Tie) → (shown s (prop id st sz) o).value.mark ≡ 6 → is_utf16_lem (part s st sz) ≡ true
     go none e = absurd (stored_not_six id (part s st sz) e)
     go (some r) e = value-six r.kind id (part s st sz) e
-
-module _ (s : List ℕ) (st sz : ℕ) {bytes : List ℕ} (be : bytes ≡ part s st sz) {b : Bool} (u : b ≡ is_utf16_lem bytes) where
-  picked : name_at s st sz ≡ cond b (Name.Text st sz) Name.Numbered
-  picked = ap (λ c. cond c (Name.Text st sz) Name.Numbered) (sym (u ∙ ap is_utf16_lem be))
-
-  pub name-text : b ≡ true → Name.Text st sz ≡ name_at s st sz
-  name-text k = sym (picked ∙ ap (λ c. cond c (Name.Text st sz) Name.Numbered) k)
-
-  pub name-numbered : b ≡ false → Name.Numbered ≡ name_at s st sz
-  name-numbered k = sym (picked ∙ ap (λ c. cond c (Name.Text st sz) Name.Numbered) k)
 
 -- bytes with a length that a row of kind 1 ties are text where they are UTF-16
 pub plain-text : (kind id : ℕ) (bytes b : List ℕ) → bytes ≡ b → 0xBC < id → kind ≡ 1 → is_utf16_lem bytes ≡ true → value 6 0 0 ≡ value_as_lem kind id b

@@ -19,10 +19,14 @@ use Rattle.coderows.specs.Look.{Sorted, body_rows}
 use Rattle.coderows.specs.declared.Body.{Body}
 use Rattle.run2000.specs.declared.Naming.{Naming}
 use Rattle.run2000.specs.declared.RunRows.{RunRows}
+use Rattle.run2000.specs.declared.Stored.{Stored}
 
 -- ---- a property, and a run of them
 abbrev pub prop : ℕ → ℕ → ℕ → Prop
 prop id start size = record { id = id; start = start; size = size }
+
+abbrev pub prop_of : Stored → Prop
+prop_of p = prop p.id p.start p.size
 
 -- a property by the rows of its scope
 unfoldable pub shown_in : List Tie → List ℕ → Prop → Property

@@ -9,12 +9,12 @@ ghost use Rattle.rules.specs.Value.{value_as_lem};
 ghost use Rattle.run2000.specs.Runs as runs;
 
 use codehints::{HINTS, find_row};
-use coderows::{Body, Row};
+use coderows::{Body, Tie};
 use propvalue::{sized_stored_value, stored_value, value_as};
 use rows::put_property;
 use rules::{KIND_TEXT, LAST_ID, LAST_SIZED_ID, MARK_TEXT, Name, Property, UNMAPPED, Value};
 use utf16::{is_plain, is_utf16};
-use walk2000::{Extent, value};
+use walk2000::value;
 
 // No property has this id.
 pub const NO_ID: u8 = 0xFF;
@@ -27,6 +27,14 @@ pub struct RunRows {
     pub name: Name,
 }
 
+// A property of a run: its id, and where its value's bytes stand.
+#[derive(Clone, Copy)]
+pub struct Stored {
+    pub id: u8,
+    pub start: usize,
+    pub size: usize,
+}
+
 // The name of a run as far as it was read, and the id that the name has: none has it once a name was met.
 #[derive(Clone, Copy)]
 struct Naming {
@@ -34,12 +42,12 @@ struct Naming {
     wanted: u8,
 }
 
-fn part(s: &[u8], start: usize, size: usize) -> &[u8]
-    requires { start + size ≤ length s.now }
-    ensures { result.now ≡ part s.now start size }
+// The bytes of a property's value.
+pub fn part(s: &[u8], p: Stored) -> &[u8]
+    requires { p.start + p.size ≤ length s.now }
+    ensures { result.now ≡ part s.now p.start p.size }
 {
-    let end = start + size;
-    &s[start..end]
+    &s[p.start..p.start + p.size]
 }
 
 // A mark or a prefix joined by OR with a code.
@@ -50,69 +58,53 @@ pub fn bit_or(mark: u32, code: u32) -> u32
 }
 
 // The value of an id that a row of this kind ties. What is most often met, a value whose size the id tells or plain text, is told here; the rest by value_as.
-fn value_by_kind(s: &[u8], kind: u8, id: u8, start: usize, size: usize) -> Value
-    requires { runs.Sound s.now id start size }
-    ensures { result ≡ value_as_lem kind id (part s.now start size) }
+fn value_by_kind(s: &[u8], kind: u8, p: Stored) -> Value
+    requires { runs.Sound s.now p.id p.start p.size }
+    ensures { result ≡ value_as_lem kind p.id (part s.now p.start p.size) }
 {
-    if id <= LAST_SIZED_ID {
-        return sized_stored_value(id, part(s, start, size));
+    let bytes = part(s, p);
+    if p.id <= LAST_SIZED_ID {
+        return sized_stored_value(p.id, bytes);
     }
-    if kind == KIND_TEXT {
-        if is_plain(part(s, start, size)) {
-            return Value {
-                mark: MARK_TEXT,
-                low: 0,
-                high: 0,
-            };
-        }
+    if kind == KIND_TEXT && is_plain(bytes) {
+        return Value {
+            mark: MARK_TEXT,
+            low: 0,
+            high: 0,
+        };
     }
-    value_as(kind, id, part(s, start, size))
+    value_as(kind, p.id, bytes)
 }
 
-// A property with this id and value, by the rows of its scope.
-fn property(
-    table: &[u8],
-    hints: &mut [u8; HINTS],
-    body: Body,
-    s: &[u8],
-    id: u8,
-    start: usize,
-    size: usize,
-) -> Property
-    requires { runs.Inside table.now body s.now id start size }
-    ensures { result ≡ runs.shown_in (body_rows table.now body) s.now (runs.prop id start size) }
+// A property as it is shown, by the rows of its scope.
+fn property(table: &[u8], hints: &mut [u8; HINTS], body: Body, s: &[u8], p: Stored) -> Property
+    requires { runs.Inside table.now body s.now p.id p.start p.size }
+    ensures { result ≡ runs.shown_in (body_rows table.now body) s.now (runs.prop_of p) }
 {
-    match find_row(table, hints, body, id) {
-        Row::Tied { target, kind } => Property {
-            id: target as u32,
-            value: value_by_kind(s, kind, id, start, size),
-            start: start as u32,
-            size: size as u32,
-        },
-        Row::Untied => Property {
-            id: bit_or(UNMAPPED, id as u32),
-            value: stored_value(id, part(s, start, size)),
-            start: start as u32,
-            size: size as u32,
-        },
+    let (id, value) = match find_row(table, hints, body, p.id) {
+        Some(Tie { target, kind }) => (target as u32, value_by_kind(s, kind, p)),
+        None => (
+            bit_or(UNMAPPED, p.id as u32),
+            stored_value(p.id, part(s, p)),
+        ),
+    };
+    Property {
+        id,
+        value,
+        start: p.start as u32,
+        size: p.size as u32,
     }
 }
 
 // The name that a property holds whose value was read with this mark: only UTF-16 is marked as text.
-fn name_at(s: &[u8], mark: u32, start: usize, size: usize) -> Name
-    requires { runs.NameReady s.now mark start size }
-    ensures { result ≡ runs.name_at s.now start size }
+fn name_at(s: &[u8], mark: u32, p: Stored) -> Name
+    requires { runs.NameReady s.now mark p.start p.size }
+    ensures { result ≡ runs.name_at s.now p.start p.size }
 {
-    if mark == MARK_TEXT {
-        return Name::Text {
-            start: start as u32,
-            size: size as u32,
-        };
-    }
-    if is_utf16(part(s, start, size)) {
+    if mark == MARK_TEXT || is_utf16(part(s, p)) {
         Name::Text {
-            start: start as u32,
-            size: size as u32,
+            start: p.start as u32,
+            size: p.size as u32,
         }
     } else {
         Name::Numbered
@@ -120,13 +112,13 @@ fn name_at(s: &[u8], mark: u32, start: usize, size: usize) -> Name
 }
 
 // A property more of the run: the first with the wanted id has the name.
-fn next_name(so_far: Naming, s: &[u8], id: u8, mark: u32, start: usize, size: usize) -> Naming
-    requires { runs.NameReady s.now mark start size }
-    ensures { result ≡ runs.next_name s.now id start size so_far }
+fn next_name(so_far: Naming, s: &[u8], mark: u32, p: Stored) -> Naming
+    requires { runs.NameReady s.now mark p.start p.size }
+    ensures { result ≡ runs.next_name s.now p.id p.start p.size so_far }
 {
-    if id == so_far.wanted {
+    if p.id == so_far.wanted {
         return Naming {
-            name: name_at(s, mark, start, size),
+            name: name_at(s, mark, p),
             wanted: NO_ID,
         };
     }
@@ -160,22 +152,22 @@ pub fn properties(
         name: Name::Numbered,
         wanted,
     };
-    while p < s.len() {
-        let id = s[p];
-        if LAST_ID < id {
-            return run_rows(p, n, naming);
-        }
-        let Extent::At { start, size } = value(s, p) else {
+    while p < s.len() && s[p] <= LAST_ID {
+        let Some(v) = value(s, p) else {
             return run_rows(p, n, naming);
         };
-        let shown = property(table, hints, body, s, id, start, size);
-        let v = shown.value;
-        if LAST_SIZED_ID < id {
-            naming = next_name(naming, s, id, v.mark, start, size);
+        let q = Stored {
+            id: s[p],
+            start: v.start,
+            size: v.size,
+        };
+        let shown = property(table, hints, body, s, q);
+        if LAST_SIZED_ID < q.id {
+            naming = next_name(naming, s, shown.value.mark, q);
         }
         put_property(rows, n, shown);
-        p = start + size;
-        n = n + 1;
+        p = v.start + v.size;
+        n += 1;
     }
     run_rows(p, n, naming)
 }
