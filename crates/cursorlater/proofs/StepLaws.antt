@@ -7,6 +7,7 @@ use mathlib.Core.List.{List}
 use mathlib.Core.Option.{Option, none, some}
 use lib.Dec.{leb, eqb}
 use lib.ListN.{length}
+use Rattle.std.specs.Prelude as code
 use Rattle.rules.specs.Lists.{◌>>=◌}
 use Rattle.rules.specs.Bytes.{Bytes, u16}
 use Rattle.rules.specs.Tree.{Entry, parent, Entries, end, more, levels_at, many_at, is_reported}
@@ -15,7 +16,6 @@ use Rattle.rules.proofs.ListLaws.{Every, every_if, every_at}
 use Rattle.rows.proofs.LevelLaws.{levels-none, levels-more, is_more}
 use Rattle.countlater.specs.Count.{children, one_node, top_node}
 use Rattle.countlater.specs.declared.Children.{Children}
-use Rattle.countlater.specs.declared.TopNode.{TopNode}
 use Rattle.countlater.proofs.NodeLaws.{children_of_lem, children_bad, top-reported, top_skipped}
 use Rattle.cursor.specs.Walk.{Step, close_by, entry_by}
 use Rattle.cursor.specs.Stack.{Moved}
@@ -84,13 +84,13 @@ unfolding nodes_at
 top-same s p = node-same s (node_at s) 255 p ∙ ap (λ below. entry_by (step_at s) below p) (λ i m q. nodes-by s 255 m q i)
 
 -- ---- a top node that is reported, or can't be read, and one that is skipped
-module _ (s : List ℕ) (p : ℕ) (r : TopNode) (re : r ≡ top_node (one_node 255 s p)) where
-  pub kept_top : r ≡ TopNode.Reported → Every (λ e. is_reported e.0 ≡ true) (top_at (step_at s) p)
-  kept_top rk = rw (← top-same s p) (top-reported (one_node 255 s p) r re rk)
+module _ (s : List ℕ) (p : ℕ) where
+  pub kept_top : code.None ≡ top_node (one_node 255 s p) → Every (λ e. is_reported e.0 ≡ true) (top_at (step_at s) p)
+  kept_top k = rw (← top-same s p) (top-reported (one_node 255 s p) k)
 
-  pub left-top : (next : ℕ) → r ≡ TopNode.Skipped next → (e : Entry Prop) × (top_at (step_at s) p ≡ some (e, next)) × (is_reported e ≡ false)
-  left-top next rk =
-      let x = top_skipped (one_node 255 s p) r next re rk in
+  pub left_top : (next : ℕ) → code.Some next ≡ top_node (one_node 255 s p) → (e : Entry Prop) × (top_at (step_at s) p ≡ some (e, next)) × (is_reported e ≡ false)
+  left_top next k =
+      let x = top_skipped (one_node 255 s p) next k in
       (x.0, sym (top-same s p) ∙ x.2, x.1)
 
 -- ---- a count fits its word
@@ -105,13 +105,14 @@ children-small s h trailer p =
     every_if CountSmall (leb (p + 2) (length s)) _ _ (λ _. omega (arith, h p, h (p + 1))) λ _. tt
 
 -- ---- after a group
-module _ (s : List ℕ) (trailer stop : ℕ) {u : Children} (ue : u ≡ children (children_at s trailer stop)) where
-  pub count_small : Bytes s → {n q : ℕ} → u ≡ Children.Of n q → n < 65536
-  count_small h {n} {q} uk = every_at CountSmall (children_at s trailer stop) (n, q) (children-small s h trailer stop) (children_of_lem (children_at s trailer stop) u n q ue uk)
+module _ (s : List ℕ) (trailer stop : ℕ) where
+  pub past_bad : code.None ≡ children (children_at s trailer stop) → {a : List ℕ} {c : Cursor} → PastReady a c (children_at s trailer stop) → ⊥
+  past_bad e h = rw (children_bad (children_at s trailer stop) e) at h.there
 
-  pub past_bad : u ≡ Children.Bad → {a : List ℕ} {c : Cursor} → PastReady a c (children_at s trailer stop) → ⊥
-  past_bad uk h = rw (children_bad (children_at s trailer stop) u ue uk) at h.there
+  module _ {b : Children} (e : code.Some b ≡ children (children_at s trailer stop)) where
+    pub count_small : Bytes s → b.count < 65536
+    count_small h = every_at CountSmall (children_at s trailer stop) (b.count, b.next) (children-small s h trailer stop) (children_of_lem (children_at s trailer stop) e)
 
-  pub past_of : {n q : ℕ} → u ≡ Children.Of n q → {a : List ℕ} {c : Cursor} {row : ℕ} {a' : List ℕ} {r : Cursor}
-      → Moved a c row n q a' r → Past a c row (children_at s trailer stop) a' r
-  past_of {n} {q} uk m = rw (children_of_lem (children_at s trailer stop) u n q ue uk) m
+    pub past_of : {a : List ℕ} {c : Cursor} {row : ℕ} {a' : List ℕ} {r : Cursor}
+        → Moved a c row b.count b.next a' r → Past a c row (children_at s trailer stop) a' r
+    past_of m = rw (children_of_lem (children_at s trailer stop) e) m

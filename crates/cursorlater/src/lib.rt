@@ -6,42 +6,30 @@ ghost use Rattle.rules.specs.Later.{children_at};
 ghost use Rattle.cursor.specs.Cursors.{Passed, PastReady, Past};
 ghost use Rattle.cursorlater.specs.Steps.{step_at};
 
-use countlater::{Children, TopNode, children_at, top_node_at};
+use countlater::{children_at, top_node_at};
 use cursor::{Cursor, STACK_WORDS, after_entry};
 
 // Passes over the top nodes that aren't reported.
 pub fn reported(s: &[u8], c: Cursor) -> Cursor
     ensures { Passed (step_at s.now) is_reported c result }
 {
-    let level = c.level;
-    let parent = c.parent;
-    if 0 < level {
+    if 0 < c.level {
         return c;
     }
     let mut at = c.at;
-    let mut left = c.left;
-    while 0 < left {
+    for left in (0..c.left).rev() {
         match top_node_at(s, at) {
-            TopNode::Skipped { next } => {
-                at = next;
-                left = left - 1;
-            }
-            TopNode::Reported => {
+            Some(next) => at = next,
+            None => {
                 return Cursor {
                     at,
-                    level,
-                    left,
-                    parent,
+                    left: left + 1,
+                    ..c
                 };
             }
         }
     }
-    Cursor {
-        at,
-        level,
-        left,
-        parent,
-    }
+    Cursor { at, left: 0, ..c }
 }
 
 // Goes on after the node at `c`, which has row `row`, and whose group ended by `trailer` at `stop`.
@@ -57,7 +45,7 @@ pub fn past(
     ensures { Past stack.old c row (children_at s.now trailer stop) stack.new result }
 {
     match children_at(s, trailer, stop) {
-        Children::Bad => c,
-        Children::Of { count, next } => after_entry(stack, c, row, count as u32, next),
+        Some(below) => after_entry(stack, c, row, below.count as u32, below.next),
+        None => c,
     }
 }
