@@ -1,4 +1,4 @@
 -- What the proofs of several functions use.
 pub mod Entries
-pub mod Tops
+pub mod Lists
 pub mod Streams
