@@ -39,6 +39,7 @@ fn name_id(entry_type: u16) -> u8
     }
 }
 
+#[tactic(auto, unfolding(rules::specs::Read2000::is_report))]
 pub fn is_report(s: &[u8]) -> bool
     ensures { result ≡ is_report s.now }
 {
@@ -51,6 +52,7 @@ fn header_mark(report: bool) -> u32
     if report { REPORT_HEADER } else { FORM_HEADER }
 }
 
+#[tactic(auto, unfolding(rules::specs::Read2000::type_code))]
 pub fn type_code(table: &[u8], report: bool, entry_type: u16) -> u32
     ensures { result ≡ type_code (header table.now) report entry_type }
 {
@@ -74,37 +76,30 @@ pub fn put_node(
     requires { nodes.NodeReady table.now scopes.now s.now controls.old rows.old from nesting }
     ensures { nodes.NodeDone table.now s.now controls.old rows.old from nesting controls.new rows.new result }
 {
-    let at = from.at;
-    let n = from.control;
-    let first = from.property;
-    let entry_type = u16_at(s, at);
+    let entry_type = u16_at(s, from.at);
     let body = find_scope(table, hints, scopes, SCOPE_ENTRY, entry_type);
     let own = properties(
         table,
         hints,
         body,
         s,
-        at + 2,
+        from.at + 2,
         rows,
-        first,
+        from.property,
         name_id(entry_type),
     );
-    let next = own.row;
-    let name = own.name;
-    let code = type_code(table, is_report(s), entry_type);
     let row = control_row(
-        code,
-        name,
-        n as u32,
-        first as u32,
-        (next - first) as u32,
+        type_code(table, is_report(s), entry_type),
+        own.name,
+        from.control as u32,
+        from.property as u32,
+        (own.row - from.property) as u32,
         nesting,
     );
-    let below = n + 1;
-    put_control(controls, n, row);
+    put_control(controls, from.control, row);
     Next {
         at: own.at,
-        control: below,
-        property: next,
+        control: from.control + 1,
+        property: own.row,
     }
 }
