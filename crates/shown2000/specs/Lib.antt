@@ -1,0 +1,2 @@
+-- What the contracts say beyond the definitions of rules.
+pub mod Next
