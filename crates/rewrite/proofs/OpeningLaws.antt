@@ -28,7 +28,7 @@ unfolding head_at_lem
 head-is s p =
     every_when (Head s p) (byte_at s p) _ λ b f.
     let l : p < length s = (byte-is s p b f).0 in
-    every_if (Head s p) (eqb b 0xFD) _ _ (λ _. record { there = l; forth = omega arith; counted = λ n e f. absurd (let z : ◌≡◌ {A = ℕ} 0 1 = cc in omega arith) }) λ _.
+    every_if (Head s p) (eqb b 0xFD) _ _ (λ _. record { there = l; forth = omega arith; counted = λ n e f. cc }) λ _.
     every_if (Head s p) (eqb b 0xFE) _ _ (λ _. record { there = l; forth = omega arith; counted = λ n e f. absurd (f (let z : n ≡ 1 = cc in z)) }) λ _.
     every_if (Head s p) (eqb b 0xFF) _ _
     (λ _. every_when (Head s p) (half_at_lem s (p + 1)) _ λ m h. record { there = l; forth = omega arith; counted = λ n e f. (refl, h ∙ e) })
@@ -85,18 +85,11 @@ module _ (s : List ℕ) (small : Bytes s) where
               }
 
           go : {left : List ℕ} → Left s left p → Goes s left p x
-          go (prop g f l) = absurd (let z : ◌≡◌ {A = ℕ} 0 1 = cc in omega arith)
+          go (prop g f l) = cc
           go (head {e = e'} {list = list'} {rest = rest} g f a) =
               let same : ◌≡◌ {A = Option ℕ × ℕ} (list', e') (list, e) = cc in
               let a' : After s rest e = subst (λ h. After s rest h.1) same a in
               subst (λ h. Goes s (head_bytes h.0 ++ rest) p x) (sym same) (from a')
-
-    pub bad_spells : {x : Piece} → head_at_lem s p ≡ none → Spells s p x
-    bad_spells {x} k = record { so = λ left l. go l }
-      where
-        go : {left : List ℕ} → Left s left p → Goes s left p x
-        go (prop g f l) = absurd (let z : ◌≡◌ {A = ℕ} 0 1 = cc in omega arith)
-        go (head g f a) = absurd (let z : ◌≡◌ {A = ℕ} 0 1 = cc in omega arith)
 
     -- the end of an entry
     pub plain_spells : {e end : ℕ} → head_at_lem s p ≡ some (none, e) → AfterType s e end → Spells s p (record { keep = p; lead = 0xFD; start = e; next = end })

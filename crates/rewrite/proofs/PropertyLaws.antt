@@ -4,15 +4,18 @@ use native.Mathlib.Omega.{arith}
 use mathlib.Core.Path.{◌≡◌, refl, sym, ap, subst, ◌∙◌}
 use mathlib.Core.Bool.{true}
 use mathlib.Core.List.{List, [], ◌∷◌, ◌++◌}
-use mathlib.Core.Option.{Option, none, some}
+use mathlib.Core.Option.{none, some}
+use mathlib.Core.Option as maybe
 use lib.Dec.{leb, eqb}
 use lib.ListN.{length, drop, length-drop}
 use lib.Seq.{length-take-le}
 use borrow.Author.Tests.{le-leb, lt-leb, leb-true, leb-false, eqb-false}
+use Rattle.std.proofs.Common.{Option, Some}
 use Rattle.rules.specs.Bytes.{Bytes, byte, byte_at, half_at_lem, two_bytes_lem}
 use Rattle.rules.specs.Access2000.{Prop, length_at, extent_at, property_at, goes_on_lem}
 use Rattle.rules.specs.Read2000.{bytes_of}
 use Rattle.rules.specs.Rewrite.{length_bytes, value_bytes, property_bytes}
+use Rattle.rules.specs.Told.{told_as}
 use Rattle.rules.proofs.ListLaws.{Every, every_if, every_then, every_when, every_at}
 use Rattle.rules.proofs.Access2000Laws.{Within, property-within}
 use Rattle.walk2000.specs.Told as told
@@ -37,7 +40,7 @@ record Property (s : List ℕ) (p : ℕ) (q : Prop) : Type 0 where
   value : Value s p (q.start, q.size)
   inside : q.start + q.size ≤ length s
 
-every_as : {A : Type 0} (P Q : A → Type 0) (o : Option A) → ((a : A) → P a → Q a) → Every P o → Every Q o
+every_as : {A : Type 0} (P Q : A → Type 0) (o : maybe.Option A) → ((a : A) → P a → Q a) → Every P o → Every Q o
 every_as P Q none f h = tt
 every_as P Q (some a) f h = f a h
 
@@ -111,7 +114,7 @@ module _ (s : List ℕ) (small : Bytes s) where
         bytes-sized h ∙ rw (two-more q.size l, one-between s p there, rest)
 
   -- ---- the piece, by what `value` answered
-  module _ (p : ℕ) (there : p < length s) (goes : goes_on_lem s p ≡ true) {r : Extent} (found : r ≡ told.value (property_at s p)) where
+  module _ (p : ℕ) (there : p < length s) (goes : goes_on_lem s p ≡ true) {r : Option Extent} (found : r ≡ told_as told.value (property_at s p)) where
     -- in a run a property is left to write, and what follows it
     spells_by : (x : Piece) → ((q : Prop) → property_at s p ≡ some q → Property s p q → InOrder p x × (x.next ≤ length s) × (property_bytes s q ≡ piece_bytes s p x) × (x.next ≡ q.start + q.size)) → Spells s p x
     spells_by x k = record { so = λ left l. go l }
@@ -120,37 +123,34 @@ module _ (s : List ℕ) (small : Bytes s) where
         go (prop {q = q} {rest = rest} g e l) =
             let w = k q e (every_at (Property s p) (property_at s p) q (property-is p) e) in
             record { order = w.0; inside = w.1; later = rest; is = ap (λ b. b ++ rest) w.2; then = going (subst (Left s rest) (sym w.3) l) }
-        go (head g e a) = absurd (let z : ◌≡◌ {A = ℕ} 0 1 = cc in omega arith)
+        go (head g e a) = cc
 
-    pub bad_spells : {x : Piece} → r ≡ Extent.Bad → Spells s p x
-    bad_spells {x} e = spells_by x λ q k _. absurd (let z : ◌≡◌ {A = ℕ} 0 1 = cc in omega arith)
-
-    module _ {start size : ℕ} (is : r ≡ Extent.At start size) where
-      stands : (q : Prop) → property_at s p ≡ some q → (q.start ≡ start) × (q.size ≡ size)
-      stands q e = let k : Extent.At q.start q.size ≡ Extent.At start size = cc in (cc, cc)
+    module _ {v : Extent} (is : r ≡ Some v) where
+      stands : (q : Prop) → property_at s p ≡ some q → (q.start ≡ v.start) × (q.size ≡ v.size)
+      stands q e = let k : told.value q ≡ v = cc in (cc, cc)
 
       -- the piece of the property there
-      piece_by : (x : Piece) → x.next ≡ start + size → ((q : Prop) → Property s p q → q.start ≡ start → q.size ≡ size → InOrder p x × (x.next ≤ length s) × (property_bytes s q ≡ piece_bytes s p x)) → Spells s p x
+      piece_by : (x : Piece) → x.next ≡ v.start + v.size → ((q : Prop) → Property s p q → q.start ≡ v.start → q.size ≡ v.size → InOrder p x × (x.next ≤ length s) × (property_bytes s q ≡ piece_bytes s p x)) → Spells s p x
       piece_by x n k = spells_by x λ q e h.
           let w = stands q e in
-          let v = k q h w.0 w.1 in
-          (v.0, v.1, v.2, omega (arith, w.0, w.1))
+          let z = k q h w.0 w.1 in
+          (z.0, z.1, z.2, omega (arith, w.0, w.1))
 
-      pub told_spells : byte s p ≤ 0xBC → Spells s p (record { keep = p; lead = byte s p; start = start; next = start + size })
+      pub told_spells : byte s p ≤ 0xBC → Spells s p (record { keep = p; lead = byte s p; start = v.start; next = v.start + v.size })
       told_spells h = piece_by _ refl λ q x a b. (
         record { kept = omega arith; replaced = omega (arith, x.value.told h); ends = omega arith },
         omega (arith, x.inside),
         told_piece p there q x h ∙ rw (a, b),
       )
 
-      pub short_spells : 0xBC < byte s p → size ≤ 254 → Spells s p (record { keep = p + 1; lead = size; start = start; next = start + size })
+      pub short_spells : 0xBC < byte s p → v.size ≤ 254 → Spells s p (record { keep = p + 1; lead = v.size; start = v.start; next = v.start + v.size })
       short_spells h l = piece_by _ refl λ q x a b. (
         record { kept = omega arith; replaced = omega (arith, (x.value.sized h).forth); ends = omega arith },
         omega (arith, x.inside),
         short_piece p there q x h (omega arith) ∙ rw (a, b),
       )
 
-      pub long_spells : 0xBC < byte s p → 254 < size → Spells s p (record { keep = p + 1; lead = 0xFF; start = p + 1 + 1; next = start + size })
+      pub long_spells : 0xBC < byte s p → 254 < v.size → Spells s p (record { keep = p + 1; lead = 0xFF; start = p + 1 + 1; next = v.start + v.size })
       long_spells h l = piece_by _ refl λ q x a b. (
         record { kept = omega arith; replaced = omega arith; ends = omega (arith, (x.value.sized h).forth) },
         omega (arith, x.inside),
@@ -158,12 +158,12 @@ module _ (s : List ℕ) (small : Bytes s) where
       )
 
 -- the end of a value that was read
-pub value-inside : (s : List ℕ) (p : ℕ) {r : Extent} {start size : ℕ} → r ≡ told.value (property_at s p) → r ≡ Extent.At start size → start + size ≤ length s
-value-inside s p {r} {start} {size} found is = go (property_at s p) (property-within s p) found
+pub value-inside : (s : List ℕ) (p : ℕ) {r : Option Extent} {v : Extent} → r ≡ told_as told.value (property_at s p) → r ≡ Some v → v.start + v.size ≤ length s
+value-inside s p {r} {v} found is = go (property_at s p) (property-within s p) found
   where
-    go : (o : Option Prop) → Every (Within s p) o → r ≡ told.value o → start + size ≤ length s
-    go none h e = absurd (let z : ◌≡◌ {A = ℕ} 0 1 = cc in omega arith)
+    go : (o : maybe.Option Prop) → Every (Within s p) o → r ≡ told_as told.value o → v.start + v.size ≤ length s
+    go none h e = cc
     go (some q) h e =
-        let a : q.start ≡ start = cc in
-        let b : q.size ≡ size = cc in
+        let a : q.start ≡ v.start = cc in
+        let b : q.size ≡ v.size = cc in
         omega (arith, h.1)

@@ -4,48 +4,29 @@ use native.Mathlib.Omega.{arith}
 use mathlib.Core.Path.{◌≡◌, refl, sym, ap, ◌∙◌}
 use mathlib.Core.Bool.{true, false}
 use mathlib.Core.List.{List, [], ◌∷◌, ◌++◌}
-use mathlib.Core.Option.{Option, none, some}
+use mathlib.Core.Option.{none, some}
+use mathlib.Core.Option as maybe
+use Rattle.std.proofs.Common.{Option}
+use Rattle.std.specs.Option.{is_some}
 use lib.ListN.{length, take, drop, length-append, length-drop}
 use lib.Seq.{length-take-le}
 use borrow.Author.Tests.{lt-ltb, le-ltb}
-use Rattle.rules.specs.Bytes.{Bytes, byte, half_at_lem}
+use Rattle.rules.specs.Bytes.{Bytes}
 use Rattle.rules.specs.Tree.{Entries}
 use Rattle.rules.specs.Answer.{longest}
 use Rattle.rules.specs.Texts.{text_exit, refuse}
-use Rattle.rules.specs.Access2000.{Prop, goes_on_lem, stream_of}
+use Rattle.rules.specs.Access2000.{Prop, stream_of}
 use Rattle.rules.specs.Rewrite.{tree_bytes, rewritten, rewrite_exit}
+use Rattle.rules.specs.Told.{told_as}
 use Rattle.rules.proofs.ListLaws.{every_at}
-use Rattle.numbers.specs.Reads.{if_inside}
-use Rattle.numbers.specs.declared.IfInside.{IfInside}
-use Rattle.numbers.proofs.Inside.{number-inside, number_outside}
 use Rattle.count2000.specs.Told as told
 use Rattle.count2000.specs.declared.StreamTally.{StreamTally}
 use Rattle.text.specs.Writer.{Wrote}
 use Rattle.text.proofs.Remains.{Remains, all_remains, on, done}
 use Rattle.rewrite.specs.declared.Piece.{Piece}
-use Rattle.rewrite.specs.Pieces.{Left, Rest, ended, going, AfterType, between, piece_bytes, InOrder, size_of, Goes, Spells, Accepted, body, Sized}
+use Rattle.rewrite.specs.Pieces.{Left, Rest, ended, going, between, piece_bytes, InOrder, size_of, Goes, Spells, Accepted, body, Sized}
 use Rattle.rewrite.proofs.OpeningLaws.{left-inside}
 use Rattle.rewrite.proofs.Flat.{TreeLeft, stream-left}
-
--- ---- the tests of the walk
-module _ (s : List ℕ) (p : ℕ) where
-  pub type-there : {r : IfInside} {n : ℕ} → r ≡ if_inside (half_at_lem s p) → r ≡ IfInside.Of n → AfterType s p (p + 2)
-  type-there {r} {n} e k =
-      let h = number-inside (half_at_lem s p) r n e k in
-      record { there = λ _ _. refl; none-there = λ f. absurd (let z : ◌≡◌ {A = ℕ} 0 1 = cc in omega arith) }
-
-  pub type-none : {r : IfInside} → r ≡ if_inside (half_at_lem s p) → r ≡ IfInside.Outside → AfterType s p p
-  type-none {r} e k =
-      let h = number_outside (half_at_lem s p) r e k in
-      record { there = λ t f. absurd (let z : ◌≡◌ {A = ℕ} 0 1 = cc in omega arith); none-there = λ _. refl }
-
-  pub goes : p < length s → byte s p < 0xFD → goes_on_lem s p ≡ true
-  unfolding goes_on_lem
-  goes h k = rw (lt-ltb p (length s) h, lt-ltb (byte s p) 0xFD k)
-
-  pub stops : p < length s → 0xFD ≤ byte s p → goes_on_lem s p ≡ false
-  unfolding goes_on_lem
-  stops h k = rw (lt-ltb p (length s) h, le-ltb (byte s p) 0xFD k)
 
 -- ---- the whole
 module _ {s : List ℕ} (small : Bytes s) (ok : Accepted s) where
@@ -154,17 +135,17 @@ module _ (s out : List ℕ) where
 pub size_is : (s : List ℕ) {n : ℕ} → Sized s n → n ≡ length (between s 0 10 ++ body s)
 size_is s z = z.size ∙ ap (λ k. k + length (body s)) (sym (length-take-le 10 s (omega (arith, z.size, z.few)))) ∙ sym (length-append (take 10 s) (body s))
 
-module _ (s : List ℕ) {r : StreamTally} (counted : r ≡ told.stream_tally (stream_of s)) where
-  pub none-counted : r ≡ StreamTally.Bad → stream_of s ≡ none
+module _ (s : List ℕ) {r : Option StreamTally} (counted : r ≡ told_as told.stream_tally (stream_of s)) where
+  pub none-counted : is_some r ≡ false → stream_of s ≡ none
   none-counted k = go (stream_of s) counted
     where
-      go : (o : Option (List Prop × Entries Prop)) → r ≡ told.stream_tally o → o ≡ none
+      go : (o : maybe.Option (List Prop × Entries Prop)) → r ≡ told_as told.stream_tally o → o ≡ none
       go none e = refl
-      go (some x) e = cc
+      go (some x) e = let z : is_some r ≡ true = rw e in cc
 
-  pub some_counted : {a b c : ℕ} → length s ≤ longest → r ≡ StreamTally.Of a b c → Accepted s
-  some_counted {a} {b} {c} h k = go (stream_of s) refl counted
+  pub some_counted : length s ≤ longest → is_some r ≡ true → Accepted s
+  some_counted h k = go (stream_of s) refl counted
     where
-      go : (o : Option (List Prop × Entries Prop)) → stream_of s ≡ o → r ≡ told.stream_tally o → Accepted s
-      go none q e = absurd (let z : ◌≡◌ {A = ℕ} 0 1 = cc in omega arith)
+      go : (o : maybe.Option (List Prop × Entries Prop)) → stream_of s ≡ o → r ≡ told_as told.stream_tally o → Accepted s
+      go none q e = let z : is_some r ≡ false = rw e in cc
       go (some x) q e = record { tree = x; is = q; not_long = h }

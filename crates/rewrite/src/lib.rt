@@ -8,11 +8,11 @@ ghost use Rattle.rules.specs.Rewrite.{rewrite_exit};
 ghost use Rattle.text.specs.Writer.{Wrote};
 ghost use Rattle.rewrite.specs.Pieces.{between, AfterType, Spells, InOrder, size_of, piece_bytes, Accepted, body, Sized};
 
-use count2000::{OBJECT_RUN, StreamTally, count};
-use numbers::{IfInside, u16_if_inside};
+use count2000::{OBJECT_RUN, count};
+use numbers::u16_if_inside;
 use rules::{Answer, LAST_SIZED_ID, LONGEST, NO_READING, NO_ROOM_FOR_TEXT, TOO_LONG};
 use text::{put_byte, put_text, refused, wrote};
-use walk2000::{ENTRY_END, Extent, Opens, head, value};
+use walk2000::{ENTRY_END, Opens, head, value};
 
 // A list of one entry.
 const ONE: u8 = 0xFE;
@@ -49,8 +49,8 @@ fn after_type(s: &[u8], at: usize) -> usize
     ensures { AfterType s.now at result }
 {
     match u16_if_inside(s, at) {
-        IfInside::Of(_) => at + 2,
-        IfInside::Outside => at,
+        Some(_) => at + 2,
+        None => at,
     }
 }
 
@@ -60,24 +60,24 @@ fn property(s: &[u8], at: usize) -> Piece
     ensures { Spells s.now at result }
 {
     let id = s[at];
-    let Extent::At { start, size } = value(s, at) else {
+    let Some(v) = value(s, at) else {
         return nothing(at);
     };
-    let next = start + size;
+    let next = v.start + v.size;
     if id <= LAST_SIZED_ID {
         return Piece {
             keep: at,
             lead: id,
-            start,
+            start: v.start,
             next,
         };
     }
     let keep = at + 1;
-    if size <= SHORT {
+    if v.size <= SHORT {
         return Piece {
             keep,
-            lead: size as u8,
-            start,
+            lead: v.size as u8,
+            start: v.start,
             next,
         };
     }
@@ -96,14 +96,14 @@ fn opening(s: &[u8], at: usize) -> Piece
     ensures { Spells s.now at result }
 {
     match head(s, at) {
-        Opens::Bad => nothing(at),
-        Opens::Plain { next } => Piece {
+        None => nothing(at),
+        Some(Opens::Plain { next }) => Piece {
             keep: at,
             lead: ENTRY_END,
             start: next,
             next: after_type(s, next),
         },
-        Opens::Listed { count, next } => {
+        Some(Opens::Listed { count, next }) => {
             let end = after_type(s, next);
             if count == 1 {
                 return Piece {
@@ -123,6 +123,7 @@ fn opening(s: &[u8], at: usize) -> Piece
     }
 }
 
+#[tactic(auto, unfolding(rules::specs::Access2000::goes_on_lem))]
 fn piece_at(s: &[u8], at: usize) -> Piece
     requires { at < length s.now }
     ensures { Spells s.now at result }
@@ -198,14 +199,9 @@ pub fn rewrite(stream: &[u8], out: &mut [u8]) -> Answer
     if LONGEST < stream.len() {
         return refused(TOO_LONG);
     }
-    let StreamTally::Of {
-        controls: _,
-        props: _,
-        own: _,
-    } = count(stream)
-    else {
+    if count(stream).is_none() {
         return refused(NO_READING);
-    };
+    }
     let size = size_of(stream);
     if out.len() < size {
         return refused(NO_ROOM_FOR_TEXT);
