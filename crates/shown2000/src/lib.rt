@@ -3,18 +3,50 @@
 #![tactic(auto)]
 
 ghost use Rattle.std.specs.Prelude.{◌≡◌, ◌+◌, ◌≤◌, length};
-ghost use Rattle.coderows.specs.Look.{Sorted, as_row, body_rows};
+ghost use Rattle.coderows.specs.Look.{Listed, Finds, Sorted, as_row, body_rows};
 ghost use Rattle.rules.specs.CodeTable.{is_tied};
 ghost use Rattle.rules.specs.Lists.{find};
 ghost use Rattle.rules.specs.Told.{told_as};
 ghost use Rattle.run2000.specs.Runs as runs;
 ghost use Rattle.shown2000.specs.Next as next;
 
-use coderows::{Body, Tie, seek_row};
+use codehints::{HINTS, find_scope};
+use coderows::{Body, SCOPE_LIST_WORDS, Tie, list_scopes, seek_row};
 use propvalue::{stored_value, value_as};
 use rules::{LAST_ID, Property, UNMAPPED};
 use run2000::{Stored, bit_or, part};
 use walk2000::value;
+
+// A code table, and what makes the look-ups of its scopes short: a list of them, and hints.
+#[derive(Drop)]
+pub struct Scopes<'a> {
+    pub table: &'a [u8],
+    pub hints: [u8; HINTS],
+    pub listed: [u32; SCOPE_LIST_WORDS],
+    pub ghost is_list: { Listed table.now listed },
+}
+
+impl<'a> Scopes<'a> {
+    pub fn of(table: &'a [u8]) -> Scopes<'a>
+        ensures { result.table.now ≡ table.now }
+    {
+        let mut listed = [0; SCOPE_LIST_WORDS];
+        list_scopes(table, &mut listed);
+        Scopes {
+            table,
+            hints: [0; HINTS],
+            listed,
+        }
+    }
+
+    // Where the rows of a scope are, in a well-formed table.
+    pub fn find(&mut self, kind: u8, code: u16) -> Body
+        ensures rows { Finds self.old.table.now kind code result }
+        ensures same { self.new.table.now ≡ self.old.table.now }
+    {
+        find_scope(self.table, &mut self.hints, &self.listed, kind, code)
+    }
+}
 
 // The property of a run that stands at a place: none where the run ends.
 pub fn stored_at(s: &[u8], at: usize) -> Option<Stored>
