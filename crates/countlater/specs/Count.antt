@@ -28,6 +28,14 @@ group g = record { count = length g.props; stop = g.stop; trailer = told g.trail
 abbrev pub children : Option (ℕ × ℕ) → code.Option Children
 children = told_as (λ x. record { count = x.0; next = x.1 })
 
+-- where the nodes behind a group stand, if a trailer ended it
+abbrev pub behind_by : List ℕ → ℕ → code.Option ℕ → Option (ℕ × ℕ)
+behind_by s stop code.None = none
+behind_by s stop (code.Some t) = children_at s t stop
+
+abbrev pub behind : List ℕ → Group → Option (ℕ × ℕ)
+behind s g = behind_by s g.stop g.trailer
+
 -- a node's group
 abbrev pub group_in : List ℕ → ℕ → later.Group
 group_in s p = group_at s (length s) (p + 6)
@@ -54,9 +62,9 @@ top_node none = code.None
 top_node (some x) = cond (is_reported x.0) code.None (code.Some x.1)
 
 -- the nodes behind the object's group, where they use up the stream
-unfoldable pub whole_tree : List ℕ → ℕ → ℕ → Option (Entries Prop × ℕ)
-whole_tree s trailer p = do
-  (n, q) ← children_at s trailer p
+unfoldable pub whole_tree : List ℕ → Group → Option (Entries Prop × ℕ)
+whole_tree s g = do
+  (n, q) ← behind s g
   (es, e) ← nodes_at levels s n q
   cond (eqb e (length s)) (some (es, e)) none
 

@@ -4,7 +4,7 @@
 ghost use Rattle.std.specs.Prelude.{◌≡◌, ◌+◌, ◌≤◌, length};
 ghost use Rattle.rules.specs.Later.{ends_group, group_at, children_at, nodes_at};
 ghost use Rattle.rows.specs.Counting.{tally1, tally, tally_top};
-ghost use Rattle.countlater.specs.Count.{extent, group, children, head, one_node, top_node, whole_tree, ScanCounted, CountedBy, Counted};
+ghost use Rattle.countlater.specs.Count.{extent, group, children, behind, head, one_node, top_node, whole_tree, ScanCounted, CountedBy, Counted};
 
 use matchlater::{MATCH_SIZE, find_match};
 use numbers::{u16_at, u32_at};
@@ -158,6 +158,16 @@ pub fn children_at(s: &[u8], trailer: u32, at: usize) -> Option<Children>
     })
 }
 
+impl Group {
+    // How many nodes follow the group, and where they start, if a trailer ended it.
+    pub fn children(self, s: &[u8]) -> Option<Children>
+        ensures { result ≡ children (behind s.now self) }
+    {
+        let trailer = self.trailer?;
+        children_at(s, trailer, self.stop)
+    }
+}
+
 // ---- the tree
 // The head of the node at `at`: its group, and its children's count.
 fn head_at(s: &[u8], at: usize) -> Option<Head>
@@ -167,8 +177,7 @@ fn head_at(s: &[u8], at: usize) -> Option<Head>
         return None;
     }
     let group = parse_group(s, s.len(), at + GROUP_AT);
-    let trailer = group.trailer?;
-    let below = children_at(s, trailer, group.stop)?;
+    let below = group.children(s)?;
     Some(Head {
         count: group.count,
         below: below.count,
@@ -249,11 +258,11 @@ fn top_nodes(s: &[u8], n: usize, at: usize) -> Option<Tally>
     Some(all)
 }
 
-// Counts the tree after the object's group, which ended by `trailer` at `at`. It must use up the stream.
-fn controls_of_tree(s: &[u8], trailer: u32, at: usize) -> Option<Tally>
-    ensures { result ≡ tally_top (whole_tree s.now trailer at) }
+// Counts the tree after the object's group. It must use up the stream.
+fn controls_of_tree(s: &[u8], own: Group) -> Option<Tally>
+    ensures { result ≡ tally_top (whole_tree s.now own) }
 {
-    let top = children_at(s, trailer, at)?;
+    let top = own.children(s)?;
     let all = top_nodes(s, top.count, top.next)?;
     if all.next == s.len() { Some(all) } else { None }
 }
@@ -303,15 +312,13 @@ pub fn count(s: &[u8]) -> Counts
     ensures { Counted s.now result }
 {
     let own = parse_group(s, s.len(), OBJECT_AT);
-    if let Some(trailer) = own.trailer {
-        if let Some(all) = controls_of_tree(s, trailer, own.stop) {
-            return Counts {
-                tree: true,
-                own: own.count,
-                controls: all.controls,
-                props: all.props,
-            };
-        }
+    match controls_of_tree(s, own) {
+        Some(all) => Counts {
+            tree: true,
+            own: own.count,
+            controls: all.controls,
+            props: all.props,
+        },
+        None => count_scanned(s, own.count, own.stop),
     }
-    count_scanned(s, own.count, own.stop)
 }

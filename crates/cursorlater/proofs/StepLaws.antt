@@ -14,8 +14,9 @@ use Rattle.rules.specs.Tree.{Entry, parent, Entries, end, more, levels_at, many_
 use Rattle.rules.specs.Later.{Prop, group_at, children_at, with_children, node_at, nodes_at}
 use Rattle.rules.proofs.ListLaws.{Every, every_if, every_at}
 use Rattle.rows.proofs.LevelLaws.{levels-none, levels-more, is_more}
-use Rattle.countlater.specs.Count.{children, one_node, top_node}
+use Rattle.countlater.specs.Count.{children, behind_by, behind, one_node, top_node}
 use Rattle.countlater.specs.declared.Children.{Children}
+use Rattle.countlater.specs.declared.Group.{Group}
 use Rattle.countlater.proofs.NodeLaws.{children_of_lem, children_bad, top-reported, top_skipped}
 use Rattle.cursor.specs.Walk.{Step, close_by, entry_by}
 use Rattle.cursor.specs.Stack.{Moved}
@@ -104,15 +105,18 @@ children-small s h trailer p =
     every_if CountSmall (eqb trailer 254) _ _ (λ _. omega arith) λ _.
     every_if CountSmall (leb (p + 2) (length s)) _ _ (λ _. omega (arith, h p, h (p + 1))) λ _. tt
 
+behind-small : (s : List ℕ) → Bytes s → (stop : ℕ) (o : code.Option ℕ) → Every CountSmall (behind_by s stop o)
+behind-small s h stop code.None = tt
+behind-small s h stop (code.Some t) = children-small s h t stop
+
+pub count_small : (s : List ℕ) (stop : ℕ) (o : code.Option ℕ) {b : Children} → code.Some b ≡ children (behind_by s stop o) → Bytes s → b.count < 65536
+count_small s stop o {b} e h = every_at CountSmall (behind_by s stop o) (b.count, b.next) (behind-small s h stop o) (children_of_lem (behind_by s stop o) e)
+
 -- ---- after a group
-module _ (s : List ℕ) (trailer stop : ℕ) where
-  pub past_bad : code.None ≡ children (children_at s trailer stop) → {a : List ℕ} {c : Cursor} → PastReady a c (children_at s trailer stop) → ⊥
-  past_bad e h = rw (children_bad (children_at s trailer stop) e) at h.there
+module _ (s : List ℕ) (g : Group) where
+  pub past_bad : code.None ≡ children (behind s g) → {a : List ℕ} {c : Cursor} → PastReady a c (behind s g) → ⊥
+  past_bad e h = rw (children_bad (behind s g) e) at h.there
 
-  module _ {b : Children} (e : code.Some b ≡ children (children_at s trailer stop)) where
-    pub count_small : Bytes s → b.count < 65536
-    count_small h = every_at CountSmall (children_at s trailer stop) (b.count, b.next) (children-small s h trailer stop) (children_of_lem (children_at s trailer stop) e)
-
-    pub past_of : {a : List ℕ} {c : Cursor} {row : ℕ} {a' : List ℕ} {r : Cursor}
-        → Moved a c row b.count b.next a' r → Past a c row (children_at s trailer stop) a' r
-    past_of m = rw (children_of_lem (children_at s trailer stop) e) m
+  pub past_of : {b : Children} → code.Some b ≡ children (behind s g) → {a : List ℕ} {c : Cursor} {row : ℕ} {a' : List ℕ} {r : Cursor}
+      → Moved a c row b.count b.next a' r → Past a c row (behind s g) a' r
+  past_of e m = rw (children_of_lem (behind s g) e) m

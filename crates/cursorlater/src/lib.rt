@@ -2,11 +2,11 @@
 #![tactic(auto)]
 
 ghost use Rattle.rules.specs.Tree.{is_reported};
-ghost use Rattle.rules.specs.Later.{children_at};
+ghost use Rattle.countlater.specs.Count.{behind};
 ghost use Rattle.cursor.specs.Cursors.{Passed, PastReady, Past};
 ghost use Rattle.cursorlater.specs.Steps.{step_at};
 
-use countlater::{children_at, top_node_at};
+use countlater::{Group, top_node_at};
 use cursor::{Cursor, STACK_WORDS, after_entry};
 
 // Passes over the top nodes that aren't reported.
@@ -32,19 +32,12 @@ pub fn reported(s: &[u8], c: Cursor) -> Cursor
     Cursor { at, left: 0, ..c }
 }
 
-// Goes on after the node at `c`, which has row `row`, and whose group ended by `trailer` at `stop`.
-pub fn past(
-    s: &[u8],
-    stack: &mut [u32; STACK_WORDS],
-    c: Cursor,
-    row: u32,
-    trailer: u32,
-    stop: usize,
-) -> Cursor
-    requires { PastReady stack.old c (children_at s.now trailer stop) }
-    ensures { Past stack.old c row (children_at s.now trailer stop) stack.new result }
+// Goes on after the node at `c`, which has row `row`, and this group.
+pub fn past(s: &[u8], stack: &mut [u32; STACK_WORDS], c: Cursor, row: u32, group: Group) -> Cursor
+    requires { PastReady stack.old c (behind s.now group) }
+    ensures { Past stack.old c row (behind s.now group) stack.new result }
 {
-    match children_at(s, trailer, stop) {
+    match group.children(s) {
         Some(below) => after_entry(stack, c, row, below.count as u32, below.next),
         None => c,
     }
