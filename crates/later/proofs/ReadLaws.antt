@@ -8,11 +8,12 @@ use mathlib.Core.Option.{Option, none, some}
 use lib.Dec.{ltb, eqb}
 use lib.ListN.{length}
 use borrow.Author.Tests.{lt-ltb, le-ltb}
+use Rattle.std.specs.Prelude as code
 use Rattle.rules.specs.Lists.{◌>>=◌, concat}
 use Rattle.rules.specs.Answer.{answer, longest}
 use Rattle.rules.specs.Rows.{control_width, property_width, room}
 use Rattle.rules.specs.Tree.{Entries, Node, levels}
-use Rattle.rules.specs.Later.{Prop, children_at, nodes_at, object_group, tree_of, nodes_by, scan_from, later_of_lem}
+use Rattle.rules.specs.Later.{Prop, nodes_at, object_group, tree_of, nodes_by, scan_from, later_of_lem}
 use Rattle.rules.specs.Reading.{Control, properties, control_rows_from, control_rows, property_rows}
 use Rattle.rules.specs.ReadLater.{property_of, name_in_lem, control_of, read_later_lem}
 use Rattle.rules.specs.declared.Answer.{Answer}
@@ -23,13 +24,14 @@ use Rattle.rows.proofs.WritingLaws.{properties-length}
 use Rattle.rows.specs.Judge as judge
 use Rattle.rows.specs.Judge.{Written, Exits}
 use Rattle.rows.proofs.JudgeLaws.{exits_refused, roomy, exits_read, made-counts, made-fit, made-written}
-use Rattle.countlater.specs.Count.{children, whole_tree, is_tree, Counted}
+use Rattle.countlater.specs.Count.{group, children, behind, whole_tree, is_tree, Counted}
 use Rattle.countlater.specs.declared.Children.{Children}
 use Rattle.countlater.specs.declared.Counts.{Counts}
-use Rattle.countlater.proofs.CountLaws.{whole, whole_by, entries_in, tree_open, tree-by, object_within}
-use Rattle.countlater.proofs.NodeLaws.{children_of_lem, children_bad}
-use Rattle.later.specs.Write.{trailer_or0, GroupReady, GroupDone, WrittenBy, tree_control, NodesReady, NodesDone, scanned_control, ScanReady, ScanDone, control, started, BlobReady}
-use Rattle.later.specs.declared.WrittenGroup.{WrittenGroup}
+use Rattle.countlater.proofs.CountLaws.{whole, whole_by, entries_in, tree-by, object_within}
+use Rattle.countlater.proofs.NodeLaws.{children_bad}
+use Rattle.later.specs.Write.{GroupReady, GroupDone, WrittenBy, tree_control, NodesReady, NodesDone, scanned_control, ScanReady, ScanDone, control, started, BlobReady}
+use Rattle.countlater.specs.declared.Group.{Group}
+use Rattle.later.proofs.WriteGroupLaws.{many_written}
 use Rattle.later.proofs.WriteNodeLaws.{own-many}
 
 -- ---- the tree
@@ -42,24 +44,24 @@ whole_same s Q (some x) h = go (eqb x.1 (length s)) h
     go false h = absurd h
 
 -- a tree of which Q holds, by its top list
-module _ (s : List ℕ) (t p : ℕ) (Q : List (Node Prop) × ℕ → Type 0) (h : Held Q (top_nodes (whole_tree s t p))) {u : Children} (ue : u ≡ children (children_at s t p)) where
-  pub tree-never : u ≡ Children.Bad → ⊥
+module _ (s : List ℕ) (g : Group) (Q : List (Node Prop) × ℕ → Type 0) (h : Held Q (top_nodes (whole_tree s g))) where
+  pub tree-never : code.None ≡ children (behind s g) → ⊥
   unfolding whole_tree
-  tree-never uk = rw (children_bad (children_at s t p) u ue uk) at h
+  tree-never e = rw (children_bad (behind s g) e) at h
 
-  pub tree-same : {n q : ℕ} → u ≡ Children.Of n q → top_nodes (whole_tree s t p) ≡ top_nodes (nodes_at levels s n q)
-  tree-same {n = n} {q = q} uk =
-      let e = whole_by s t p n q (children_of_lem (children_at s t p) u n q ue uk) in
-      ap top_nodes (e ∙ whole_same s Q (nodes_at levels s n q) (subst (λ o. Held Q (top_nodes o)) e h))
+  pub tree-same : {b : Children} → code.Some b ≡ children (behind s g) → top_nodes (whole_tree s g) ≡ top_nodes (nodes_at levels s b.count b.next)
+  tree-same {b} e =
+      let k = whole_by s g e in
+      ap top_nodes (k ∙ whole_same s Q (nodes_at levels s b.count b.next) (subst (λ o. Held Q (top_nodes o)) k h))
 
-module _ (s : List ℕ) (t p : ℕ) (st : State) (h : NodesReady s (top_nodes (whole_tree s t p)) st) {u : Children} (ue : u ≡ children (children_at s t p)) {n q : ℕ} (uk : u ≡ Children.Of n q) where
-  same : top_nodes (whole_tree s t p) ≡ top_nodes (nodes_at levels s n q)
-  same = tree-same s t p (λ x. Fit (map (tree_control s) x.0) st) h.fits ue uk
+module _ (s : List ℕ) (g : Group) (st : State) (h : NodesReady s (top_nodes (whole_tree s g)) st) {b : Children} (e : code.Some b ≡ children (behind s g)) where
+  same : top_nodes (whole_tree s g) ≡ top_nodes (nodes_at levels s b.count b.next)
+  same = tree-same s g (λ x. Fit (map (tree_control s) x.0) st) h.fits e
 
-  pub tree-ready : NodesReady s (top_nodes (nodes_at levels s n q)) st
+  pub tree-ready : NodesReady s (top_nodes (nodes_at levels s b.count b.next)) st
   tree-ready = rw same at h
 
-  pub tree-done : {cs ps : List ℕ} {r : Next} → NodesDone s (top_nodes (nodes_at levels s n q)) st cs ps r → NodesDone s (top_nodes (whole_tree s t p)) st cs ps r
+  pub tree-done : {cs ps : List ℕ} {r : Next} → NodesDone s (top_nodes (nodes_at levels s b.count b.next)) st cs ps r → NodesDone s (top_nodes (whole_tree s g)) st cs ps r
   tree-done d = d ∙ ap (λ o. act_by (tree_control s) o st) (sym same)
 
 -- ---- the stream
@@ -92,39 +94,33 @@ module _ (s : List ℕ) {tree : Bool} (is : tree ≡ is_tree (tree_of s)) where
       go none e = refl
       go (some es) e = absurd (let k = a_tree e b in let z : ◌≡◌ {A = ℕ} 0 1 = cc in omega arith)
 
-  -- the object's group ended at `stop` by `trailer`
-  module _ {stop trailer : ℕ} (se : stop ≡ (object_group s).stop) (te : trailer ≡ trailer_or0 (object_group s).trailer) where
-    pub tree_is : tree ≡ true → (e : ℕ) × (top_nodes (whole_tree s trailer stop) ≡ some (nodes_by s (tree_of s), e))
-    tree_is b = go (object_group s).trailer refl
+  -- the object's group is gone through
+  module _ {g : Group} (ge : g ≡ group (object_group s)) where
+    pub tree_is : tree ≡ true → (e : ℕ) × (top_nodes (whole_tree s g) ≡ some (nodes_by s (tree_of s), e))
+    tree_is b = go (whole_tree s g) refl
       where
-        last : (t : ℕ) (o : Option (Entries Prop × ℕ)) → whole_tree s t (object_group s).stop ≡ o → tree_of s ≡ entries_in o → (e : ℕ) × (top_nodes (whole_tree s t (object_group s).stop) ≡ some (nodes_by s (tree_of s), e))
-        last t none f g = absurd (let k = no-tree g b in let z : ◌≡◌ {A = ℕ} 0 1 = cc in omega arith)
-        last t (some x) f g = (x.1, ap top_nodes f ∙ sym (ap (λ o. some (nodes_by s o, x.1)) g))
+        go : (o : Option (Entries Prop × ℕ)) → whole_tree s g ≡ o → (e : ℕ) × (top_nodes (whole_tree s g) ≡ some (nodes_by s (tree_of s), e))
+        go none f = absurd (let k = no-tree (tree-by s ge ∙ ap entries_in f) b in let z : ◌≡◌ {A = ℕ} 0 1 = cc in omega arith)
+        go (some x) f = (x.1, ap top_nodes f ∙ sym (ap (λ o. some (nodes_by s o, x.1)) (tree-by s ge ∙ ap entries_in f)))
 
-        go : (o : Option ℕ) → (object_group s).trailer ≡ o → (e : ℕ) × (top_nodes (whole_tree s trailer stop) ≡ some (nodes_by s (tree_of s), e))
-        go none e = absurd (let k = no-tree (tree_open s e) b in let z : ◌≡◌ {A = ℕ} 0 1 = cc in omega arith)
-        go (some t) e =
-            let x = last t (whole_tree s t (object_group s).stop) refl (tree-by s t e) in
-            (x.0, ap₂ (λ a b. top_nodes (whole_tree s a b)) (te ∙ ap trailer_or0 e) se ∙ x.1)
-
-    pub scan-is : tree ≡ false → nodes_by s (tree_of s) ≡ scan_from s stop
+    pub scan-is : tree ≡ false → nodes_by s (tree_of s) ≡ scan_from s g.stop
     scan-is b = go (tree_of s) refl
       where
-        go : (o : Option (Entries Prop)) → tree_of s ≡ o → nodes_by s (tree_of s) ≡ scan_from s stop
-        go none e = ap (nodes_by s) e ∙ ap (scan_from s) (sym se)
+        go : (o : Option (Entries Prop)) → tree_of s ≡ o → nodes_by s (tree_of s) ≡ scan_from s g.stop
+        go none e = ap (nodes_by s) e ∙ ap (scan_from s) (sym (ap (λ g. g.stop) ge))
         go (some es) e = absurd (let k = a_tree e b in let z : ◌≡◌ {A = ℕ} 0 1 = cc in omega arith)
 
 module _ {s : List ℕ} {tree : Bool} {cs ps : List ℕ} (h : BlobReady s tree cs ps) where
   pub own-ready : GroupReady s (length s) 14 (length ps) 0
   own-ready = record { inside = omega arith; small = h.small; fits = omega (arith, h.own) }
 
-  module _ {w : WrittenGroup} {ps' : List ℕ} (d : GroupDone s (length s) 14 ps 0 ps' w) where
+  module _ {w : Group} {ps' : List ℕ} (d : GroupDone s (length s) 14 ps 0 ps' w) where
     -- the object's rows are written, and the nodes' are next
     abbrev st : State
     st = state cs 0 ps' w.count
 
     started-is : started s cs ps ≡ st
-    started-is = let a = sym d.rows in let b = sym d.count in λ i. state cs 0 (a i) (b i)
+    started-is = let a = sym d.rows in let b = sym (many_written d) in λ i. state cs 0 (a i) (b i)
 
     all_fit : Fit (map (control s) (nodes_by s (tree_of s))) st
     all_fit = subst (Fit (map (control s) (nodes_by s (tree_of s)))) started-is h.fits
@@ -135,20 +131,20 @@ module _ {s : List ℕ} {tree : Bool} {cs ps : List ℕ} (h : BlobReady s tree c
         let x = n ∙ ap₂ (λ f st. act_by f o st) (sym k) (sym started-is) in
         rw (later-is s h.long) (made-written (property_of s) (control s) (same-many s) (object_group s).props (nodes_by s (tree_of s)) cs ps cs' ps'' r.control r.property r.at e x)
 
-    pub blob-tree-ready : tree ≡ true → NodesReady s (top_nodes (whole_tree s w.trailer w.stop)) st
-    blob-tree-ready b = rw (tree_is s h.is d.stop d.trailer b).1 (record { known = h.small; fits = subst (λ f. Fit (map f (nodes_by s (tree_of s))) st) (in_tree s h.is b) all_fit })
+    pub blob-tree-ready : tree ≡ true → NodesReady s (top_nodes (whole_tree s w)) st
+    blob-tree-ready b = rw (tree_is s h.is d.is b).1 (record { known = h.small; fits = subst (λ f. Fit (map f (nodes_by s (tree_of s))) st) (in_tree s h.is b) all_fit })
 
-    pub blob-tree-done : tree ≡ true → {cs' ps'' : List ℕ} {r : Next} → NodesDone s (top_nodes (whole_tree s w.trailer w.stop)) st cs' ps'' r → Written (read_later_lem s) cs ps cs' ps''
-    blob-tree-done b n = let x = tree_is s h.is d.stop d.trailer b in done-by (tree_control s) (in_tree s h.is b) x.0 (n ∙ ap (λ o. act_by (tree_control s) o st) x.1)
+    pub blob-tree-done : tree ≡ true → {cs' ps'' : List ℕ} {r : Next} → NodesDone s (top_nodes (whole_tree s w)) st cs' ps'' r → Written (read_later_lem s) cs ps cs' ps''
+    blob-tree-done b n = let x = tree_is s h.is d.is b in done-by (tree_control s) (in_tree s h.is b) x.0 (n ∙ ap (λ o. act_by (tree_control s) o st) x.1)
 
     pub blob-scan-ready : tree ≡ false → ScanReady s w.stop st
     blob-scan-ready b = record {
-      within = omega (arith, d.stop, object_within s h.long);
-      ready = record { known = h.small; fits = subst (λ f. Fit (map f (scan_from s w.stop)) st) (in_scan s h.is b) (rw (sym (scan-is s h.is d.stop d.trailer b)) all_fit) };
+      within = omega (arith, ap (λ g. g.stop) d.is, object_within s h.long);
+      ready = record { known = h.small; fits = subst (λ f. Fit (map f (scan_from s w.stop)) st) (in_scan s h.is b) (rw (sym (scan-is s h.is d.is b)) all_fit) };
     }
 
     pub blob-scan-done : tree ≡ false → {cs' ps'' : List ℕ} {r : Next} → ScanDone s w.stop st cs' ps'' r → Written (read_later_lem s) cs ps cs' ps''
-    blob-scan-done b n = done-by (scanned_control s) (in_scan s h.is b) (length s) (n ∙ ap (λ ns. act_by (scanned_control s) (some (ns, length s)) st) (sym (scan-is s h.is d.stop d.trailer b)))
+    blob-scan-done b n = done-by (scanned_control s) (in_scan s h.is b) (length s) (n ∙ ap (λ ns. act_by (scanned_control s) (some (ns, length s)) st) (sym (scan-is s h.is d.is b)))
 
 -- ---- what a caller sees
 pub read_short : (s cs ps : List ℕ) → length s < 14 → (a : Answer) → a ≡ answer 0 0 0 0 → Exits (some (read_later_lem s)) cs ps a cs ps

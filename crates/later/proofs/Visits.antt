@@ -1,21 +1,22 @@
 -- For any walk over a later stream that keeps a running value: a group gone through a property at a time, the nodes that a cursor visits, and what the scan finds.
 -- Last, a group that is written.
-use Prim.Native.Nat.{ℕ, ◌+◌, ◌-◌, ◌*◌, ◌≤◌, ◌<◌}
+use Prim.Native.Nat.{ℕ, ◌+◌, ◌*◌, ◌≤◌, ◌<◌}
 use native.Mathlib.Omega.{arith}
-use mathlib.Core.Path.{◌≡◌, refl, sym, ap, ap₂, ◌∙◌}
+use mathlib.Core.Path.{◌≡◌, refl, sym, ap, ap₂, subst, ◌∙◌}
 use mathlib.Core.Bool.{Bool, true, false}
 use mathlib.Core.List.{List, [], ◌∷◌, ◌++◌, map}
 use mathlib.Core.Option.{Option, some}
 use lib.Dec.{ltb}
 use lib.ListN.{length}
-use borrow.Author.Tests.{lt-ltb, le-ltb, ltb-true, ltb-false}
+use borrow.Author.Tests.{ltb-true, ltb-false}
+use Rattle.std.specs.Prelude as code
 use Rattle.rules.specs.Bytes.{u16}
 use Rattle.rules.specs.Rows.{property_width}
 use Rattle.rules.specs.Reading.{property_row}
 use Rattle.rules.specs.ReadLater.{property_of}
 use Rattle.rules.specs.declared.Property.{Property}
 use Rattle.rules.specs.Tree.{Node, no_parent, levels, is_reported}
-use Rattle.rules.specs.Later.{Prop, end_at, property_at, ends_group, group_at, children_at, nodes_at, match_at, scan_from}
+use Rattle.rules.specs.Later.{Prop, end_at, property_at, ends_group, group_at, nodes_at, match_at, scan_from}
 use Rattle.rules.proofs.ListLaws.{none_some}
 use Rattle.rules.proofs.LaterLaws.{group-none, group-last, group-more}
 use Rattle.rows.specs.Acts.{top_nodes, Held}
@@ -25,14 +26,16 @@ use Rattle.rows.proofs.PutLaws.{put-length}
 use Rattle.rows.proofs.WritingLaws.{properties-more, properties-none}
 use Rattle.matchlater.specs.Match.{NextMatch}
 use Rattle.matchlater.proofs.MatchLaws.{scanned_node, shown, scan-same, scan_step, scan-end}
-use Rattle.countlater.specs.Count.{extent, group_in}
+use Rattle.countlater.specs.Count.{extent, group, behind, group_in}
 use Rattle.countlater.specs.declared.Extent.{Extent}
-use Rattle.countlater.proofs.PassedLaws.{Inside, extent-inside, extent_outside, props_some}
-use Rattle.countlater.proofs.NodeLaws.{head_past}
+use Rattle.countlater.specs.declared.Group.{Group}
+use Rattle.countlater.proofs.PassedLaws.{extent_inside, extent_outside, props_some, Passed, passed_start, passed_none, passed_last, passed_more}
+use Rattle.countlater.proofs.NodeLaws.{behind-in, head_past}
 use Rattle.countlater.proofs.ScanLaws.{shown_some, shown-none}
 use Rattle.cursor.specs.Walk.{Step}
 use Rattle.cursor.specs.Stack.{count_of, Moved}
-use Rattle.cursor.specs.Cursors.{cursor, Passed, PastReady, Past}
+use Rattle.cursor.specs.Cursors as cursors
+use Rattle.cursor.specs.Cursors.{cursor, PastReady, Past}
 use Rattle.cursor.specs.Work.{Ran}
 use Rattle.cursor.specs.declared.Cursor.{Cursor}
 use Rattle.cursor.proofs.RowLaws.{left, how_many}
@@ -41,9 +44,8 @@ use Rattle.cursor.proofs.VisitLaws as laws
 use Rattle.cursor.proofs.VisitLaws.{Visit, EntryWork, Going}
 use Rattle.cursorlater.specs.Steps.{step_at}
 use Rattle.cursorlater.proofs.StepLaws.{nodes-same}
-use Rattle.later.specs.Write.{trailer_or0, props_at, GroupReady, GroupDone}
+use Rattle.later.specs.Write.{props_at, GroupReady, GroupDone}
 use Rattle.later.specs.Groups.{Grouped}
-use Rattle.later.proofs.WriteNodeLaws.{children-told}
 use Rattle.later.proofs.Walking.{Parts, parts}
 
 -- ---- a group
@@ -51,91 +53,53 @@ use Rattle.later.proofs.Walking.{Parts, parts}
 abbrev from_at : List ℕ → ℕ → ℕ → Option (List Prop × ℕ)
 from_at s limit p = some (props_at s limit p, (group_at s limit p).stop)
 
--- what is left of it from p on
-pub record Grouping {A : Type 0} (one : Prop → A → A) (all : List Prop → A → A) (Ok : List Prop → A → Type 0) (s : List ℕ) (limit at : ℕ) (old : A) (p : ℕ) (any : Bool) (now : A) : Type 0 where
+-- what is left of it from p on, after n properties
+pub record Grouping {A : Type 0} (one : Prop → A → A) (all : List Prop → A → A) (Ok : List Prop → A → Type 0) (s : List ℕ) (limit at : ℕ) (old : A) (p n : ℕ) (now : A) : Type 0 where
   pub work : Work one all all Ok Ok
   pub rest : Left (Ran all (from_at s limit at) old) all Ok (from_at s limit p) now
-  pub trailer : (group_at s limit p).trailer ≡ (group_at s limit at).trailer
-  pub some_there : any ≡ true → 0 < length (props_at s limit at)
-  pub none_yet : any ≡ false → length (props_at s limit p) ≡ length (props_at s limit at)
-
-no : {X : Type 0} → false ≡ true → X
-no e = let z : ◌≡◌ {A = ℕ} 0 1 = cc in absurd (omega arith)
+  pub passed : Passed s limit at n p
 
 pub grouping_start : {A : Type 0} {one : Prop → A → A} {all : List Prop → A → A} {Ok : List Prop → A → Type 0} {s : List ℕ} {limit at : ℕ} {old : A}
-    → Work one all all Ok Ok → Ok (props_at s limit at) old → Grouping one all Ok s limit at old at false old
-grouping_start W h = record { work = W; rest = left-start h; trailer = refl; some_there = λ e. no e; none_yet = λ _. refl }
+    → Work one all all Ok Ok → Ok (props_at s limit at) old → Grouping one all Ok s limit at old at 0 old
+grouping_start W h = record { work = W; rest = left-start h; passed = passed_start }
 
-module _ {A : Type 0} {one : Prop → A → A} {all : List Prop → A → A} {Ok : List Prop → A → Type 0} {s : List ℕ} {limit at : ℕ} {old : A} {p : ℕ} {any : Bool} {now : A}
-    (w : Grouping one all Ok s limit at old p any now) where
+module _ {A : Type 0} {one : Prop → A → A} {all : List Prop → A → A} {Ok : List Prop → A → Type 0} {s : List ℕ} {limit at : ℕ} {old : A} {p n : ℕ} {now : A}
+    (w : Grouping one all Ok s limit at old p n now) where
   -- what is asked whatever is left
   pub grouping_fact : {Q : Type 0} → ((qs : List Prop) → Ok qs now → Q) → Q
   grouping_fact f = left_fact w.rest f
 
-  module _ (h : limit ≤ length s) {r : Extent} (re : r ≡ extent s limit p) where
-    pub grouping_none : r ≡ Extent.Outside → Grouped all s limit at old now any p 0
-    grouping_none rk =
-        let e = group-none s limit p h (extent_outside s limit p re rk) in
-        let o : from_at s limit p ≡ some ([], p) = ap (λ g. some (g.props, g.stop)) e in
-        let d = left-done w.rest (w.work.none_left now) o in
-        record {
-          is = d.held.is;
-          any-is = told any refl (ap (λ g. length g.props) e);
-          stop_is = d.held.next-is;
-          trailer-is = sym (ap (λ g. trailer_or0 g.trailer) e) ∙ ap trailer_or0 w.trailer;
-        }
-      where
-        told : (b : Bool) → any ≡ b → length (props_at s limit p) ≡ 0 → b ≡ ltb 0 (length (props_at s limit at))
-        told true e q = sym (lt-ltb 0 (length (props_at s limit at)) (w.some_there e))
-        told false e q = sym (le-ltb 0 (length (props_at s limit at)) (omega (arith, w.none_yet e, q)))
+  module _ (h : limit ≤ length s) where
+    pub grouping_none : code.None ≡ extent s limit p → Grouped all s limit at old now (record { count = n; stop = p; trailer = code.None })
+    grouping_none e =
+        let o : from_at s limit p ≡ some ([], p) = ap (λ g. some (g.props, g.stop)) (group-none s limit p h (extent_outside s limit p e)) in
+        record { is = (left-done w.rest (w.work.none_left now) o).held.is; group-is = passed_none h w.passed e }
 
-    module _ {z e t : ℕ} (rk : r ≡ Extent.Inside z e t) where
-      inside : Inside s limit p z e t
-      inside = extent-inside re rk
+    -- the property of this turn is done
+    module _ {x : Extent} (e : code.Some x ≡ extent s limit p) {next : A} (we : next ≡ one (property_at s p) now) where
+      pub grouping_last : true ≡ ends_group x.trailer → Grouped all s limit at old next (record { count = n + 1; stop = x.next; trailer = code.Some x.trailer })
+      grouping_last t =
+          let i = extent_inside e in
+          let g = group-last s limit p h i.test (ap ends_group (sym i.trailer) ∙ sym t) in
+          let o : from_at s limit p ≡ some (property_at s p ∷ [], end_at s p) = ap (λ g. some (g.props, g.stop)) g in
+          let d = left-done (left-next w.rest (property_at s p) (some ([], end_at s p)) o w.work we) (w.work.none_left next) refl in
+          record { is = d.held.is; group-is = passed_last h w.passed e t }
 
-      -- there is one
-      now_some : 0 < length (props_at s limit at)
-      now_some = go any refl
-        where
-          go : (b : Bool) → any ≡ b → 0 < length (props_at s limit at)
-          go true k = w.some_there k
-          go false k = omega (arith, w.none_yet k, props_some s limit p h inside.test)
-
-      -- the property of this turn is done
-      module _ {next : A} (we : next ≡ one (property_at s p) now) {b : Bool} (be : b ≡ ends_group t) where
-        pub grouping_last : b ≡ true → Grouped all s limit at old next true e t
-        grouping_last bt =
-            let i = inside in
-            let g = group-last s limit p h i.test (ap ends_group (sym i.trailer) ∙ sym be ∙ bt) in
-            let o : from_at s limit p ≡ some (property_at s p ∷ [], end_at s p) = ap (λ g. some (g.props, g.stop)) g in
-            let d = left-done (left-next w.rest (property_at s p) (some ([], end_at s p)) o w.work we) (w.work.none_left next) refl in
-            record {
-              is = d.held.is;
-              any-is = sym (lt-ltb 0 (length (props_at s limit at)) now_some);
-              stop_is = i.next ∙ d.held.next-is;
-              trailer-is = i.trailer ∙ sym (ap (λ g. trailer_or0 g.trailer) g) ∙ ap trailer_or0 w.trailer;
-            }
-
-        pub grouping_more : b ≡ false → Grouping one all Ok s limit at old e true next
-        grouping_more bf =
-            let i = inside in
-            let g = group-more s limit p h i.test (ap ends_group (sym i.trailer) ∙ sym be ∙ bf) in
-            let o : from_at s limit p ≡ some (property_at s p ∷ props_at s limit (end_at s p), (group_at s limit (end_at s p)).stop) = ap (λ g. some (g.props, g.stop)) g in
-            rw i.next (record {
-              work = w.work;
-              rest = left-next w.rest (property_at s p) (from_at s limit (end_at s p)) o w.work we;
-              trailer = sym (ap (λ g. g.trailer) g) ∙ w.trailer;
-              some_there = λ _. now_some;
-              none_yet = λ k. no (sym k);
-            })
+      pub grouping_more : false ≡ ends_group x.trailer → Grouping one all Ok s limit at old x.next (n + 1) next
+      grouping_more t =
+          let i = extent_inside e in
+          let g = group-more s limit p h i.test (ap ends_group (sym i.trailer) ∙ sym t) in
+          let o : from_at s limit p ≡ some (property_at s p ∷ props_at s limit x.next, (group_at s limit x.next).stop) =
+          ap (λ g. some (g.props, g.stop)) g ∙ ap (λ a. some (property_at s p ∷ props_at s limit a, (group_at s limit a).stop)) (sym i.next) in
+          record { work = w.work; rest = left-next w.rest (property_at s p) (from_at s limit x.next) o w.work we; passed = passed_more h w.passed e t }
 
 -- of no property nothing comes
-pub grouped_none : {A : Type 0} {all : List Prop → A → A} {s : List ℕ} {limit at : ℕ} {old now : A} {any : Bool} {stop trailer : ℕ} → Grouped all s limit at old now any stop trailer → all [] old ≡ old → any ≡ false → now ≡ old
-grouped_none {all = all} {s = s} {limit = limit} {at = at} {old = old} {now = now} d z e = go (props_at s limit at) refl (ltb-false 0 (length (props_at s limit at)) (sym d.any-is ∙ e))
+pub grouped_none : {A : Type 0} {all : List Prop → A → A} {s : List ℕ} {limit at : ℕ} {old now : A} {r : Group} → Grouped all s limit at old now r → all [] old ≡ old → r.count ≤ 0 → now ≡ old
+grouped_none {all = all} {s = s} {limit = limit} {at = at} {old = old} {now = now} d z l = go (props_at s limit at) refl
   where
-    go : (qs : List Prop) → props_at s limit at ≡ qs → length (props_at s limit at) ≤ 0 → now ≡ old
-    go [] q l = d.is ∙ ap (λ (qs : List Prop). all qs old) q ∙ z
-    go (x ∷ qs) q l = absurd (omega (arith, l, ap length q))
+    go : (qs : List Prop) → props_at s limit at ≡ qs → now ≡ old
+    go [] q = d.is ∙ ap (λ (qs : List Prop). all qs old) q ∙ z
+    go (x ∷ qs) q = absurd (omega (arith, l, ap (λ g. g.count) d.group-is, ap length q))
 
 -- ---- the nodes that are reported of the top list
 -- what is left of them from a cursor on
@@ -146,7 +110,7 @@ pub record Visiting {A : Type 0} (wanted : A → ℕ → Type 0) (one : ℕ → 
 
 module _ {A : Type 0} {one : ℕ → ℕ → List Prop → A → A} {all : ℕ → List (Node Prop) → A → A} {Ok : ℕ → List (Node Prop) → A → Type 0} where
   pub top_start : {s : List ℕ} {n at : ℕ} (st : A) (a : List ℕ) {b r : Cursor} → EntryWork one all Ok → length a ≡ 512 → Held (λ y. Ok 0 y.0 st) (top_nodes (nodes_at levels s n at))
-      → b ≡ cursor at 0 n no_parent → Passed (step_at s) is_reported b r → Visiting (Ran (all 0) (top_nodes (nodes_at levels s n at)) st) one all Ok s a r 0 st
+      → b ≡ cursor at 0 n no_parent → cursors.Passed (step_at s) is_reported b r → Visiting (Ran (all 0) (top_nodes (nodes_at levels s n at)) st) one all Ok s a r 0 st
   top_start {s = s} {n = n} {at = at} st a {r = r} W l h e p =
       record { work = W; goes = laws.going_start W.visit st a n at r (ap top_nodes (sym (nodes-same s levels n at))) l h (rw e at p) }
 
@@ -179,16 +143,16 @@ module _ {A : Type 0} {one : ℕ → ℕ → List Prop → A → A} {all : ℕ �
       pub top_asks : {Q : Type 0} → ((xs : List (Node Prop)) → Ok i (laws.node W g.goes l ∷ xs) now → Q) → Q
       top_asks f = laws.going_asks W g.goes l f
 
-      -- its group ended at `stop` by `trailer`
-      module _ {stop trailer : ℕ} (se : stop ≡ (group_in s c.at).stop) (te : trailer ≡ trailer_or0 (group_in s c.at).trailer) where
-        kids_at : children_at s trailer stop ≡ some (count_of entry.children, entry.next)
-        kids_at = ap₂ (children_at s) te se ∙ children-told s c.at (count_of entry.children, entry.next) its.kids
+      -- its group is gone through
+      module _ {g' : Group} (ge : g' ≡ group (group_in s c.at)) where
+        kids_at : behind s g' ≡ some (count_of entry.children, entry.next)
+        kids_at = behind-in s c.at ge ∙ its.kids
 
-        pub top_past : PastReady a c (children_at s trailer stop)
+        pub top_past : PastReady a c (behind s g')
         top_past = record { before = laws.going_before W g.goes l; there = rw kids_at tt }
 
         -- it is done
-        module _ {next : A} (w : next ≡ one i (u16 s c.at) (group_in s c.at).props now) (a' : List ℕ) {r r' : Cursor} (p : Past a c i (children_at s trailer stop) a' r) (o : Passed (step_at s) is_reported r r') where
+        module _ {next : A} (w : next ≡ one i (u16 s c.at) (group_in s c.at).props now) (a' : List ℕ) {r r' : Cursor} (p : Past a c i (behind s g') a' r) (o : cursors.Passed (step_at s) is_reported r r') where
           did : next ≡ one i entry.type entry.props now
           did = w ∙ ap₂ (λ (k : ℕ) (qs : List Prop). one i k qs now) (sym its.type-is) (sym its.props-are)
 
@@ -225,12 +189,12 @@ module _ {A : Type 0} {all : List (Node Prop) → A → A} {Ok : List (Node Prop
       found ns e = scan_step s a b (k.here l) n ∙ ap (λ (ns : List (Node Prop)). ns ++ scan_from s b) e
 
       -- a group without a property
-      pub sweep_over : ltb 0 (length (props_at s b a)) ≡ false → {mid : A} → mid ≡ now → Sweeping wanted all Ok s b mid
-      sweep_over e m = rw m (record { within = n.within; here = n.here; rest = rw (sym (found [] (shown-none (props_at s b a) (ltb-false 0 (length (props_at s b a)) e)))) k.rest })
+      pub sweep_over : length (props_at s b a) ≤ 0 → {mid : A} → mid ≡ now → Sweeping wanted all Ok s b mid
+      sweep_over e m = rw m (record { within = n.within; here = n.here; rest = rw (sym (found [] (shown-none (props_at s b a) e))) k.rest })
 
-      module _ (t : ltb 0 (length (props_at s b a)) ≡ true) where
+      module _ (t : 0 < length (props_at s b a)) where
         here-first : ◌≡◌ {A = Option (List (Node Prop) × ℕ)} (some (scan_from s a, 0)) (some (scanned_node (props_at s b a) ∷ scan_from s b, 0))
-        here-first = ap (λ (ns : List (Node Prop)). some (ns, 0)) (found (scanned_node (props_at s b a) ∷ []) (shown_some (props_at s b a) (ltb-true 0 (length (props_at s b a)) t)))
+        here-first = ap (λ (ns : List (Node Prop)). some (ns, 0)) (found (scanned_node (props_at s b a) ∷ []) (shown_some (props_at s b a) t))
 
         pub sweep_asks : {Q : Type 0} → ((xs : List (Node Prop)) → Ok (scanned_node (props_at s b a) ∷ xs) now → Q) → Q
         sweep_asks f = left_asks_fact k.rest (scanned_node (props_at s b a)) (some (scan_from s b, 0)) here-first f
@@ -253,51 +217,44 @@ put_one s q f = filled (put property_width f.rows f.next (property_row (property
 abbrev put_all : List ℕ → List Prop → Filled → Filled
 put_all s qs f = filled (write_properties (map (property_of s) qs) f.rows f.next) (f.next + length qs)
 
-record Room (old : Filled) (qs : List Prop) (f : Filled) : Type 0 where
+record Room (qs : List Prop) (f : Filled) : Type 0 where
   fits : (f.next + length qs) * property_width ≤ length f.rows
-  least : old.next ≤ f.next
-  same : length f.rows ≡ length old.rows
 
-putting : (s : List ℕ) (old : Filled) → Work (put_one s) (put_all s) (put_all s) (Room old) (Room old)
-putting s old = record {
+putting : (s : List ℕ) → Work (put_one s) (put_all s) (put_all s) Room Room
+putting s = record {
   none_left = λ f. let n : f.next + 0 ≡ f.next = omega arith in λ i. filled (properties-none f.rows f.next i) (n i);
   one_more = λ q qs f. let n : f.next + length (q ∷ qs) ≡ f.next + 1 + length qs = omega arith in λ i. filled (properties-more (property_of s q) (map (property_of s) qs) f.rows f.next i) (n i);
-  ok-more = λ q qs f r. let l = put-length property_width f.rows f.next (property_row (property_of s q) ∷ []) in record { fits = omega (arith, r.fits, l); least = omega (arith, r.least); same = l ∙ r.same };
+  ok-more = λ q qs f r. let l = put-length property_width f.rows f.next (property_row (property_of s q) ∷ []) in record { fits = omega (arith, r.fits, l) };
 }
 
 -- what the loop keeps
 pub record Writing (s : List ℕ) (limit at : ℕ) (old : List ℕ) (first : ℕ) (new : List ℕ) (p n : ℕ) : Type 0 where
-  any : Bool
-  group : Grouping (put_one s) (put_all s) (Room (filled old first)) s limit at (filled old first) p any (filled new n)
+  group : Grouping (put_one s) (put_all s) Room s limit at (filled old first) p n (filled new (first + n))
 
-pub writing_start : {s : List ℕ} {limit at : ℕ} {old : List ℕ} {first : ℕ} → GroupReady s limit at (length old) first → Writing s limit at old first old at first
-writing_start {s = s} {old = old} {first = first} g = record { any = false; group = grouping_start (putting s (filled old first)) (record { fits = g.fits; least = omega arith; same = refl }) }
+pub writing_start : {s : List ℕ} {limit at : ℕ} {old : List ℕ} {first : ℕ} → GroupReady s limit at (length old) first → Writing s limit at old first old at 0
+writing_start {s = s} {limit = limit} {at = at} {old = old} {first = first} g =
+    let z : first ≡ first + 0 = omega arith in
+    record { group = subst (λ n. Grouping (put_one s) (put_all s) Room s limit at (filled old first) at 0 (filled old n)) z (grouping_start (putting s) (record { fits = g.fits })) }
 
-written : {s : List ℕ} {limit at : ℕ} {old : List ℕ} {first : ℕ} {new : List ℕ} {n : ℕ} {any : Bool} {stop trailer : ℕ} → Grouped (put_all s) s limit at (filled old first) (filled new n) any stop trailer
-    → GroupDone s limit at old first new (record { count = n - first; stop = stop; trailer = trailer })
-written d = record { rows = ap (λ f. f.rows) d.is; count = omega (arith, ap (λ f. f.next) d.is); stop = d.stop_is; trailer = d.trailer-is }
+written : {s : List ℕ} {limit at : ℕ} {old : List ℕ} {first : ℕ} {new : List ℕ} {n : ℕ} {r : Group} → Grouped (put_all s) s limit at (filled old first) (filled new n) r → GroupDone s limit at old first new r
+written d = record { rows = ap (λ f. f.rows) d.is; is = d.group-is }
 
-module _ {s : List ℕ} {limit at : ℕ} {old : List ℕ} {first : ℕ} {new : List ℕ} {p n : ℕ} (w : Writing s limit at old first new p n) where
-  pub writing_least : first ≤ n
-  writing_least = grouping_fact w.group (λ _ r. r.least)
+module _ {s : List ℕ} {limit at : ℕ} {old : List ℕ} {first : ℕ} {new : List ℕ} {p n : ℕ} (w : Writing s limit at old first new p n) (h : limit ≤ length s) where
+  pub writing_none : code.None ≡ extent s limit p → GroupDone s limit at old first new (record { count = n; stop = p; trailer = code.None })
+  writing_none e = written (grouping_none w.group h e)
 
-  pub writing_same : length new ≡ length old
-  writing_same = grouping_fact w.group (λ _ r. r.same)
+  module _ {x : Extent} (e : code.Some x ≡ extent s limit p) where
+    pub writing_room : (first + n) * property_width + property_width ≤ length new
+    writing_room = omega (arith, props_some s limit p h (extent_inside e).test, w.group.rest.ok.fits)
 
-  module _ (h : limit ≤ length s) {r : Extent} (re : r ≡ extent s limit p) where
-    pub writing_none : r ≡ Extent.Outside → GroupDone s limit at old first new (record { count = n - first; stop = p; trailer = 0 })
-    writing_none rk = written (grouping_none w.group h re rk)
+    module _ {q : Property} (eq : q ≡ property_of s (property_at s p)) {new' : List ℕ} (en : new' ≡ put property_width new (first + n) (property_row q ∷ [])) where
+      put_it : filled new' (first + n + 1) ≡ put_one s (property_at s p) (filled new (first + n))
+      put_it = let a = en ∙ ap (λ q. put property_width new (first + n) (property_row q ∷ [])) eq in λ i. filled (a i) (first + n + 1)
 
-    module _ {z e t : ℕ} (rk : r ≡ Extent.Inside z e t) where
-      pub writing_room : n * property_width + property_width ≤ length new
-      writing_room = omega (arith, props_some s limit p h (extent-inside re rk).test, w.group.rest.ok.fits)
+      pub writing_last : true ≡ ends_group x.trailer → GroupDone s limit at old first new' (record { count = n + 1; stop = x.next; trailer = code.Some x.trailer })
+      writing_last t = written (grouping_last w.group h e put_it t)
 
-      module _ {q : Property} (eq : q ≡ property_of s (property_at s p)) {new' : List ℕ} (en : new' ≡ put property_width new n (property_row q ∷ [])) {b : Bool} (be : b ≡ ends_group t) where
-        put_it : filled new' (n + 1) ≡ put_one s (property_at s p) (filled new n)
-        put_it = let a = en ∙ ap (λ q. put property_width new n (property_row q ∷ [])) eq in λ i. filled (a i) (n + 1)
-
-        pub writing_last : b ≡ true → GroupDone s limit at old first new' (record { count = n + 1 - first; stop = e; trailer = t })
-        writing_last bt = written (grouping_last w.group h re rk put_it be bt)
-
-        pub writing_more : b ≡ false → Writing s limit at old first new' e (n + 1)
-        writing_more bf = record { any = true; group = grouping_more w.group h re rk put_it be bf }
+      pub writing_more : false ≡ ends_group x.trailer → Writing s limit at old first new' x.next (n + 1)
+      writing_more t =
+          let z : first + n + 1 ≡ first + (n + 1) = omega arith in
+          record { group = subst (λ k. Grouping (put_one s) (put_all s) Room s limit at (filled old first) x.next (n + 1) (filled new' k)) z (grouping_more w.group h e put_it t) }

@@ -1,7 +1,7 @@
 -- The rows of the nodes of a later stream that a walk visits, from what the code answers.
 use Prim.Native.Nat.{ℕ, zero, suc, ◌+◌, ◌*◌, ◌≤◌, ◌<◌}
 use native.Mathlib.Omega.{arith}
-use mathlib.Core.Path.{◌≡◌, refl, sym, ap, ap₂, ◌∙◌}
+use mathlib.Core.Path.{◌≡◌, refl, sym, ap, ◌∙◌}
 use mathlib.Core.Bool.{Bool, true, false}
 use mathlib.Core.List.{List, [], ◌∷◌, ◌++◌, map}
 use mathlib.Core.Option.{Option, none, some}
@@ -22,8 +22,8 @@ use Rattle.rows.specs.Put.{put, control_words}
 use Rattle.rows.specs.Writing.{State, state, write_controls}
 use Rattle.rows.specs.Acts.{Nodes, top_nodes}
 use Rattle.rows.specs.declared.ControlRow.{ControlRow}
-use Rattle.countlater.specs.Count.{group_in, children_of}
-use Rattle.countlater.proofs.NodeLaws.{head_past}
+use Rattle.countlater.specs.Count.{behind, group_in, children_of}
+use Rattle.countlater.proofs.NodeLaws.{behind-in, head_past}
 use Rattle.cursor.specs.Walk.{Step}
 use Rattle.cursor.specs.Stack.{count_of, Moved}
 use Rattle.cursor.specs.Cursors.{cursor, Passed, PastReady, Past}
@@ -33,10 +33,10 @@ use Rattle.cursor.proofs.RowLaws.{left, how_many}
 use Rattle.cursorlater.specs.Steps.{list_of, step_at}
 use Rattle.cursorlater.proofs.StepLaws.{nodes-same}
 use Rattle.later.specs.Write.{name_among, GroupReady, GroupDone, next, tree_control, NodesReady, NodesDone}
-use Rattle.later.specs.declared.WrittenGroup.{WrittenGroup}
+use Rattle.countlater.specs.declared.Group.{Group}
 use Rattle.later.proofs.WriteGroupLaws.{rows_show}
 use Rattle.later.proofs.NameLaws.{name_from, node-named}
-use Rattle.later.proofs.WriteNodeLaws.{Due, group-ready, row-ready, words-ready, control-done, children-told}
+use Rattle.later.proofs.WriteNodeLaws.{Due, group-ready, row-ready, words-ready, control-done}
 
 -- ---- a node as the code reads it
 pub record Parts (s : List ℕ) (p : ℕ) (x : Step Prop) : Type 0 where
@@ -114,14 +114,14 @@ module _ {s : List ℕ} {whole : Nodes Prop} {old : State} {a : List ℕ} {c : C
     going-row = row-ready due
 
     -- its group is written
-    module _ {w : WrittenGroup} {ps' : List ℕ} (d : GroupDone s (length s) (c.at + 6) ps pi ps' w) where
+    module _ {w : Group} {ps' : List ℕ} (d : GroupDone s (length s) (c.at + 6) ps pi ps' w) where
       pub going-adds : ci + pi + (1 + w.count) ≤ longest
       going-adds = words-ready due d
 
-      kids_at : children_at s w.trailer w.stop ≡ some (count_of entry.children, entry.next)
-      kids_at = ap₂ (children_at s) d.trailer d.stop ∙ children-told s c.at (count_of entry.children, entry.next) its.kids
+      kids_at : behind s w ≡ some (count_of entry.children, entry.next)
+      kids_at = behind-in s c.at d.is ∙ its.kids
 
-      pub going_past : PastReady a c (children_at s w.trailer w.stop)
+      pub going_past : PastReady a c (behind s w)
       going_past = record { before = laws.going_before g.walk l; there = rw kids_at tt }
 
       -- its row is written, by the type and the name that the code has found
@@ -133,7 +133,7 @@ module _ {s : List ℕ} {whole : Nodes Prop} {old : State} {a : List ℕ} {c : C
             let name-is = en ∙ ap name_among (rows_show going-group d ∙ ap (map (property_of s)) (sym its.props-are)) ∙ node-named s node in
             control-done due d name-is (er ∙ ap (λ t. t ∷ name_words ci name ++ (pi ∷ w.count ∷ c.level ∷ c.parent ∷ [])) (et ∙ sym its.type-is)) ec
 
-        module _ (a' : List ℕ) (r r' : Cursor) (p : Past a c ci (children_at s w.trailer w.stop) a' r) (k : Passed (step_at s) is_reported r r') where
+        module _ (a' : List ℕ) (r r' : Cursor) (p : Past a c ci (behind s w) a' r) (k : Passed (step_at s) is_reported r r') where
           moved : Moved a c ci (count_of entry.children) entry.next a' r
           moved = rw kids_at at p
 

@@ -4,13 +4,13 @@ use native.Mathlib.Omega.{arith}
 use mathlib.Core.Path.{◌≡◌, refl, sym, ap, ap₂, ◌∙◌}
 use mathlib.Core.Bool.{true}
 use mathlib.Core.List.{List, [], ◌∷◌, ◌++◌, map}
-use mathlib.Core.Option.{Option, none, some}
+use mathlib.Core.Option.{some}
 use lib.ListN.{length, length-map}
 use Rattle.rules.specs.Answer.{longest}
 use Rattle.rules.specs.Rows.{control_width, property_width, row_at}
 use Rattle.rules.specs.Reading.{Control, name_words, control_row}
 use Rattle.rules.specs.Tree.{Node, no_parent}
-use Rattle.rules.specs.Later.{Prop, children_at, match_at, scan_from}
+use Rattle.rules.specs.Later.{Prop, match_at, scan_from}
 use Rattle.rules.specs.ReadLater.{property_of, text_name_lem, scanned_name, control_of}
 use Rattle.rules.specs.declared.Property.{Property}
 use Rattle.rules.specs.declared.Name.{Name}
@@ -26,11 +26,10 @@ use Rattle.rows.proofs.ActLaws.{at_place}
 use Rattle.rows.proofs.RemainLaws.{Remain, remain_start, remain_as, ready-first, remain_step, remain_done}
 use Rattle.matchlater.specs.Match.{NextMatch}
 use Rattle.matchlater.proofs.MatchLaws.{scanned_node, shown, scan-same, scan_step, scan-end}
-use Rattle.countlater.specs.Count.{group_in, children_of}
 use Rattle.countlater.proofs.ScanLaws.{shown_some, shown-none}
-use Rattle.later.specs.Write.{trailer_or0, props_at, GroupReady, GroupDone, next, scanned_control, scanned, ScanReady, ScanDone}
-use Rattle.later.specs.declared.WrittenGroup.{WrittenGroup}
-use Rattle.later.proofs.WriteGroupLaws.{group-kept, first-shows}
+use Rattle.later.specs.Write.{props_at, GroupReady, GroupDone, next, scanned_control, scanned, ScanReady, ScanDone}
+use Rattle.countlater.specs.declared.Group.{Group}
+use Rattle.later.proofs.WriteGroupLaws.{many_written, group-kept, first-shows}
 
 -- ---- one control: its group, then its row
 pub own-many : (s : List ℕ) (name : Node Prop → Name) (n : Node Prop) → length (control_of s name n).properties ≡ length n.props
@@ -54,30 +53,20 @@ module _ {s : List ℕ} {limit at : ℕ} {c : Control} {cs : List ℕ} {ci : ℕ
   pub row-ready : ci * control_width + control_width ≤ length cs
   row-ready = omega (arith, h.fits.room.controls)
 
-  module _ {w : WrittenGroup} {ps' : List ℕ} (d : GroupDone s limit at ps pi ps' w) where
+  module _ {w : Group} {ps' : List ℕ} (d : GroupDone s limit at ps pi ps' w) where
     pub words-ready : ci + pi + (1 + w.count) ≤ longest
-    words-ready = omega (arith, h.fits.few, their_own, d.count)
+    words-ready = omega (arith, h.fits.few, their_own, many_written d)
 
     pub control-done : {name : Name} → name ≡ c.name → {row : ControlRow} → control_words row ≡ c.type ∷ name_words ci name ++ (pi ∷ w.count ∷ c.level ∷ c.parent ∷ [])
         → {cs' : List ℕ} → cs' ≡ put control_width cs ci (control_words row ∷ []) → state cs' (ci + 1) ps' (pi + w.count) ≡ write_controls (c ∷ []) (state cs ci ps pi)
     unfolding control_row
     control-done {name} en {row} er {cs'} ec =
         let m : length (map (property_of s) (props_at s limit at)) ≡ length (props_at s limit at) = simp length-map in
-        let k : w.count ≡ length c.properties = d.count ∙ sym (ap length h.own ∙ m) in
+        let k : w.count ≡ length c.properties = many_written d ∙ sym (ap length h.own ∙ m) in
         let e : control_words row ≡ control_row ci pi c = er ∙ ap₂ (λ m j. c.type ∷ name_words ci m ++ (pi ∷ j ∷ c.level ∷ c.parent ∷ [])) en k in
         let a : cs' ≡ put control_width cs ci (control_row ci pi c ∷ []) = ec ∙ ap (λ r. put control_width cs ci (r ∷ [])) e in
         let b : ps' ≡ write_properties c.properties ps pi = d.rows ∙ ap (λ qs. write_properties qs ps pi) (sym h.own) in
         (λ i. state (a i) (ci + 1) (b i) (pi + k i)) ∙ sym (write-one c (state cs ci ps pi))
-
--- ---- a node
--- what the code asks for its children, once the group is written
-pub children-told : (s : List ℕ) (p : ℕ) (y : ℕ × ℕ) → children_of s p ≡ some y → children_at s (trailer_or0 (group_in s p).trailer) (group_in s p).stop ≡ some y
-unfolding children_of
-children-told s p y e = go (group_in s p).trailer refl
-  where
-    go : (o : Option ℕ) → (group_in s p).trailer ≡ o → children_at s (trailer_or0 (group_in s p).trailer) (group_in s p).stop ≡ some y
-    go none f = let k = rw f at e in cc
-    go (some t) f = rw f (rw f at e)
 
 -- ---- the scan
 pub record Sweeping (s : List ℕ) (from : ℕ) (old : State) (a : ℕ) (now : State) : Type 0 where
@@ -132,13 +121,13 @@ module _ {s : List ℕ} {from : ℕ} {old : State} {a : ℕ} {cs : List ℕ} {ci
       go [] e = record { inside = n.within; small = known.remain.ready.known; fits = omega (arith, known.remain.ready.fits.room.properties, ap length e) }
       go (q ∷ qs) e = group-ready (due (omega (arith, ap length e)))
 
-  module _ {w : WrittenGroup} {ps' : List ℕ} (d : GroupDone s b a ps pi ps' w) where
+  module _ {w : Group} {ps' : List ℕ} (d : GroupDone s b a ps pi ps' w) where
     -- a group without a property
     pub sweeping_same : w.count ≤ 0 → Sweeping s from old b (state cs ci ps' pi)
     sweeping_same few = go (props_at s b a) refl
       where
         go : (qs : List Prop) → props_at s b a ≡ qs → Sweeping s from old b (state cs ci ps' pi)
-        go (q ∷ qs) e = absurd (omega (arith, few, d.count, ap length e))
+        go (q ∷ qs) e = absurd (omega (arith, few, many_written d, ap length e))
         go [] e =
             let same : ps' ≡ ps = d.rows ∙ ap (λ qs. write_properties (map (property_of s) qs) ps pi) e ∙ properties-none ps pi in
             rw same (record {
@@ -151,7 +140,7 @@ module _ {s : List ℕ} {from : ℕ} {old : State} {a : ℕ} {cs : List ℕ} {ci
 
     module _ (any : 0 < w.count) where
       its : Due s b a control here
-      its = due (omega (arith, any, d.count))
+      its = due (omega (arith, any, many_written d))
 
       pub sweeping_row : ci * control_width + control_width ≤ length cs
       sweeping_row = row-ready its
@@ -171,7 +160,7 @@ module _ {s : List ℕ} {from : ℕ} {old : State} {a : ℕ} {cs : List ℕ} {ci
           within = n.within;
           here = n.here;
           remain = remain_step _ (scanned_control s) (some (scanned_node (props_at s b a) ∷ [], b)) (scanned s) (scanned s from) old here (state cs' (ci + 1) ps' (pi + w.count)) b
-              (first-left (omega (arith, any, d.count))) (ap (λ z. some (at_place z b)) next-is);
+              (first-left (omega (arith, any, many_written d))) (ap (λ z. some (at_place z b)) next-is);
           controls-same = ap length ec ∙ put-length control_width cs ci _ ∙ known.controls-same;
           properties-same = group-kept d ∙ known.properties-same;
         }

@@ -14,8 +14,8 @@ use Rattle.rules.specs.declared.Name.TheVariants.{Numbered}
 use Rattle.rows.specs.Writing.{State, state, write_properties}
 use Rattle.rows.specs.Acts.{Nodes, Fit, stood, act_by, Ready}
 use Rattle.rows.specs.declared.Next.{Next}
-use Rattle.countlater.specs.Count.{is_tree}
-use Rattle.later.specs.declared.WrittenGroup.{WrittenGroup}
+use Rattle.countlater.specs.Count.{group, is_tree}
+use Rattle.countlater.specs.declared.Group.{Group}
 
 -- ---- a group
 -- the property at `at` lies within a stream that is not too long
@@ -23,11 +23,6 @@ pub record PropertyInside (s : List ℕ) (at size : ℕ) : Type 0 where
   pub small : length s ≤ longest
   pub within : at + 14 + size ≤ length s
   pub is : size ≡ length_at s at
-
--- 0 where no trailer ended it
-abbrev pub trailer_or0 : Option ℕ → ℕ
-trailer_or0 none = 0
-trailer_or0 (some t) = t
 
 abbrev pub props_at : List ℕ → ℕ → ℕ → List Prop
 props_at s limit at = (group_at s limit at).props
@@ -37,11 +32,9 @@ pub record GroupReady (s : List ℕ) (limit at room first : ℕ) : Type 0 where
   pub small : length s ≤ longest
   pub fits : (first + length (props_at s limit at)) * property_width ≤ room
 
-pub record GroupDone (s : List ℕ) (limit at : ℕ) (old : List ℕ) (first : ℕ) (new : List ℕ) (r : WrittenGroup) : Type 0 where
+pub record GroupDone (s : List ℕ) (limit at : ℕ) (old : List ℕ) (first : ℕ) (new : List ℕ) (r : Group) : Type 0 where
   pub rows : new ≡ write_properties (map (property_of s) (props_at s limit at)) old first
-  pub count : r.count ≡ length (props_at s limit at)
-  pub stop : r.stop ≡ (group_at s limit at).stop
-  pub trailer : r.trailer ≡ trailer_or0 (group_at s limit at).trailer
+  pub is : r ≡ group (group_at s limit at)
 
 -- ---- a node's name: that of the first property 0x0014 among these
 abbrev pub name_or : Option Property → Name

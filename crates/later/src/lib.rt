@@ -14,9 +14,7 @@ ghost use Rattle.rows.specs.Judge.{Written, Exits};
 ghost use Rattle.countlater.specs.Count.{whole_tree};
 ghost use Rattle.later.specs.Write.{name_among, PropertyInside, GroupReady, GroupDone, NodesReady, NodesDone, ScanReady, ScanDone, BlobReady};
 
-use countlater::{
-    Children, Extent, GROUP_AT, OBJECT_AT, VALUE_AT, children_at, count, ends_group, parse_entry,
-};
+use countlater::{GROUP_AT, Group, OBJECT_AT, VALUE_AT, count, ends_group, parse_entry};
 use cursor::{STACK_WORDS, top};
 use cursorlater::{past, reported};
 use matchlater::{MATCH_SIZE, find_match};
@@ -33,14 +31,6 @@ const TYPE_AT: usize = 2;
 
 // The id of a control's name.
 const NAME_ID: u32 = 0x14;
-
-// What was written of a group; the trailer is 0 where none ended it.
-#[derive(Clone, Copy)]
-pub struct WrittenGroup {
-    pub count: usize,
-    pub stop: usize,
-    pub trailer: u32,
-}
 
 // The property at `at`, whose value has `size` bytes.
 pub fn property_at(s: &[u8], at: usize, size: usize) -> Property
@@ -91,46 +81,37 @@ fn node_name(rows: &[u32], first: usize, end: usize) -> Name
     requires { end ≤ longest }
     ensures { result ≡ name_among (properties_from rows.now first (end - first)) }
 {
-    let mut i = first;
-    while i < end {
+    for i in first..end {
         if get_id(rows, i as u32) == NAME_ID {
             return name_by(get_property(rows, i as u32));
         }
-        i = i + 1;
     }
     Name::Numbered
 }
 
 // Writes a row for each property of the group at `at`, from row `first` on.
-fn write_group(s: &[u8], limit: usize, at: usize, rows: &mut [u32], first: usize) -> WrittenGroup
+fn write_group(s: &[u8], limit: usize, at: usize, rows: &mut [u32], first: usize) -> Group
     requires { GroupReady s.now limit at (length rows.old) first }
     ensures { GroupDone s.now limit at rows.old first rows.new result }
 {
     let mut p = at;
-    let mut n = first;
-    loop {
-        match parse_entry(s, limit, p) {
-            Extent::Outside => {
-                return WrittenGroup {
-                    count: n - first,
-                    stop: p,
-                    trailer: 0,
-                };
-            }
-            Extent::Inside(size, next, trailer) => {
-                let q = property_at(s, p, size);
-                put_property(rows, n, q);
-                n = n + 1;
-                p = next;
-                if ends_group(trailer) {
-                    return WrittenGroup {
-                        count: n - first,
-                        stop: p,
-                        trailer,
-                    };
-                }
-            }
+    let mut count: usize = 0;
+    while let Some(entry) = parse_entry(s, limit, p) {
+        put_property(rows, first + count, property_at(s, p, entry.size));
+        count += 1;
+        p = entry.next;
+        if ends_group(entry.trailer) {
+            return Group {
+                count,
+                stop: p,
+                trailer: Some(entry.trailer),
+            };
         }
+    }
+    Group {
+        count,
+        stop: p,
+        trailer: None,
     }
 }
 
@@ -165,8 +146,8 @@ fn write_sections(
             },
         );
         put_control(controls, i, row);
-        c = reported(s, past(s, &mut stack, c, i as u32, w.trailer, w.stop));
-        i = i + 1;
+        c = reported(s, past(s, &mut stack, c, i as u32, w));
+        i += 1;
         j = end;
     }
     Next {
@@ -206,12 +187,10 @@ fn write_scanned(
                 },
             );
             put_control(controls, i, row);
-            i = i + 1;
-            j = j + w.count;
-            a = limit;
-        } else {
-            a = limit;
+            i += 1;
+            j += w.count;
         }
+        a = limit;
     }
     Next {
         at: a,
@@ -220,27 +199,31 @@ fn write_scanned(
     }
 }
 
-// Writes the tree after the object's group, which ended by `trailer` at `at`.
+// Writes the tree after the object's group.
 fn write_tree(
     s: &[u8],
-    trailer: u32,
-    at: usize,
+    own: Group,
     controls: &mut [u32],
     properties: &mut [u32],
     property: usize,
 ) -> Next
-    requires { NodesReady s.now (top_nodes (whole_tree s.now trailer at)) (state controls.old 0 properties.old property) }
-    ensures { NodesDone s.now (top_nodes (whole_tree s.now trailer at)) (state controls.old 0 properties.old property) controls.new properties.new result }
+    requires { NodesReady s.now (top_nodes (whole_tree s.now own)) (state controls.old 0 properties.old property) }
+    ensures { NodesDone s.now (top_nodes (whole_tree s.now own)) (state controls.old 0 properties.old property) controls.new properties.new result }
 {
-    match children_at(s, trailer, at) {
-        Children::Bad => Next {
-            at,
+    match own.children(s) {
+        Some(top) => write_sections(
+            s,
+            top.count as u32,
+            top.next,
+            controls,
+            properties,
+            property,
+        ),
+        None => Next {
+            at: own.stop,
             control: 0,
             property,
         },
-        Children::Of { count, next } => {
-            write_sections(s, count as u32, next, controls, properties, property)
-        }
     }
 }
 
@@ -251,7 +234,7 @@ fn write_blob(s: &[u8], tree: bool, controls: &mut [u32], properties: &mut [u32]
 {
     let w = write_group(s, s.len(), OBJECT_AT, properties, 0);
     if tree {
-        write_tree(s, w.trailer, w.stop, controls, properties, w.count);
+        write_tree(s, w, controls, properties, w.count);
     } else {
         write_scanned(s, w.stop, controls, properties, w.count);
     }
