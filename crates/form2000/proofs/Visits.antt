@@ -4,11 +4,13 @@ use mathlib.Core.Path.{◌≡◌, refl, sym, ap, ◌∙◌}
 use mathlib.Core.Bool.{true, false}
 use mathlib.Core.List.{List, ◌∷◌}
 use mathlib.Core.Option.{Option, none, some}
+use Rattle.std.proofs.Common as code
 use lib.ListN.{length}
 use Rattle.rules.specs.Lists.{◌>>=◌}
 use Rattle.rules.specs.Bytes.{byte, u16, half_at_lem}
 use Rattle.rules.specs.Tree.{Node, no_parent, levels, is_reported}
 use Rattle.rules.specs.Access2000.{Prop, property_at, goes_on_lem, run_at, head_at_lem}
+use Rattle.rules.specs.Told.{told_as}
 use Rattle.rules.proofs.ListLaws.{none_some, every_at}
 use Rattle.rows.specs.Acts.{top_nodes, Held}
 use Rattle.walk2000.specs.Told as told
@@ -47,23 +49,23 @@ module _ {A : Type 0} {one : Prop → A → A} {all : List Prop → A → A} {Ok
   pub run_fact : {Q : Type 0} → ((qs : List Prop) → Ok qs now → Q) → Q
   run_fact f = left_fact k.rest f
 
-  module _ {r : Extent} (goes : goes_on_lem s p ≡ true) (re : r ≡ told.value (property_at s p)) where
-    pub run-broken : r ≡ Extent.Bad → ⊥
+  module _ {r : code.Option Extent} (goes : goes_on_lem s p ≡ true) (re : r ≡ told_as told.value (property_at s p)) where
+    pub run-broken : r ≡ code.None → ⊥
     run-broken e = rw (steps.run_bad s p r goes re e) at k.rest.ok
 
-    module _ {st sz : ℕ} (e : r ≡ Extent.At st sz) where
+    module _ {v : Extent} (e : r ≡ code.Some v) where
       abbrev this : Prop
-      this = prop (byte s p) st sz
+      this = prop (byte s p) v.start v.size
 
-      more : run_at s p ≡ steps.with_first this (run_at s (st + sz))
-      more = steps.run_more s p r st sz goes re e
+      more : run_at s p ≡ steps.with_first this (run_at s (v.start + v.size))
+      more = steps.run_more s p r v goes re e
 
       -- what a property more asks
       pub run_asks : {Q : Type 0} → ((qs : List Prop) → Ok (this ∷ qs) now → Q) → Q
-      run_asks f = left_asks_fact k.rest this (run_at s (st + sz)) more f
+      run_asks f = left_asks_fact k.rest this (run_at s (v.start + v.size)) more f
 
-      pub run_on : {next : A} → next ≡ one this now → Running wanted one all Ok s (st + sz) next
-      run_on w = record { work = k.work; rest = left-next k.rest this (run_at s (st + sz)) more k.work w }
+      pub run_on : {next : A} → next ≡ one this now → Running wanted one all Ok s (v.start + v.size) next
+      run_on w = record { work = k.work; rest = left-next k.rest this (run_at s (v.start + v.size)) more k.work w }
 
 -- ---- an entry as the code reads it: its run ends at `end`, and the head of its list stands there
 pub record Parts (s : List ℕ) (p : ℕ) (x : Step Prop) : Type 0 where

@@ -1,9 +1,10 @@
 -- For any walk over a whole Access 2000 stream: its parts, what stands after the object's run, and that its counts are those of the reading.
 use Prim.Native.Nat.{ℕ, ◌+◌, ◌≤◌}
 use native.Mathlib.Omega.{arith}
-use mathlib.Core.Path.{◌≡◌, refl, sym, ap, ◌∙◌}
+use mathlib.Core.Path.{◌≡◌, refl, ap, ◌∙◌}
 use mathlib.Core.List.{List}
 use mathlib.Core.Option.{Option, none, some}
+use Rattle.std.proofs.Common as code
 use lib.Dec.{eqb}
 use lib.ListN.{length, length-map}
 use borrow.Author.Tests.{eqb-true}
@@ -11,7 +12,9 @@ use Rattle.rules.specs.Answer.{longest}
 use Rattle.rules.specs.Tree.{Entries, reported, nodes_of, levels}
 use Rattle.rules.specs.Access2000.{Prop, run_at, head_at_lem, entries_at, stream_of}
 use Rattle.rules.specs.Read2000.{object_key, property_in, control_of, read2000}
-use Rattle.rules.proofs.ListLaws.{none_some, Every, every_if, every_when, every_at}
+use Rattle.rules.specs.Told.{told_as}
+use Rattle.rules.proofs.ToldLaws.{told_as_some, told_as_none}
+use Rattle.rules.proofs.ListLaws.{Every, every_if, every_when, every_at}
 use Rattle.rows.specs.Counting.{size, props}
 use Rattle.rows.specs.Acts.{top_nodes, Held}
 use Rattle.rows.proofs.LevelLaws.{EntriesGrow, fewer}
@@ -22,7 +25,6 @@ use Rattle.walk2000.specs.Told as walked
 use Rattle.count2000.specs.Told as told
 use Rattle.walk2000.specs.declared.Opens.{Opens}
 use Rattle.count2000.specs.declared.StreamTally.{StreamTally}
-use Rattle.walk2000.proofs.Inverse.{opens_plain, opens_listed, opens_bad}
 use Rattle.walk2000.proofs.Grows.{run_grows, head_grows, entries_grow}
 use Rattle.form2000.specs.Acts.{top_at}
 
@@ -91,30 +93,26 @@ module _ {s : List ℕ} {P : List Prop × Entries Prop → Type 0} (is : Known s
   parts = every_at (StreamParts s) (stream_of s) is.tree (stream_parts s) is.reads
 
   -- what stands after the object's run
-  module _ {end : ℕ} (ee : end ≡ parts.place) {o : Opens} (oe : o ≡ walked.head (head_at_lem s end)) where
+  module _ {end : ℕ} (ee : end ≡ parts.place) {o : code.Option Opens} (oe : o ≡ told_as walked.head (head_at_lem s end)) where
     head-is : head_at_lem s end ≡ some (some parts.many, parts.first)
     head-is = ap (head_at_lem s) ee ∙ parts.head
 
-    pub never-plain : {e : ℕ} → o ≡ Opens.Plain e → ⊥
-    never-plain {e = e} k =
-        let z : ◌≡◌ {A = Option (Option ℕ × ℕ)} (some (none, e)) (some (some parts.many, parts.first)) = sym (opens_plain (head_at_lem s end) o e oe k) ∙ head-is in
-        let w : ◌≡◌ {A = Option ℕ × ℕ} (none, e) (some parts.many, parts.first) = cc in
-        none_some (ap (λ v. v.0) w)
+    pub opens-is : o ≡ code.Some (Opens.Listed parts.many parts.first)
+    opens-is = oe ∙ ap (told_as walked.head) head-is
 
-    pub never_bad : o ≡ Opens.Bad → ⊥
-    never_bad k =
-        let z : ◌≡◌ {A = Option (Option ℕ × ℕ)} none (some (some parts.many, parts.first)) = sym (opens_bad (head_at_lem s end) o oe k) ∙ head-is in
-        none_some z
+    pub never-plain : {e : ℕ} → o ≡ code.Some (Opens.Plain e) → ⊥
+    never-plain k = let z = opens-is in cc
+
+    pub never_bad : o ≡ code.None → ⊥
+    never_bad k = let z = opens-is in cc
 
     -- the top list
-    module _ {n next : ℕ} (k : o ≡ Opens.Listed n next) where
+    module _ {n next : ℕ} (k : o ≡ code.Some (Opens.Listed n next)) where
       pub list-is : entries_at levels s n next ≡ some (is.tree.1, length s)
       list-is =
-          let z : ◌≡◌ {A = Option (Option ℕ × ℕ)} (some (some n, next)) (some (some parts.many, parts.first)) = sym (opens_listed (head_at_lem s end) o n next oe k) ∙ head-is in
-          let w : ◌≡◌ {A = Option ℕ × ℕ} (some n, next) (some parts.many, parts.first) = cc in
-          let a : some n ≡ some parts.many = ap (λ v. v.0) w in
+          let z = opens-is in
           let b : n ≡ parts.many = cc in
-          let c : next ≡ parts.first = ap (λ v. v.1) w in
+          let c : next ≡ parts.first = cc in
           let d : entries_at levels s n next ≡ entries_at levels s parts.many parts.first = λ i. entries_at levels s (b i) (c i) in
           d ∙ parts.list
 
@@ -129,33 +127,27 @@ pub record Facts (t s : List ℕ) (all theirs own : ℕ) : Type 0 where
   pub few-all : all + theirs ≤ length s
   pub few-own : own ≤ theirs
 
-module _ (t s : List ℕ) {r : StreamTally} (re : r ≡ told.stream_tally (stream_of s)) where
-  none-by : (o : Option (List Prop × Entries Prop)) → r ≡ told.stream_tally o → r ≡ StreamTally.Bad → o ≡ none
-  none-by none e k = refl
-  none-by (some x) e k = cc
+module _ (t s : List ℕ) {r : code.Option StreamTally} (re : r ≡ told_as told.stream_tally (stream_of s)) where
+  pub none_of : r ≡ code.None → stream_of s ≡ none
+  none_of k = told_as_none told.stream_tally (stream_of s) r re k
 
-  pub none_of : r ≡ StreamTally.Bad → stream_of s ≡ none
-  none_of k = none-by (stream_of s) re k
-
-  module _ {all theirs own : ℕ} (k : r ≡ StreamTally.Of all theirs own) where
-    facts_by : (o : Option (List Prop × Entries Prop)) → stream_of s ≡ o → r ≡ told.stream_tally o → Facts t s all theirs own
-    facts_by none e re = absurd (let z : ◌≡◌ {A = ℕ} 0 1 = cc in omega arith)
-    facts_by (some x) e re =
-        let a : size (reported x.1) ≡ all = cc in
-        let b : length x.0 + props (reported x.1) ≡ theirs = cc in
-        let c : length x.0 ≡ own = cc in
-        let f = few t s x e in
+  module _ {y : StreamTally} (k : r ≡ code.Some y) where
+    pub facts : Facts t s y.controls y.props y.own
+    facts =
+        let w = told_as_some told.stream_tally (stream_of s) r re k in
+        let x = w.0 in
+        let a : size (reported x.1) ≡ y.controls = ap (λ z. z.controls) w.2 in
+        let b : length x.0 + props (reported x.1) ≡ y.props = ap (λ z. z.props) w.2 in
+        let c : length x.0 ≡ y.own = ap (λ z. z.own) w.2 in
+        let f = few t s x w.1 in
         let n = counts t s x in
         record {
           tree = x;
-          reads = e;
+          reads = w.1;
           has = record { controls-are = n.controls-are ∙ a; properties-are = n.properties-are ∙ b; own-are = n.own-are ∙ c };
           few-all = omega (arith, f, a, b, c);
           few-own = omega (arith, b, c);
         }
 
-    pub facts : Facts t s all theirs own
-    facts = facts_by (stream_of s) refl re
-
-    pub counts-small : length s ≤ longest → Answerable all theirs own
+    pub counts-small : length s ≤ longest → Answerable y.controls y.props y.own
     counts-small small = record { few = omega (arith, facts.few-all, small); among = facts.few-own }

@@ -4,6 +4,7 @@ use native.Mathlib.Omega.{arith}
 use mathlib.Core.Path.{◌≡◌, refl, ap, ◌∙◌}
 use mathlib.Core.List.{List, map}
 use mathlib.Core.Option.{some}
+use Rattle.std.proofs.Common as code
 use lib.ListN.{length}
 use Rattle.rules.specs.Lists.{concat}
 use Rattle.rules.specs.Answer.{refusal, longest, no_reading}
@@ -11,6 +12,7 @@ use Rattle.rules.specs.Tree.{nodes_of, levels}
 use Rattle.rules.specs.Access2000.{head_at_lem, entries_at, stream_of}
 use Rattle.rules.specs.Rows.{control_width, property_width, room}
 use Rattle.rules.specs.Read2000.{object_key, property_in, control_of, read2000}
+use Rattle.rules.specs.Told.{told_as}
 use Rattle.rules.specs.declared.Answer.{Answer}
 use Rattle.rows.specs.Counting.{props_in}
 use Rattle.rows.specs.Writing.{state, write_properties}
@@ -62,7 +64,7 @@ module _ {t s controls rows : List ℕ} (h : StreamReady t s controls rows) wher
           own-run.rows ∙ ap (λ g. write_properties (map g is.tree.0) rows 0) f
 
       -- the top list stands after it
-      module _ {o : Opens} (oe : o ≡ walked.head (head_at_lem s own.at)) {n next : ℕ} (k : o ≡ Opens.Listed n next) where
+      module _ {o : code.Option Opens} (oe : o ≡ told_as walked.head (head_at_lem s own.at)) {n next : ℕ} (k : o ≡ code.Some (Opens.Listed n next)) where
         there : entries_at levels s n next ≡ some (is.tree.1, length s)
         there = list-is is own-end oe k
 
@@ -94,16 +96,16 @@ module _ {t s controls rows : List ℕ} (h : StreamReady t s controls rows) wher
             rw is.reads (made-written (property_in t s (object_key s)) (control_of t s) (same-properties t s) x.0 (nodes_of x.1) controls rows controls' rows'' r.control r.property r.at (length s) z)
 
 -- ---- the answer
-module _ (t s controls rows : List ℕ) {r : StreamTally} (re : r ≡ told.stream_tally (stream_of s)) where
-  pub read_bad : r ≡ StreamTally.Bad → {a : Answer} → a ≡ refusal no_reading → Reads t s controls rows a controls rows
+module _ (t s controls rows : List ℕ) {r : code.Option StreamTally} (re : r ≡ told_as told.stream_tally (stream_of s)) where
+  pub read_bad : r ≡ code.None → {a : Answer} → a ≡ refusal no_reading → Reads t s controls rows a controls rows
   unfolding concat
   read_bad k e = rw (none_of t s re k, e)
 
-  module _ {all theirs own : ℕ} (k : r ≡ StreamTally.Of all theirs own) where
-    now : Facts t s all theirs own
+  module _ {y : StreamTally} (k : r ≡ code.Some y) where
+    now : Facts t s y.controls y.props y.own
     now = facts t s re k
 
-    module _ {a : Answer} (j : Judged all theirs own (room control_width controls) (room property_width rows) a) where
+    module _ {a : Answer} (j : Judged y.controls y.props y.own (room control_width controls) (room property_width rows) a) where
       pub read-refused : (a.number ≡ 0 → ⊥) → Reads t s controls rows a controls rows
       read-refused h = rw now.reads (exits_refused controls rows (read2000 t s now.tree) a (j _ now.has) h)
 
