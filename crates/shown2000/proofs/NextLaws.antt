@@ -28,6 +28,7 @@ extent q = record { start = q.start; size = q.size }
 -- q is the property at p, and the run goes on after it
 pub record Goes (s : List ℕ) (p : ℕ) (q : Stored) : Type 0 where
   pub on : goes_on_lem s p ≡ true
+  pub id-is : byte s p ≡ q.id
   pub is : property_at s p ≡ some (prop_of q)
   pub told : told_as told.value (property_at s p) ≡ Some (extent q)
   pub ahead : p < q.start + q.size
@@ -64,12 +65,12 @@ next_goes {s} {p} {r} {q} e k = go (goes_on_lem s p) refl (property_at s p) refl
         let t : told_as told.value (property_at s p) ≡ Some (extent q) = ap (told_as told.value) is in
         let id : byte s p ≡ q.id = let same : some (prop (byte s p) q.start q.size) ≡ some (prop_of q) = sym (property-is s p _ (extent q) refl t) ∙ is in cc in
         let further = ends s p _ (extent q) refl t in
-        record { on = be; is = is; told = t; ahead = further.0; inside = further.1; sized = rw id at (value-sized s p _ (extent q) refl t) }
+        record { on = be; id-is = id; is = is; told = t; ahead = further.0; inside = further.1; sized = rw id at (value-sized s p _ (extent q) refl t) }
 
 -- a run that could be read ends there
-pub next_ends : (s : List ℕ) (p : ℕ) {r : Option Stored} → r ≡ told_as stored (next_at s p) → r ≡ None → Held (λ _. Unit {0}) (run_at s p) → goes_on_lem s p ≡ false
+pub next_ends : (s : List ℕ) (p : ℕ) (P : List Prop × ℕ → Type 0) {r : Option Stored} → r ≡ told_as stored (next_at s p) → r ≡ None → Held P (run_at s p) → goes_on_lem s p ≡ false
 unfolding next_at
-next_ends s p {r} e k h = go (goes_on_lem s p) refl (property_at s p) refl (sym e ∙ k)
+next_ends s p P {r} e k h = go (goes_on_lem s p) refl (property_at s p) refl (sym e ∙ k)
   where
     go : (b : Bool) → goes_on_lem s p ≡ b → (o : maybe.Option Prop) → property_at s p ≡ o → told_as stored (cond b o none) ≡ None → goes_on_lem s p ≡ false
     go false be o oe n = be

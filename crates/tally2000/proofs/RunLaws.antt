@@ -53,7 +53,7 @@ places-are : (t s : List ℕ) (type : ℕ) (props : List Prop)
 unfolding node_places control_places control_of
 places-are t s type props = refl
 
-module _ {t scopes s : List ℕ} {at : ℕ} (h : NodeReady t scopes s at) {type : ℕ} (te : type ≡ u16 s at) {body : Body} (be : Finds t 2 type body) where
+module _ {t s : List ℕ} {at : ℕ} (h : NodeReady t s at) {type : ℕ} (te : type ≡ u16 s at) {body : Body} (be : Finds t 2 type body) where
   pub node-run : RunReady t body s (at + 2)
   node-run = record { small = h.known.small; sorted = be.sorted h.known.formed; there = h.there }
 
@@ -89,6 +89,6 @@ top_work t s old =
 abbrev pub Going : (t s : List ℕ) → ℕ → ℕ → (old a : List ℕ) → Cursor → ℕ → List ℕ → Type 0
 Going t s n at old a c i words = Visiting (Ran (top_tally t s) (top_at s n at) old) (λ _. node_tally t s) (λ _. top_tally t s) (FewLeft old) s a c i words
 
-pub going_start : {t scopes s : List ℕ} {n at : ℕ} {words : List ℕ} (a : List ℕ) {b r : Cursor} → length a ≡ 512 → TopReady t scopes s n at → b ≡ cursor at 0 n no_parent → Passed (step_at s) is_reported b r → Going t s n at words a r 0 words
+pub going_start : {t s : List ℕ} {n at : ℕ} {words : List ℕ} (a : List ℕ) {b r : Cursor} → length a ≡ 512 → TopReady t s n at → b ≡ cursor at 0 n no_parent → Passed (step_at s) is_reported b r → Going t s n at words a r 0 words
 going_start {t = t} {s = s} {n = n} {at = at} {words = words} a l h e p =
     top_start words a (top_work t s words) l (held_as (λ x. length x.0 ≤ longest) (λ (y : List (Node Prop) × ℕ). FewLeft words 0 y.0 words) (top_at s n at) h.few (λ x f. record { few = omega (arith, f); same = refl })) e p

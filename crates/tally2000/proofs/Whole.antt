@@ -6,6 +6,7 @@ use mathlib.Core.Bool.{true}
 use mathlib.Core.List.{List, map}
 use mathlib.Core.Option.{some}
 use lib.ListN.{length}
+use Rattle.std.proofs.Common.{Option, Some, None}
 use Rattle.rules.specs.Answer.{refusal, longest, no_reading}
 use Rattle.rules.specs.Tree.{nodes_of}
 use Rattle.rules.specs.Access2000.{head_at_lem, stream_of}
@@ -13,9 +14,10 @@ use Rattle.rules.specs.Rows.{control_width, property_width}
 use Rattle.rules.specs.Read2000.{object_key, property_in, read2000}
 use Rattle.rules.specs.Blob.{fit, answer_of}
 use Rattle.rules.specs.declared.Answer.{Answer}
+use Rattle.rules.specs.Told.{told_as}
 use Rattle.rows.specs.Judge.{Judged}
 use Rattle.rows.proofs.CountingLaws.{nodes_of_lem}
-use Rattle.coderows.specs.Look.{Listed, Finds, body_rows}
+use Rattle.coderows.specs.Look.{Finds, body_rows}
 use Rattle.coderows.specs.declared.Body.{Body}
 use Rattle.walk2000.specs.Told as walked
 use Rattle.walk2000.specs.declared.Opens.{Opens}
@@ -54,15 +56,15 @@ module _ {t s : List ℕ} (h : StreamReady t s) where
           own-run.is ∙ ap (λ g. bumps words (properties_places true (map g is.tree.0))) f
 
       -- the top list stands after it
-      module _ {o : Opens} (oe : o ≡ walked.head (head_at_lem s end)) {n next : ℕ} (k : o ≡ Opens.Listed n next) where
+      module _ {o : Option Opens} (oe : o ≡ told_as walked.head (head_at_lem s end)) {n next : ℕ} (k : o ≡ Some (Opens.Listed n next)) where
         there : top_at s n next ≡ some (nodes_of is.tree.1, length s)
         there = top-is is own-end oe k
 
-        pub top_ready : {scopes : List ℕ} → Listed t scopes → TopReady t scopes s n next
-        top_ready listed =
+        pub top_ready : TopReady t s n next
+        top_ready =
             let x = is.tree in
             record {
-              known = record { formed = h.formed; listed = listed; small = h.small };
+              known = record { formed = h.formed; small = h.small };
               few = rw there (omega (arith, few t s x is.reads, h.small, nodes_of_lem x.1));
             }
 
@@ -74,19 +76,19 @@ module _ {t s : List ℕ} (h : StreamReady t s) where
             record { is = rw is.reads (v ∙ ap (top_tally t s (nodes_of x.1)) own-words ∙ sym (bumps-append words _ _)) }
 
 -- ---- the answer
-module _ (t s : List ℕ) {r : StreamTally} (re : r ≡ told.stream_tally (stream_of s)) where
-  pub tally_bad : (cr pr : ℕ) (words : List ℕ) → r ≡ StreamTally.Bad → {a : Answer} → a ≡ refusal no_reading → Counted t s cr pr words a words
+module _ (t s : List ℕ) {r : Option StreamTally} (re : r ≡ told_as told.stream_tally (stream_of s)) where
+  pub tally_bad : (cr pr : ℕ) (words : List ℕ) → r ≡ None → {a : Answer} → a ≡ refusal no_reading → Counted t s cr pr words a words
   unfolding bumps
   tally_bad cr pr words k e = rw (none_of t s re k) (record { answer-is = e; words_are = refl; few = tt })
 
-  module _ {all theirs own : ℕ} (k : r ≡ StreamTally.Of all theirs own) where
-    now : Facts t s all theirs own
+  module _ {y : StreamTally} (k : r ≡ Some y) where
+    now : Facts t s y.controls y.props y.own
     now = facts t s re k
 
     pub tally-there : ReadReady t s → StreamReady t s
     tally-there h = record { formed = h.formed; small = h.small; there = rw now.reads tt }
 
-    module _ (cr pr : ℕ) {a : Answer} (j : Judged all theirs own (cr * control_width / control_width) (pr * property_width / property_width) a) where
+    module _ (cr pr : ℕ) {a : Answer} (j : Judged y.controls y.props y.own (cr * control_width / control_width) (pr * property_width / property_width) a) where
       answered : a ≡ answer_of (fit cr pr (some (read2000 t s now.tree)))
       answered = room-again cr pr (read2000 t s now.tree) (j _ now.has)
 

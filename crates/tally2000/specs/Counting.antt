@@ -12,7 +12,7 @@ use Rattle.rows.specs.Acts.{Held}
 use Rattle.coderows.specs.Look.{Sorted, body_rows}
 use Rattle.coderows.specs.declared.Body.{Body}
 use Rattle.run2000.specs.Runs.{shown_in}
-use Rattle.node2000.specs.Nodes.{Given}
+use Rattle.shown2000.specs.Next.{Given}
 use Rattle.form2000.specs.Acts.{top_at}
 use Rattle.tally.specs.Places.{bumps, control_places, reading_places, properties_tally, controls_tally, Tallied}
 use Rattle.cursor.specs.Work.{Ran}
@@ -30,8 +30,8 @@ abbrev pub RunDone : (t : List ℕ) → Body → (s : List ℕ) → ℕ → (wor
 RunDone t body s at words words' r = Ran (run_tally t body s) (run_at s at) words words' r
 
 -- ---- an entry without its list
-pub record NodeReady (t scopes s : List ℕ) (at : ℕ) : Type 0 where
-  pub known : Given t scopes s
+pub record NodeReady (t s : List ℕ) (at : ℕ) : Type 0 where
+  pub known : Given t s
   pub inside : at + 1 < length s
   pub there : Held (λ _. Unit {0}) (run_at s (at + 2))
 
@@ -46,8 +46,8 @@ abbrev pub NodeDone : (t s : List ℕ) → ℕ → (words words' : List ℕ) →
 NodeDone t s at words words' r = Ran (node_tally t s (u16 s at)) (run_at s (at + 2)) words words' r
 
 -- ---- the top list
-pub record TopReady (t scopes s : List ℕ) (n at : ℕ) : Type 0 where
-  pub known : Given t scopes s
+pub record TopReady (t s : List ℕ) (n at : ℕ) : Type 0 where
+  pub known : Given t s
   pub few : Held (λ x. length x.0 ≤ longest) (top_at s n at)
 
 abbrev pub top_tally : List ℕ → List ℕ → List (Node Prop) → List ℕ → List ℕ
