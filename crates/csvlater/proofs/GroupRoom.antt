@@ -2,7 +2,6 @@
 use Prim.Native.Nat.{ℕ, ◌+◌, ◌-◌, ◌≤◌}
 use native.Mathlib.Omega.{arith}
 use mathlib.Core.Path.{◌≡◌, ap, ◌∙◌}
-use mathlib.Core.Bool.{Bool, false}
 use mathlib.Core.List.{List, map}
 use mathlib.Core.Option.{some}
 use lib.ListN.{length}
@@ -28,10 +27,10 @@ use Rattle.csvlater.specs.Room.{GroupDone, node_left, SectionsReady}
 use Rattle.csvlater.specs.declared.GroupLeft.{GroupLeft}
 
 -- ---- a group: what the loop keeps
-abbrev pub Taking : List ℕ → ℕ → ℕ → ℕ → ℕ → ℕ → Bool → ℕ → Type 0
-Taking s limit at owner all p any left = Grouping (λ q l. l - (owner + length (tail_text s (property_row (property_of s q))))) (records_left s (property_of s) owner) Nothing s limit at all p any left
+abbrev pub Taking : List ℕ → ℕ → ℕ → ℕ → ℕ → ℕ → ℕ → ℕ → Type 0
+Taking s limit at owner all p n left = Grouping (λ q l. l - (owner + length (tail_text s (property_row (property_of s q))))) (records_left s (property_of s) owner) Nothing s limit at all p n left
 
-pub taking_start : {s : List ℕ} {limit at : ℕ} (owner : ℕ) {all : ℕ} → Taking s limit at owner all at false all
+pub taking_start : {s : List ℕ} {limit at : ℕ} (owner : ℕ) {all : ℕ} → Taking s limit at owner all at 0 all
 taking_start {s = s} owner = grouping_start (records_work s (property_of s) owner) tt
 
 -- ---- a node by its group

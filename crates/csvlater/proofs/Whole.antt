@@ -8,12 +8,14 @@ use lib.ListN.{length}
 use borrow.Author.Tests.{lt-ltb}
 use Rattle.rules.specs.Answer.{longest}
 use Rattle.rules.specs.Tree.{Node, levels}
-use Rattle.rules.specs.Later.{Prop, children_at, nodes_at, object_group, tree_of, nodes_by, later_of_lem}
+use Rattle.rules.specs.Later.{Prop, nodes_at, object_group, tree_of, nodes_by, later_of_lem}
 use Rattle.rules.specs.Reading.{Control}
 use Rattle.rules.specs.ReadLater.{property_of, read_later_lem}
 use Rattle.rows.specs.Acts.{top_nodes}
-use Rattle.countlater.specs.Count.{children, whole_tree, Counted}
+use Rattle.countlater.specs.Count.{children, behind, whole_tree, Counted}
+use Rattle.std.specs.Prelude as code
 use Rattle.countlater.specs.declared.Children.{Children}
+use Rattle.countlater.specs.declared.Group.{Group}
 use Rattle.countlater.specs.declared.Counts.{Counts}
 use Rattle.countlater.proofs.CountLaws.{object_within}
 use Rattle.later.specs.Write.{tree_control, scanned_control, control}
@@ -25,14 +27,14 @@ use Rattle.csvlater.specs.Room.{GroupDone, NodesDone, SectionsReady, SectionsDon
 use Rattle.csvlater.specs.declared.GroupLeft.{GroupLeft}
 
 -- ---- the tree, by its top list
-module _ {s : List ℕ} {t p : ℕ} {index letters : List ℕ} (h : TreeReady s t p index letters) {u : Children} (ue : u ≡ children (children_at s t p)) {n q : ℕ} (uk : u ≡ Children.Of n q) where
-  same : top_nodes (whole_tree s t p) ≡ top_nodes (nodes_at levels s n q)
-  same = tree-same s t p (λ x. length x.0 ≤ longest) h.few ue uk
+module _ {s : List ℕ} {g : Group} {index letters : List ℕ} (h : TreeReady s g index letters) {b : Children} (e : code.Some b ≡ children (behind s g)) where
+  same : top_nodes (whole_tree s g) ≡ top_nodes (nodes_at levels s b.count b.next)
+  same = tree-same s g (λ x. length x.0 ≤ longest) h.few e
 
-  pub tree-ready : SectionsReady s n q index letters
+  pub tree-ready : SectionsReady s b.count b.next index letters
   tree-ready = record { small = h.small; few = rw same at h.few; lent = h.lent }
 
-  pub tree-done : {all r : ℕ} → SectionsDone s n q all r → TreeDone s t p all r
+  pub tree-done : {all r : ℕ} → SectionsDone s b.count b.next all r → TreeDone s g all r
   tree-done {all = all} {r = r} d = subst (λ o. NodesDone s o all r) (sym same) d
 
 -- ---- the stream
@@ -53,19 +55,19 @@ module _ {s : List ℕ} {tree : Bool} {index letters : List ℕ} (h : BlobReady 
         let z : controls_need s 0 (map (control s) (nodes_by s (tree_of s))) ≡ controls_need s 0 (map f (nodes_by s (tree_of s))) = ap (λ g. controls_need s 0 (map g (nodes_by s (tree_of s)))) k in
         rw (later-is s h.long) (omega (arith, e, own-left, z, whole_need s (record { own = map (property_of s) (object_group s).props; controls = map (control s) (nodes_by s (tree_of s)) })))
 
-    pub blob-tree-ready : tree ≡ true → TreeReady s w.trailer w.stop index letters
-    blob-tree-ready b = record { small = h.small; few = rw (tree_is s h.is d.stop_is d.trailer-is b).1 (omega (arith, h.few)); lent = h.lent }
+    pub blob-tree-ready : tree ≡ true → TreeReady s w.group index letters
+    blob-tree-ready b = record { small = h.small; few = rw (tree_is s h.is d.group-is b).1 (omega (arith, h.few)); lent = h.lent }
 
-    pub blob-tree-done : tree ≡ true → {r : ℕ} → TreeDone s w.trailer w.stop w.left r → BlobDone s all r
-    blob-tree-done b {r} n = done-by (tree_control s) (in_tree s h.is b) (ran_some (tree_is s h.is d.stop_is d.trailer-is b).1 n.is).is
+    pub blob-tree-done : tree ≡ true → {r : ℕ} → TreeDone s w.group w.left r → BlobDone s all r
+    blob-tree-done b {r} n = done-by (tree_control s) (in_tree s h.is b) (ran_some (tree_is s h.is d.group-is b).1 n.is).is
 
-    pub blob-scan-ready : tree ≡ false → ScanReady s w.stop index letters
+    pub blob-scan-ready : tree ≡ false → ScanReady s w.group.stop index letters
     blob-scan-ready b = record {
-      within = omega (arith, d.stop_is, object_within s h.long);
+      within = omega (arith, ap (λ g. g.stop) d.group-is, object_within s h.long);
       small = h.small;
-      few = omega (arith, h.few, ap length (scan-is s h.is d.stop_is d.trailer-is b));
+      few = omega (arith, h.few, ap length (scan-is s h.is d.group-is b));
       lent = h.lent;
     }
 
-    pub blob-scan-done : tree ≡ false → {r : ℕ} → ScanDone s w.stop w.left r → BlobDone s all r
-    blob-scan-done b {r} n = done-by (scanned_control s) (in_scan s h.is b) (n ∙ ap (λ ns. w.left - controls_need s 0 (map (scanned_control s) ns)) (sym (scan-is s h.is d.stop_is d.trailer-is b)))
+    pub blob-scan-done : tree ≡ false → {r : ℕ} → ScanDone s w.group.stop w.left r → BlobDone s all r
+    blob-scan-done b {r} n = done-by (scanned_control s) (in_scan s h.is b) (n ∙ ap (λ ns. w.left - controls_need s 0 (map (scanned_control s) ns)) (sym (scan-is s h.is d.group-is b)))

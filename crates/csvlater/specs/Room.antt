@@ -7,6 +7,7 @@ use Rattle.rules.specs.ReadLater.{property_of, read_later_lem}
 use Rattle.rows.specs.Acts.{Nodes, top_nodes, Held}
 use Rattle.names.specs.Lookup.{Lent}
 use Rattle.countlater.specs.Count.{whole_tree, is_tree}
+use Rattle.countlater.specs.declared.Group.{Group}
 use Rattle.later.specs.Write.{tree_control, scanned_control}
 use Rattle.cursor.specs.Work.{Ran}
 use Rattle.later.specs.Groups.{Grouped}
@@ -20,7 +21,7 @@ pub record GroupReady (s : List ℕ) (limit : ℕ) (index letters : List ℕ) : 
   pub lent : Lent index letters
 
 abbrev pub GroupDone : (s : List ℕ) → ℕ → ℕ → ℕ → ℕ → GroupLeft → Type 0
-GroupDone s limit at owner all r = Grouped (records_left s (property_of s) owner) s limit at all r.left r.any r.stop r.trailer
+GroupDone s limit at owner all r = Grouped (records_left s (property_of s) owner) s limit at all r.left r.group
 
 -- ---- nodes of the tree
 -- after one as control n
@@ -39,13 +40,13 @@ pub record SectionsReady (s : List ℕ) (n at : ℕ) (index letters : List ℕ) 
 abbrev pub SectionsDone : List ℕ → ℕ → ℕ → ℕ → ℕ → Type 0
 SectionsDone s n at = NodesDone s (top_nodes (nodes_at levels s n at))
 
-pub record TreeReady (s : List ℕ) (trailer at : ℕ) (index letters : List ℕ) : Type 0 where
+pub record TreeReady (s : List ℕ) (g : Group) (index letters : List ℕ) : Type 0 where
   pub small : length s ≤ longest
-  pub few : Held (λ x. length x.0 ≤ longest) (top_nodes (whole_tree s trailer at))
+  pub few : Held (λ x. length x.0 ≤ longest) (top_nodes (whole_tree s g))
   pub lent : Lent index letters
 
-abbrev pub TreeDone : List ℕ → ℕ → ℕ → ℕ → ℕ → Type 0
-TreeDone s trailer at = NodesDone s (top_nodes (whole_tree s trailer at))
+abbrev pub TreeDone : List ℕ → Group → ℕ → ℕ → Type 0
+TreeDone s g = NodesDone s (top_nodes (whole_tree s g))
 
 -- ---- the scan
 pub record ScanReady (s : List ℕ) (from : ℕ) (index letters : List ℕ) : Type 0 where

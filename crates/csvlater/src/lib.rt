@@ -3,9 +3,7 @@
 
 ghost use Rattle.csvlater.specs.Room as room;
 
-use countlater::{
-    Children, Extent, GROUP_AT, OBJECT_AT, children_at, count, ends_group, parse_entry,
-};
+use countlater::{GROUP_AT, Group, OBJECT_AT, count, ends_group, parse_entry};
 use csvrecord::{Owner, owner_size, record_left};
 use cursor::{STACK_WORDS, top};
 use cursorlater::{past, reported};
@@ -16,12 +14,10 @@ use numbers::u16_at;
 // The type of a control that the scan finds.
 const NO_TYPE: u32 = 0;
 
-// After a group: whether it has a property, how it ended, and what is left of the room; the trailer is 0 where none ended it.
+// A group that was gone through, and what is left of the room after it.
 #[derive(Clone, Copy)]
 pub struct GroupLeft {
-    pub any: bool,
-    pub stop: usize,
-    pub trailer: u32,
+    pub group: Group,
     pub left: usize,
 }
 
@@ -39,33 +35,31 @@ fn group_left(
     ensures { room.GroupDone s.now limit at owner all result }
 {
     let mut p = at;
-    let mut any = false;
+    let mut count: usize = 0;
     let mut left = all;
-    loop {
-        match parse_entry(s, limit, p) {
-            Extent::Outside => {
-                return GroupLeft {
-                    any,
+    while let Some(entry) = parse_entry(s, limit, p) {
+        let shown = property_at(s, p, entry.size);
+        left = record_left(left, owner, index, letters, s, shown);
+        count += 1;
+        p = entry.next;
+        if ends_group(entry.trailer) {
+            return GroupLeft {
+                group: Group {
+                    count,
                     stop: p,
-                    trailer: 0,
-                    left,
-                };
-            }
-            Extent::Inside(size, next, trailer) => {
-                let shown = property_at(s, p, size);
-                left = record_left(left, owner, index, letters, s, shown);
-                any = true;
-                p = next;
-                if ends_group(trailer) {
-                    return GroupLeft {
-                        any: true,
-                        stop: p,
-                        trailer,
-                        left,
-                    };
-                }
-            }
+                    trailer: Some(entry.trailer),
+                },
+                left,
+            };
         }
+    }
+    GroupLeft {
+        group: Group {
+            count,
+            stop: p,
+            trailer: None,
+        },
+        left,
     }
 }
 
@@ -84,9 +78,9 @@ fn sections_left(s: &[u8], n: u32, at: usize, index: &[u32], letters: &[u8], all
             type_code: u16_at(s, c.at) as u32,
         });
         let g = group_left(s, s.len(), c.at + GROUP_AT, index, letters, owner, left);
-        c = reported(s, past(s, &mut stack, c, i, g.trailer, g.stop));
+        c = reported(s, past(s, &mut stack, c, i, g.group));
         left = g.left;
-        i = i + 1;
+        i += 1;
     }
     left
 }
@@ -106,27 +100,23 @@ fn scanned_left(s: &[u8], from: usize, index: &[u32], letters: &[u8], all: usize
             type_code: NO_TYPE,
         });
         let g = group_left(s, limit, a, index, letters, owner, left);
-        if g.any {
+        if 0 < g.group.count {
             left = g.left;
-            i = i + 1;
-            a = limit;
-        } else {
-            a = limit;
+            i += 1;
         }
+        a = limit;
     }
     left
 }
 
-// After the records of the tree after the object's group, which ended by `trailer` at `at`.
-fn tree_left(s: &[u8], trailer: u32, at: usize, index: &[u32], letters: &[u8], all: usize) -> usize
-    requires { room.TreeReady s.now trailer at index.now letters.now }
-    ensures { room.TreeDone s.now trailer at all result }
+// After the records of the tree after the object's group.
+fn tree_left(s: &[u8], own: Group, index: &[u32], letters: &[u8], all: usize) -> usize
+    requires { room.TreeReady s.now own index.now letters.now }
+    ensures { room.TreeDone s.now own all result }
 {
-    match children_at(s, trailer, at) {
-        Children::Bad => all,
-        Children::Of { count, next } => {
-            sections_left(s, count as u32, next, index, letters, all)
-        }
+    match own.children(s) {
+        Some(top) => sections_left(s, top.count as u32, top.next, index, letters, all),
+        None => all,
     }
 }
 
@@ -138,9 +128,9 @@ fn blob_left(s: &[u8], tree: bool, index: &[u32], letters: &[u8], all: usize) ->
     let owner = owner_size(Owner::Object);
     let g = group_left(s, s.len(), OBJECT_AT, index, letters, owner, all);
     if tree {
-        return tree_left(s, g.trailer, g.stop, index, letters, g.left);
+        return tree_left(s, g.group, index, letters, g.left);
     }
-    scanned_left(s, g.stop, index, letters, g.left)
+    scanned_left(s, g.group.stop, index, letters, g.left)
 }
 
 // What is left of a room after the records of a stream.

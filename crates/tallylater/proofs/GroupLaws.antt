@@ -2,7 +2,7 @@
 use Prim.Native.Nat.{ℕ, ◌+◌, ◌≤◌}
 use native.Mathlib.Omega.{arith}
 use mathlib.Core.Path.{◌≡◌, refl, sym, ap, ap₂, subst, ◌∙◌}
-use mathlib.Core.Bool.{Bool, false}
+use mathlib.Core.Bool.{false}
 use mathlib.Core.List.{List, [], ◌∷◌, map}
 use mathlib.Core.Option.{some}
 use lib.ListN.{length}
@@ -25,13 +25,13 @@ use Rattle.tally.specs.Places.{bump, bumps, types_at, property_places, propertie
 use Rattle.tally.proofs.BumpLaws.{bumps-append}
 use Rattle.tally.proofs.Walk.{Same, FewLeft, properties_work, controls_work}
 use Rattle.tallylater.specs.Counting.{group_tally, GroupDone, node_places, node_tally, top_at, tree_tally, SectionsReady, scan_tally}
-use Rattle.tallylater.specs.declared.CountedGroup.{CountedGroup}
+use Rattle.countlater.specs.declared.Group.{Group}
 
 -- ---- a group: what the loop keeps
-abbrev pub Counting : List ℕ → ℕ → ℕ → List ℕ → ℕ → Bool → List ℕ → Type 0
-Counting s limit at old p any words = Grouping (λ q w. bumps w (property_places false (property_of s q))) (group_tally s) (Same old) s limit at old p any words
+abbrev pub Counting : List ℕ → ℕ → ℕ → List ℕ → ℕ → ℕ → List ℕ → Type 0
+Counting s limit at old p n words = Grouping (λ q w. bumps w (property_places false (property_of s q))) (group_tally s) (Same old) s limit at old p n words
 
-pub counting-start : {s : List ℕ} {limit at : ℕ} {old : List ℕ} → Counting s limit at old at false old
+pub counting-start : {s : List ℕ} {limit at : ℕ} {old : List ℕ} → Counting s limit at old at 0 old
 counting-start {s = s} {old = old} = grouping_start (properties_work false (property_of s) old) refl
 
 -- ---- a node: its group, then its type
@@ -39,7 +39,7 @@ places_same : (s : List ℕ) (name : Node Prop → Name) (x : Node Prop) → con
 unfolding control_places control_of node_places
 places_same s name x = refl
 
-module _ {s : List ℕ} {limit at : ℕ} {words now : List ℕ} {g : CountedGroup} (d : GroupDone s limit at words now g) where
+module _ {s : List ℕ} {limit at : ℕ} {words now : List ℕ} {g : Group} (d : GroupDone s limit at words now g) where
   pub node-counted : {type k : ℕ} → type ≡ k → {next : List ℕ} → next ≡ bump now (types_at + type_place type) → next ≡ node_tally s k (props_at s limit at) words
   unfolding node_places
   node-counted {type = type} {k = k} te ne =

@@ -11,14 +11,15 @@ use Rattle.rules.specs.Lists.{concat}
 use Rattle.rules.specs.Answer.{answer, longest}
 use Rattle.rules.specs.Rows.{control_width, property_width}
 use Rattle.rules.specs.Tree.{Node, levels}
-use Rattle.rules.specs.Later.{Prop, children_at, nodes_at, tree_of, nodes_by, later_of_lem}
+use Rattle.rules.specs.Later.{Prop, nodes_at, tree_of, nodes_by, later_of_lem}
 use Rattle.rules.specs.Reading.{Control, properties}
 use Rattle.rules.specs.ReadLater.{read_later_lem}
 use Rattle.rules.specs.Blob.{fit, answer_of}
 use Rattle.rules.specs.declared.Answer.{Answer}
 use Rattle.rows.specs.Acts.{top_nodes}
 use Rattle.rows.specs.Judge as judge
-use Rattle.countlater.specs.Count.{children, whole_tree, Counted}
+use Rattle.countlater.specs.Count.{children, behind, whole_tree, Counted}
+use Rattle.std.specs.Prelude as code
 use Rattle.countlater.specs.declared.Children.{Children}
 use Rattle.countlater.specs.declared.Counts.{Counts}
 use Rattle.countlater.proofs.CountLaws.{object_within}
@@ -30,17 +31,17 @@ use Rattle.cursor.specs.Work.{Ran}
 use Rattle.cursor.proofs.WorkLaws.{ran_some}
 use Rattle.tallylater.specs.Counting as counting
 use Rattle.tallylater.specs.Counting.{GroupReady, GroupDone, TreeReady, TreeDone, tree_tally, SectionsReady, SectionsDone, ScanReady, ScanDone, BlobReady, BlobDone}
-use Rattle.tallylater.specs.declared.CountedGroup.{CountedGroup}
+use Rattle.countlater.specs.declared.Group.{Group}
 
 -- ---- the tree, counted by its top list
-module _ {s : List ℕ} {t p : ℕ} (h : TreeReady s t p) {u : Children} (ue : u ≡ children (children_at s t p)) {n q : ℕ} (uk : u ≡ Children.Of n q) where
-  same : top_nodes (whole_tree s t p) ≡ top_nodes (nodes_at levels s n q)
-  same = tree-same s t p (λ x. length x.0 ≤ longest) h.few ue uk
+module _ {s : List ℕ} {g : Group} (h : TreeReady s g) {b : Children} (e : code.Some b ≡ children (behind s g)) where
+  same : top_nodes (whole_tree s g) ≡ top_nodes (nodes_at levels s b.count b.next)
+  same = tree-same s g (λ x. length x.0 ≤ longest) h.few e
 
-  pub tree-ready : SectionsReady s n q
+  pub tree-ready : SectionsReady s b.count b.next
   tree-ready = record { small = h.small; few = rw same at h.few }
 
-  pub tree-done : {words words' : List ℕ} → SectionsDone s n q words words' → TreeDone s t p words words'
+  pub tree-done : {words words' : List ℕ} → SectionsDone s b.count b.next words words' → TreeDone s g words words'
   tree-done {words = words} {words' = words'} d = record { next = d.next; is = subst (λ o. Ran (tree_tally s) o words words' d.next) (sym same) d.is }
 
 -- ---- the stream
@@ -48,7 +49,7 @@ module _ {s : List ℕ} {tree : Bool} (h : BlobReady s tree) where
   pub own-ready : GroupReady s (length s)
   own-ready = record { inside = omega arith; small = h.small }
 
-  module _ {g : CountedGroup} {words now : List ℕ} (d : GroupDone s (length s) 14 words now g) where
+  module _ {g : Group} {words now : List ℕ} (d : GroupDone s (length s) 14 words now g) where
     -- the nodes are counted after the object's properties
     all_done : (f : Node Prop → Control) → control s ≡ f → {words' : List ℕ} → words' ≡ bumps now (controls_places false (map f (nodes_by s (tree_of s)))) → BlobDone s words words'
     unfolding reading_places
@@ -59,17 +60,17 @@ module _ {s : List ℕ} {tree : Bool} (h : BlobReady s tree) where
           ∙ ap (λ r. bumps words (reading_places false r)) (sym (later-is s h.long));
     }
 
-    pub blob-tree-ready : tree ≡ true → TreeReady s g.trailer g.stop
-    blob-tree-ready b = record { small = h.small; few = rw (tree_is s h.is d.stop_is d.trailer-is b).1 (omega (arith, h.few)) }
+    pub blob-tree-ready : tree ≡ true → TreeReady s g
+    blob-tree-ready b = record { small = h.small; few = rw (tree_is s h.is d.group-is b).1 (omega (arith, h.few)) }
 
-    pub blob-tree-done : tree ≡ true → {words' : List ℕ} → TreeDone s g.trailer g.stop now words' → BlobDone s words words'
-    blob-tree-done b w = all_done (tree_control s) (in_tree s h.is b) (ran_some (tree_is s h.is d.stop_is d.trailer-is b).1 w.is).is
+    pub blob-tree-done : tree ≡ true → {words' : List ℕ} → TreeDone s g now words' → BlobDone s words words'
+    blob-tree-done b w = all_done (tree_control s) (in_tree s h.is b) (ran_some (tree_is s h.is d.group-is b).1 w.is).is
 
     pub blob-scan-ready : ScanReady s g.stop
-    blob-scan-ready = record { small = h.small; within = omega (arith, d.stop_is, object_within s h.long) }
+    blob-scan-ready = record { small = h.small; within = omega (arith, ap (λ g. g.stop) d.group-is, object_within s h.long) }
 
     pub blob-scan-done : tree ≡ false → {words' : List ℕ} → ScanDone s g.stop now words' → BlobDone s words words'
-    blob-scan-done b w = all_done (scanned_control s) (in_scan s h.is b) (w.is ∙ ap (λ (ns : List (Node Prop)). bumps now (controls_places false (map (scanned_control s) ns))) (sym (scan-is s h.is d.stop_is d.trailer-is b)))
+    blob-scan-done b w = all_done (scanned_control s) (in_scan s h.is b) (w.is ∙ ap (λ (ns : List (Node Prop)). bumps now (controls_places false (map (scanned_control s) ns))) (sym (scan-is s h.is d.group-is b)))
 
 -- ---- what is answered
 pub tally-short : (s : List ℕ) (cr pr : ℕ) (words : List ℕ) → length s < 14 → {a : Answer} → a ≡ answer 0 0 0 0 → counting.Counted s cr pr words a words

@@ -14,7 +14,7 @@ use Rattle.later.specs.Groups.{Grouped}
 use Rattle.cursor.specs.Work.{Ran}
 use Rattle.totallaws.proofs.TotalsLaws.{type_place}
 use Rattle.tally.specs.Places.{bumps, types_at, properties_places, reading_places, properties_tally, controls_tally, Tallied}
-use Rattle.tallylater.specs.declared.CountedGroup.{CountedGroup}
+use Rattle.countlater.specs.declared.Group.{Group}
 
 -- ---- a group
 pub record GroupReady (s : List ℕ) (limit : ℕ) : Type 0 where
@@ -24,8 +24,8 @@ pub record GroupReady (s : List ℕ) (limit : ℕ) : Type 0 where
 abbrev pub group_tally : List ℕ → List Prop → List ℕ → List ℕ
 group_tally s = properties_tally false (property_of s)
 
-abbrev pub GroupDone : (s : List ℕ) → ℕ → ℕ → (words words' : List ℕ) → CountedGroup → Type 0
-GroupDone s limit at words words' r = Grouped (group_tally s) s limit at words words' r.any r.stop r.trailer
+abbrev pub GroupDone : (s : List ℕ) → ℕ → ℕ → (words words' : List ℕ) → Group → Type 0
+GroupDone s limit at words words' r = Grouped (group_tally s) s limit at words words' r
 
 -- what is counted of a node: its group, then its type
 unfoldable pub node_places : List ℕ → ℕ → List Prop → List ℕ
@@ -53,12 +53,12 @@ pub record SectionsReady (s : List ℕ) (n at : ℕ) : Type 0 where
 abbrev pub SectionsDone : List ℕ → ℕ → ℕ → (words words' : List ℕ) → Type 0
 SectionsDone s n at words words' = TreeCounted s (top_at s n at) words words'
 
-pub record TreeReady (s : List ℕ) (trailer at : ℕ) : Type 0 where
+pub record TreeReady (s : List ℕ) (g : Group) : Type 0 where
   pub small : length s ≤ longest
-  pub few : Held (λ x. length x.0 ≤ longest) (top_nodes (whole_tree s trailer at))
+  pub few : Held (λ x. length x.0 ≤ longest) (top_nodes (whole_tree s g))
 
-abbrev pub TreeDone : List ℕ → ℕ → ℕ → (words words' : List ℕ) → Type 0
-TreeDone s trailer at words words' = TreeCounted s (top_nodes (whole_tree s trailer at)) words words'
+abbrev pub TreeDone : List ℕ → Group → (words words' : List ℕ) → Type 0
+TreeDone s g words words' = TreeCounted s (top_nodes (whole_tree s g)) words words'
 
 -- ---- the scan
 pub record ScanReady (s : List ℕ) (from : ℕ) : Type 0 where

@@ -5,58 +5,42 @@ ghost use Rattle.std.specs.Prelude.{◌≤◌, length};
 ghost use Rattle.rules.specs.Answer.{longest};
 ghost use Rattle.tallylater.specs.Counting as counting;
 
-use countlater::{
-    Children, Extent, GROUP_AT, OBJECT_AT, children_at, count, ends_group, parse_entry,
-};
+use countlater::{GROUP_AT, Group, OBJECT_AT, count, ends_group, parse_entry};
 use cursor::{STACK_WORDS, top};
 use cursorlater::{past, reported};
 use later::property_at;
 use matchlater::{MATCH_SIZE, find_match};
 use numbers::u16_at;
 use rows::{CONTROL_WIDTH, PROPERTY_WIDTH, counted, judge};
-use rules::Answer;
+use rules::{Answer, READ};
 use tally::{count_property, count_type};
 
 // The type of a control that the scan finds.
 const NO_TYPE: u32 = 0;
 
-// What was counted of a group: whether it has a property, and how it ended; the trailer is 0 where none ended it.
-#[derive(Clone, Copy)]
-pub struct CountedGroup {
-    pub any: bool,
-    pub stop: usize,
-    pub trailer: u32,
-}
-
 // Counts the properties of the group at `at`, which reaches to `limit` at most.
-fn count_group(s: &[u8], limit: usize, at: usize, words: &mut [u32]) -> CountedGroup
+fn count_group(s: &[u8], limit: usize, at: usize, words: &mut [u32]) -> Group
     requires { counting.GroupReady s.now limit }
     ensures { counting.GroupDone s.now limit at words.old words.new result }
 {
     let mut p = at;
-    let mut any = false;
-    loop {
-        match parse_entry(s, limit, p) {
-            Extent::Outside => {
-                return CountedGroup {
-                    any,
-                    stop: p,
-                    trailer: 0,
-                };
-            }
-            Extent::Inside(size, next, trailer) => {
-                count_property(words, false, property_at(s, p, size));
-                any = true;
-                p = next;
-                if ends_group(trailer) {
-                    return CountedGroup {
-                        any: true,
-                        stop: p,
-                        trailer,
-                    };
-                }
-            }
+    let mut count: usize = 0;
+    while let Some(entry) = parse_entry(s, limit, p) {
+        count_property(words, false, property_at(s, p, entry.size));
+        count += 1;
+        p = entry.next;
+        if ends_group(entry.trailer) {
+            return Group {
+                count,
+                stop: p,
+                trailer: Some(entry.trailer),
+            };
         }
+    }
+    Group {
+        count,
+        stop: p,
+        trailer: None,
     }
 }
 
@@ -71,8 +55,8 @@ fn count_sections(s: &[u8], n: u32, at: usize, words: &mut [u32])
     while 0 < c.left {
         let g = count_group(s, s.len(), c.at + GROUP_AT, words);
         count_type(words, u16_at(s, c.at) as u32);
-        c = reported(s, past(s, &mut stack, c, i, g.trailer, g.stop));
-        i = i + 1;
+        c = reported(s, past(s, &mut stack, c, i, g));
+        i += 1;
     }
 }
 
@@ -85,25 +69,20 @@ fn count_scanned(s: &[u8], from: usize, words: &mut [u32])
     while a < s.len() {
         let limit = find_match(s, a + MATCH_SIZE);
         let g = count_group(s, limit, a, words);
-        if g.any {
+        if 0 < g.count {
             count_type(words, NO_TYPE);
-            a = limit;
-        } else {
-            a = limit;
         }
+        a = limit;
     }
 }
 
-// Counts the tree after the object's group, which ended by `trailer` at `at`.
-fn count_tree(s: &[u8], trailer: u32, at: usize, words: &mut [u32])
-    requires { counting.TreeReady s.now trailer at }
-    ensures { counting.TreeDone s.now trailer at words.old words.new }
+// Counts the tree after the object's group.
+fn count_tree(s: &[u8], own: Group, words: &mut [u32])
+    requires { counting.TreeReady s.now own }
+    ensures { counting.TreeDone s.now own words.old words.new }
 {
-    match children_at(s, trailer, at) {
-        Children::Bad => {}
-        Children::Of { count, next } => {
-            count_sections(s, count as u32, next, words);
-        }
+    if let Some(top) = own.children(s) {
+        count_sections(s, top.count as u32, top.next, words);
     }
 }
 
@@ -114,7 +93,7 @@ fn count_blob(s: &[u8], tree: bool, words: &mut [u32])
 {
     let g = count_group(s, s.len(), OBJECT_AT, words);
     if tree {
-        count_tree(s, g.trailer, g.stop, words);
+        count_tree(s, g, words);
     } else {
         count_scanned(s, g.stop, words);
     }
@@ -126,7 +105,7 @@ pub fn tally(stream: &[u8], control_room: u32, property_room: u32, words: &mut [
     ensures { counting.Counted stream.now control_room property_room words.old result words.new }
 {
     if stream.len() < OBJECT_AT {
-        return counted(0, 0, 0, 0);
+        return counted(READ, 0, 0, 0);
     }
     let n = count(stream);
     let control_words = control_room as usize * CONTROL_WIDTH;
@@ -138,7 +117,7 @@ pub fn tally(stream: &[u8], control_room: u32, property_room: u32, words: &mut [
         control_words,
         property_words,
     );
-    if a.number != 0 {
+    if a.number != READ {
         return a;
     }
     count_blob(stream, n.tree, words);
