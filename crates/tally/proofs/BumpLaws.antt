@@ -1,13 +1,13 @@
 -- Places counted one after the other.
-use Prim.Native.Nat.{ℕ, zero, suc, ◌+◌, ◌-◌, ◌*◌, ◌/◌, ◌≤◌, ◌<◌}
+use Prim.Native.Nat.{ℕ, zero, suc, ◌+◌, min, ◌*◌, ◌/◌, ◌≤◌}
 use native.Mathlib.Omega.{arith}
 use mathlib.Core.Path.{◌≡◌, refl, sym, ap, ap₂, ◌∙◌}
-use mathlib.Core.Bool.{Bool, true, false, not, cond, ◌&&◌}
+use mathlib.Core.Bool.{Bool, true, false, cond, ◌&&◌}
 use mathlib.Core.List.{List, [], ◌∷◌, ◌++◌, map}
 use mathlib.Core.Option.{some}
 use lib.Dec.{ltb, leb}
 use lib.ListN.{length, get_or, set, length-set}
-use borrow.Author.Tests.{lt-ltb, le-ltb, le-leb, lt-leb, not-true, not-false}
+use borrow.Author.Tests.{ltb-true, ltb-false}
 use Rattle.rules.specs.Lists.{concat}
 use Rattle.rules.specs.Answer.{more_controls, more_properties, longest}
 use Rattle.rules.specs.Rows.{control_width, property_width}
@@ -16,24 +16,20 @@ use Rattle.rules.specs.Blob.{refused, read, counted, fit, answer_of}
 use Rattle.rules.specs.declared.Answer.{Answer}
 use Rattle.rules.specs.Totals.{ceiling}
 use Rattle.rules.specs.declared.Property.{Property}
-use Rattle.tally.specs.Places.{bump, bumps, marks_at, answer_place, property_places, properties_places, control_places, controls_places, reading_places, Tallied}
-
-pub bump-more : (words : List ℕ) (i n : ℕ) → n ≡ get_or words i 0 → n < ceiling → set words i (n + 1) ≡ bump words i
-unfolding bump
-bump-more words i n e h =
-    let z : get_or words i 0 < ceiling = omega (arith, e) in
-    rw (lt-ltb (get_or words i 0) ceiling z) (ap (λ (m : ℕ). set words i (m + 1)) e)
+use Rattle.tally.specs.Places.{bump, bumps, marks_at, property_places, properties_places, control_places, controls_places, reading_places, Tallied}
 
 set_same : (words : List ℕ) (i : ℕ) → set words i (get_or words i 0) ≡ words
 set_same [] i = refl
 set_same (x ∷ xs) zero = refl
 set_same (x ∷ xs) (suc i) = ap (λ (l : List ℕ). x ∷ l) (set_same xs i)
 
-pub bump_full : (words : List ℕ) (i n : ℕ) → n ≡ get_or words i 0 → ceiling ≤ n → words ≡ bump words i
+pub bump_up : (words : List ℕ) (i n : ℕ) → get_or words i 0 ≤ ceiling → n ≡ min (get_or words i 0 + 1) 4294967295 → set words i n ≡ bump words i
 unfolding bump
-bump_full words i n e h =
-    let z : ceiling ≤ get_or words i 0 = omega (arith, e) in
-    rw (le-ltb (get_or words i 0) ceiling z) (sym (set_same words i))
+bump_up words i n h e = go (ltb (get_or words i 0) ceiling) refl
+  where
+    go : (b : Bool) → ltb (get_or words i 0) ceiling ≡ b → set words i n ≡ set words i (cond b (get_or words i 0 + 1) (get_or words i 0))
+    go true t = let l = ltb-true (get_or words i 0) ceiling t in ap (set words i) (omega (arith, l, e))
+    go false t = let l = ltb-false (get_or words i 0) ceiling t in ap (set words i) (omega (arith, l, h, e))
 
 set_past : (words : List ℕ) (i n : ℕ) → length words ≤ i → set words i n ≡ words
 set_past [] i n h = refl
@@ -58,24 +54,7 @@ unfolding bumps
 bumps-append words [] b = refl
 bumps-append words (i ∷ a) b = bumps-append (bump words i) a b
 
--- ---- an answer
-pub answer-low : (words : List ℕ) (n : ℕ) {now : List ℕ} → now ≡ bump words 0 → n < 4 → now ≡ bump words (answer_place n)
-answer-low words n e h = rw (lt-ltb n 4 h) e
-
-pub answer-high : (words : List ℕ) (n : ℕ) {now : List ℕ} → now ≡ bump words (n - 3) → 4 ≤ n → now ≡ bump words (answer_place n)
-answer-high words n e h = rw (le-ltb n 4 h) e
-
 -- ---- a property
-module _ (in2000 : Bool) (id : ℕ) where
-  pub mapped-later : not in2000 ≡ true → ◌≡◌ {A = ℕ} 38 (cond (in2000 && leb 0x8000 id) 37 38)
-  mapped-later e = rw (not-true in2000 e)
-
-  pub mapped-low : not in2000 ≡ false → id < 0x8000 → ◌≡◌ {A = ℕ} 38 (cond (in2000 && leb 0x8000 id) 37 38)
-  mapped-low e h = rw (not-false in2000 e, lt-leb 0x8000 id h)
-
-  pub unmapped-high : not in2000 ≡ false → 0x8000 ≤ id → ◌≡◌ {A = ℕ} 37 (cond (in2000 && leb 0x8000 id) 37 38)
-  unmapped-high e h = rw (not-false in2000 e, le-leb 0x8000 id h)
-
 pub property-counted : (in2000 : Bool) (p : Property) (words : List ℕ) {now next : List ℕ} {place : ℕ} → place ≡ cond (in2000 && leb 0x8000 p.id) 37 38 → now ≡ bump words place
     → next ≡ bump now (marks_at + p.value.mark) → next ≡ bumps words (property_places in2000 p)
 unfolding bumps

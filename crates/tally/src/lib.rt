@@ -35,14 +35,12 @@ const OTHER_TYPES: usize = 30;
 const LAST_LEFT_OUT: usize = TOO_MANY_ENTRIES as usize;
 
 // One more at a place. A number at the ceiling stays, and so does all where there is no such place.
+#[tactic(auto, using(crate::proofs::BumpLaws::bump_up, crate::proofs::BumpLaws::bump_past))]
 pub fn bump(words: &mut [u32], place: usize)
     ensures { words.new ≡ bump words.old place }
 {
     if place < words.len() {
-        let n = words[place];
-        if n < CEILING {
-            words[place] = n + 1;
-        }
+        words[place] = words[place].saturating_add(1);
     }
 }
 
@@ -53,6 +51,7 @@ fn type_place(type_code: u32) -> usize
     if type_code < FIRST_TYPE {
         return OTHER_TYPES;
     }
+    // Kept: two lists, since place_in looks a code up among codes alone.
     let codes = TYPE_CODES;
     let places = TYPE_PLACES;
     let i = place_in(&codes, type_code);
@@ -70,13 +69,11 @@ pub fn count_type(words: &mut [u32], type_code: u32)
 fn mapping_place(in_2000: bool, id: u32) -> usize
     ensures { result ≡ cond (in_2000 && leb 0x8000 id) 37 38 }
 {
-    if !in_2000 {
-        return MAPPED_AT;
+    if in_2000 && UNMAPPED <= id {
+        UNMAPPED_AT
+    } else {
+        MAPPED_AT
     }
-    if id < UNMAPPED {
-        return MAPPED_AT;
-    }
-    UNMAPPED_AT
 }
 
 // Counts a property, unmapped or mapped and by its mark.
@@ -92,9 +89,10 @@ pub fn count_property(words: &mut [u32], in_2000: bool, p: Property)
 pub fn count_answer(words: &mut [u32], number: u32)
     ensures { words.new ≡ bump words.old (answer_place number) }
 {
-    if number < NO_READING {
-        bump(words, 0);
-        return;
-    }
-    bump(words, number as usize - LAST_LEFT_OUT);
+    let place = if number < NO_READING {
+        0
+    } else {
+        number as usize - LAST_LEFT_OUT
+    };
+    bump(words, place);
 }
