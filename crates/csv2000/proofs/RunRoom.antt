@@ -40,7 +40,7 @@ pub taking_start : {t : List ℕ} {body : Body} {s : List ℕ} {at : ℕ} (owner
 taking_start {t = t} {body = body} {s = s} owner h = run-start (records_work s (shown_in (body_rows t body) s) owner) h.there
 
 -- ---- an entry
-module _ {t scopes s : List ℕ} {at : ℕ} {index letters : List ℕ} (h : NodeReady t scopes s at index letters) (n all : ℕ) {type : ℕ} (te : type ≡ u16 s at)
+module _ {t s : List ℕ} {at : ℕ} {index letters : List ℕ} (h : NodeReady t s at index letters) (n all : ℕ) {type : ℕ} (te : type ≡ u16 s at)
     {body : Body} (be : Finds t 2 type body) {report : Bool} (re : report ≡ is_report s) {code : ℕ} (ce : code ≡ type_code (header t) report type)
     {owner : ℕ} (oe : owner ≡ control_need n code) where
   shown : shown_in (body_rows t body) s ≡ property_in t s (record { kind = 2; code = u16 s at })
@@ -62,7 +62,7 @@ top_work t s = record { visit = controls_work s (control_of t s) }
 abbrev pub Going : List ℕ → List ℕ → ℕ → ℕ → ℕ → List ℕ → Cursor → ℕ → ℕ → Type 0
 Going t s n at all a c i left = Visiting (Ran (controls_left s (control_of t s) 0) (top_at s n at) all) (node_left t s) (controls_left s (control_of t s)) FewLeft s a c i left
 
-pub going_start : {t scopes s : List ℕ} {n at all : ℕ} {index letters : List ℕ} (a : List ℕ) {b r : Cursor} → length a ≡ 512 → TopReady t scopes s n at index letters
+pub going_start : {t s : List ℕ} {n at all : ℕ} {index letters : List ℕ} (a : List ℕ) {b r : Cursor} → length a ≡ 512 → TopReady t s n at index letters
     → b ≡ cursor at 0 n no_parent → Passed (step_at s) is_reported b r → Going t s n at all a r 0 all
 going_start {t = t} {s = s} {n = n} {at = at} {all = all} a l h e p =
     top_start all a (top_work t s) l (held_as (λ x. length x.0 ≤ longest) (λ (y : List (Node Prop) × ℕ). FewLeft 0 y.0 all) (top_at s n at) h.few (λ x f. omega (arith, f))) e p

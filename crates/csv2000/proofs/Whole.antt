@@ -5,12 +5,14 @@ use mathlib.Core.Path.{◌≡◌, ap, ◌∙◌}
 use mathlib.Core.List.{List, map}
 use mathlib.Core.Option.{some}
 use lib.ListN.{length}
+use Rattle.std.proofs.Common.{Option, Some}
 use Rattle.rules.specs.Answer.{longest}
 use Rattle.rules.specs.Tree.{nodes_of}
 use Rattle.rules.specs.Access2000.{head_at_lem}
 use Rattle.rules.specs.Read2000.{object_key, property_in, control_of, read2000}
+use Rattle.rules.specs.Told.{told_as}
 use Rattle.rows.proofs.CountingLaws.{nodes_of_lem}
-use Rattle.coderows.specs.Look.{Listed, Finds, body_rows}
+use Rattle.coderows.specs.Look.{Finds, body_rows}
 use Rattle.coderows.specs.declared.Body.{Body}
 use Rattle.walk2000.specs.Told as walked
 use Rattle.walk2000.specs.declared.Opens.{Opens}
@@ -48,16 +50,16 @@ module _ {t s index letters : List ℕ} (h : StreamReady t s index letters) wher
           own-ran.is ∙ (λ i. all - needs s (we i) (map (f i) is.tree.0))
 
       -- the top list stands after it
-      module _ {o : Opens} (oe : o ≡ walked.head (head_at_lem s own.at)) {n next : ℕ} (k : o ≡ Opens.Listed n next) where
+      module _ {o : Option Opens} (oe : o ≡ told_as walked.head (head_at_lem s own.at)) {n next : ℕ} (k : o ≡ Some (Opens.Listed n next)) where
         there : top_at s n next ≡ some (nodes_of is.tree.1, length s)
         there = top-is is own-end oe k
 
-        pub top_ready : {scopes : List ℕ} → Listed t scopes → TopReady t scopes s n next index letters
-        top_ready listed =
+        pub top_ready : TopReady t s n next index letters
+        top_ready =
             let x = is.tree in
             let m : length (nodes_of x.1) ≤ longest = omega (arith, few t s x is.reads, h.small, nodes_of_lem x.1) in
             record {
-              known = record { formed = h.formed; listed = listed; small = h.small };
+              known = record { formed = h.formed; small = h.small };
               few = rw there m;
               lent = h.lent;
             }

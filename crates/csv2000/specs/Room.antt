@@ -11,7 +11,7 @@ use Rattle.coderows.specs.Look.{Sorted, body_rows}
 use Rattle.coderows.specs.declared.Body.{Body}
 use Rattle.names.specs.Lookup.{Lent}
 use Rattle.run2000.specs.Runs.{shown_in}
-use Rattle.node2000.specs.Nodes.{Given}
+use Rattle.shown2000.specs.Next.{Given}
 use Rattle.form2000.specs.Acts.{top_at}
 use Rattle.cursor.specs.Work.{Ran}
 use Rattle.csvwalk.specs.Needs.{sheet_need, records_left, controls_left, node_need}
@@ -28,8 +28,8 @@ abbrev pub RunDone : (t : List ℕ) → Body → (s : List ℕ) → ℕ → ℕ 
 RunDone t body s at owner all r = Ran (records_left s (shown_in (body_rows t body) s) owner) (run_at s at) all r.left r.at
 
 -- ---- an entry without its list
-pub record NodeReady (t scopes s : List ℕ) (at : ℕ) (index letters : List ℕ) : Type 0 where
-  pub known : Given t scopes s
+pub record NodeReady (t s : List ℕ) (at : ℕ) (index letters : List ℕ) : Type 0 where
+  pub known : Given t s
   pub inside : at + 1 < length s
   pub there : Held (λ _. Unit {0}) (run_at s (at + 2))
   pub lent : Lent index letters
@@ -42,8 +42,8 @@ abbrev pub NodeDone : (t s : List ℕ) → ℕ → ℕ → ℕ → Left → Type
 NodeDone t s at n all r = Ran (node_left t s n (u16 s at)) (run_at s (at + 2)) all r.left r.at
 
 -- ---- the top list
-pub record TopReady (t scopes s : List ℕ) (n at : ℕ) (index letters : List ℕ) : Type 0 where
-  pub known : Given t scopes s
+pub record TopReady (t s : List ℕ) (n at : ℕ) (index letters : List ℕ) : Type 0 where
+  pub known : Given t s
   pub few : Held (λ x. length x.0 ≤ longest) (top_at s n at)
   pub lent : Lent index letters
 

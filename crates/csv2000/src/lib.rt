@@ -1,10 +1,10 @@
 // What an Access 2000 stream's records take of a room, by a walk that keeps no row.
 #![tactic(auto)]
 
+ghost use Rattle.std.specs.Prelude.{◌≡◌};
 ghost use Rattle.csv2000.specs.Room as room;
 
-use codehints::{HINTS, find_scope};
-use coderows::{Body, SCOPE_LIST_WORDS, list_scopes};
+use coderows::Body;
 use count2000::OBJECT_RUN;
 use csvrecord::{Owner, owner_size, record_left};
 use cursor::{STACK_WORDS, top};
@@ -12,9 +12,9 @@ use cursor2000::{past, reported};
 use form2000::object_scope;
 use node2000::{is_report, type_code};
 use numbers::u16_at;
-use rules::{LAST_ID, SCOPE_ENTRY};
-use shown2000::property;
-use walk2000::{Extent, Opens, head, value};
+use rules::SCOPE_ENTRY;
+use shown2000::{Scopes, property, stored_at};
+use walk2000::{Opens, head};
 
 // The place after a run or an entry, and what is left of the room.
 #[derive(Clone, Copy)]
@@ -39,26 +39,17 @@ fn run_left(
 {
     let mut p = at;
     let mut left = all;
-    while p < s.len() {
-        let id = s[p];
-        if LAST_ID < id {
-            return Left { at: p, left };
-        }
-        let Extent::At { start, size } = value(s, p) else {
-            return Left { at: p, left };
-        };
-        let shown = property(table, body, s, id, start, size);
+    while let Some(q) = stored_at(s, p) {
+        let shown = property(table, body, s, q);
         left = record_left(left, owner, index, letters, s, shown);
-        p = start + size;
+        p = q.start + q.size;
     }
     Left { at: p, left }
 }
 
 // After the records of the entry at `at`, which is control `n`, without its list.
 fn node_left(
-    table: &[u8],
-    hints: &mut [u8; HINTS],
-    scopes: &[u32; SCOPE_LIST_WORDS],
+    scopes: &mut Scopes,
     s: &[u8],
     at: usize,
     index: &[u32],
@@ -66,11 +57,13 @@ fn node_left(
     n: u32,
     all: usize,
 ) -> Left
-    requires { room.NodeReady table.now scopes.now s.now at index.now letters.now }
-    ensures { room.NodeDone table.now s.now at n all result }
+    requires { room.NodeReady scopes.old.table.now s.now at index.now letters.now }
+    ensures same { scopes.new.table.now ≡ scopes.old.table.now }
+    ensures left { room.NodeDone scopes.old.table.now s.now at n all result }
 {
     let entry_type = u16_at(s, at);
-    let body = find_scope(table, hints, scopes, SCOPE_ENTRY, entry_type);
+    let body = scopes.find(SCOPE_ENTRY, entry_type);
+    let table = scopes.table;
     let owner = owner_size(Owner::Control {
         number: n,
         type_code: type_code(table, is_report(s), entry_type),
@@ -80,9 +73,7 @@ fn node_left(
 
 // After the records of what is reported of the top list, which has `n` entries from `at` on.
 fn top_left(
-    table: &[u8],
-    hints: &mut [u8; HINTS],
-    scopes: &[u32; SCOPE_LIST_WORDS],
+    scopes: &mut Scopes,
     s: &[u8],
     n: u32,
     at: usize,
@@ -90,18 +81,18 @@ fn top_left(
     letters: &[u8],
     all: usize,
 ) -> usize
-    requires { room.TopReady table.now scopes.now s.now n at index.now letters.now }
-    ensures { room.TopDone table.now s.now n at all result }
+    requires { room.TopReady scopes.old.table.now s.now n at index.now letters.now }
+    ensures { room.TopDone scopes.old.table.now s.now n at all result }
 {
     let mut stack = [0; STACK_WORDS];
     let mut c = reported(s, top(at, n));
     let mut i: u32 = 0;
     let mut left = all;
     while 0 < c.left {
-        let e = node_left(table, hints, scopes, s, c.at, index, letters, i, left);
+        let e = node_left(scopes, s, c.at, index, letters, i, left);
         c = reported(s, past(s, &mut stack, c, i, e.at));
         left = e.left;
-        i = i + 1;
+        i += 1;
     }
     left
 }
@@ -111,26 +102,21 @@ pub fn sheet_left(table: &[u8], s: &[u8], index: &[u32], letters: &[u8], all: us
     requires { room.StreamReady table.now s.now index.now letters.now }
     ensures { room.StreamDone table.now s.now all result }
 {
-    let mut hints = [0; HINTS];
-    let mut scopes = [0; SCOPE_LIST_WORDS];
-    list_scopes(table, &mut scopes);
-    let body = find_scope(table, &mut hints, &scopes, object_scope(s), 0);
+    let mut scopes = Scopes::of(table);
+    let body = scopes.find(object_scope(s), 0);
     let owner = owner_size(Owner::Object);
     let own = run_left(table, body, s, OBJECT_RUN, index, letters, owner, all);
-    let left = own.left;
     match head(s, own.at) {
-        Opens::Listed { count, next } => top_left(
-            table,
-            &mut hints,
-            &scopes,
+        Some(Opens::Listed { count, next }) => top_left(
+            &mut scopes,
             s,
             count as u32,
             next,
             index,
             letters,
-            left,
+            own.left,
         ),
-        Opens::Plain { next: _ } => left,
-        Opens::Bad => left,
+        Some(Opens::Plain { .. }) => own.left,
+        None => own.left,
     }
 }
