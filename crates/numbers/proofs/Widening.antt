@@ -2,7 +2,7 @@
 use mathlib.Core.Path.{◌≡◌, refl, sym, ap, ap₂, subst, ◌∙◌}
 use mathlib.Core.Bool.{Bool, true, false, not, ◌&&◌}
 use Prim.Native.Nat.{ℕ, ◌+◌, ◌*◌, ◌/◌, ◌%◌, ◌^◌, ◌<◌, ◌≤◌}
-use native.Mathlib.Nat.{add_assoc, mod-eq_of_lt}
+use native.Mathlib.Nat.{add_assoc, mod-eq_of_lt, div-add-mod'}
 use native.Mathlib.Omega.{arith}
 use borrow.Author.Tests.{lt-ltb, le-ltb}
 use lib.Arith.{digits_mod}
@@ -12,6 +12,7 @@ use lib.Ieee.{Float, nan, inf, fin, binary32, binary64, of_bits, to_bits, nan_bi
 use lib.Ieee.Bits.{nan_bits_is, nan_bits_above, of_bits-fits, of_bits-to_bits}
 use lib.Ieee.Fits.{fits_widens, and_i}
 use Rattle.rules.specs.Value.{widened, widened_nan}
+use Rattle.numbers.specs.Wide.{words_of, bits_of}
 
 -- ---- the fraction of a NaN
 or_least : (a b : ℕ) → a ≤ bit_or a b
@@ -76,9 +77,9 @@ module _ (b : ℕ) (h : b % 2147483648 ≤ 2139095040) where
   pub loses_nothing : T (fits binary64 (of_bits binary32 b) && not (is_nan (of_bits binary32 b)))
   loses_nothing = and_i (fits binary64 (of_bits binary32 b)) (not (is_nan (of_bits binary32 b))) (fits_double b) not_nan
 
-  pub number-widened : to_bits binary64 (of_bits binary32 b) ≡ widened b
+  pub number_widened : to_bits binary64 (of_bits binary32 b) ≡ widened b
   unfolding widened
-  number-widened = rw number
+  number_widened = rw number
 
 module _ (b : ℕ) (h : 2139095040 < b % 2147483648) where
   pub nan_widened : widened_nan b ≡ widened b
@@ -93,5 +94,11 @@ same_by b true e =
     ∙ sym (only_nan (of_bits binary32 b) (sym (nan_bits_is binary32 b) ∙ e)))
 same_by b false e = rw e (of_bits-to_bits binary64 (of_bits binary32 b) (fits_double b))
 
-pub same-value : (b : ℕ) → of_bits binary64 (widened b) ≡ of_bits binary32 b
-same-value b = same_by b (nan_bits binary32 b) refl
+same_value : (b : ℕ) → of_bits binary64 (widened b) ≡ of_bits binary32 b
+same_value b = same_by b (nan_bits binary32 b) refl
+
+-- the two words of the widened bits are those bits
+pub same_words : (w b : ℕ) → w ≡ widened b → of_bits binary64 (bits_of (words_of w)) ≡ of_bits binary32 b
+same_words w b e =
+    let z : w / 4294967296 * 4294967296 + w % 4294967296 ≡ w = div-add-mod' w 4294967296 in
+    ap (λ (n : ℕ). of_bits binary64 n) (z ∙ e) ∙ same_value b

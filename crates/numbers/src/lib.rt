@@ -151,6 +151,7 @@ pub struct Wide {
 }
 
 // A NaN keeps its sign and fraction; the OR sets the fraction's top bit, whatever it was.
+#[tactic(auto, using(crate::proofs::Widening::nan_fits, crate::proofs::Widening::fraction_fits, crate::proofs::Widening::nan_is))]
 fn widen_nan(low: u32) -> u64
     ensures { result ≡ widened_nan low }
 {
@@ -160,6 +161,7 @@ fn widen_nan(low: u32) -> u64
     sign + 0x7ff0_0000_0000_0000 + fraction
 }
 
+#[tactic(auto, using(crate::proofs::Widening::not_nan_bits, crate::proofs::Widening::not_nan, crate::proofs::Widening::loses_nothing, crate::proofs::Widening::nan_widened, crate::proofs::Widening::number_widened))]
 fn widen_bits(low: u32) -> u64
     ensures { result ≡ widened low }
 {
@@ -172,6 +174,7 @@ fn widen_bits(low: u32) -> u64
 }
 
 // The double of a single: its bits, and that nothing is rounded.
+#[tactic(auto, using(crate::proofs::Widening::same_words))]
 pub fn widen(low: u32) -> Wide
     ensures value { result ≡ words_of (widened low) }
     ensures exact { of_bits binary64 (bits_of result) ≡ of_bits binary32 low }
