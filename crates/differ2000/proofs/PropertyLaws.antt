@@ -1,10 +1,11 @@
 -- A property told by two look-ups: it differs where the older table doesn't tie its id and the newer does.
 use Prim.Native.Nat.{ℕ, ◌+◌, ◌≤◌, ◌<◌}
-use native.Mathlib.Omega.{arith}
 use mathlib.Core.Path.{◌≡◌, refl, sym, ap, ◌∙◌}
 use mathlib.Core.Bool.{false, cond}
 use mathlib.Core.List.{List, [], ◌∷◌}
-use mathlib.Core.Option.{Option, none, some}
+use mathlib.Core.Option.{none, some}
+use mathlib.Core.Option as maybe
+use Rattle.std.proofs.Common.{Option, Some, None}
 use lib.Bits.{bit_or}
 use lib.Dec.{ltb}
 use borrow.Author.Tests.{lt-ltb, le-ltb}
@@ -16,16 +17,16 @@ use Rattle.rules.specs.Differences.{differs, difference_row}
 use Rattle.rules.specs.declared.Property.{Property}
 use Rattle.rules.proofs.CodeTableLaws.{found-held, unmapped_large, target_small}
 use Rattle.differlaws.proofs.DifferencesLaws.{learned, differs-learned}
-use Rattle.coderows.specs.Look.{Sorted, body_rows, as_row}
-use Rattle.coderows.specs.declared.Row.{Row}
-use Rattle.coderows.specs.declared.Row.TheVariants.{Tied, Untied}
-use Rattle.run2000.specs.Runs.{prop, shown_in, Inside}
+use Rattle.rules.proofs.ToldLaws.{told_as_some, told_as_none}
+use Rattle.coderows.specs.Look.{Sorted, body_rows, tie_of, as_row}
+use Rattle.coderows.specs.declared.Tie as tied_row
+use Rattle.run2000.specs.Runs.{prop, prop_of, shown_in, Inside}
+use Rattle.run2000.specs.declared.Stored.{Stored}
 use Rattle.run2000.proofs.Written.{shown-same}
 use Rattle.differ2000.specs.declared.Difference.{Difference}
 use Rattle.differ2000.specs.declared.Place.{Place}
 use Rattle.differ2000.specs.declared.Scope.{Scope}
-use Rattle.differ2000.specs.declared.Stored.{Stored}
-use Rattle.differ2000.specs.Listing.{listing, words, put_fit, list_site, Tables, key_of, prop_of, UntiedReady, untied_row, UntiedDone, FoundScope, PropertyDone}
+use Rattle.differ2000.specs.Listing.{listing, words, put_fit, list_site, Tables, key_of, UntiedReady, untied_row, UntiedDone, FoundScope, PropertyDone}
 
 -- ---- what differs
 module _ {older newer : List ℕ} (T : Tables older newer) (s : List ℕ) (key : ScopeKey) (q : Prop) where
@@ -40,7 +41,7 @@ module _ {older newer : List ℕ} (T : Tables older newer) (s : List ℕ) (key :
     unfolding property_in
     untied-told = told ∙ ap (λ o. learned older newer s o (tied newer key q.id)) e ∙ go (tied newer key q.id) refl
       where
-        go : (o : Option Tie) → tied newer key q.id ≡ o → learned older newer s none o ≡ ltb (shown s q o).id 0x8000
+        go : (o : maybe.Option Tie) → tied newer key q.id ≡ o → learned older newer s none o ≡ ltb (shown s q o).id 0x8000
         go none k = sym (le-ltb (bit_or 0x8000 q.id) 0x8000 (unmapped_large q.id))
         go (some r) k = sym (lt-ltb r.target 0x8000 (target_small newer key.kind key.code r T.newer-formed (found-held newer key.kind key.code q.id r k).0))
 
@@ -49,39 +50,22 @@ module _ {older newer : List ℕ} (T : Tables older newer) (s : List ℕ) (key :
     older-id = ap (λ o. (shown s q o).id) e
 
 -- ---- what a look-up tells
-module _ {r : Row} {o : Option Tie} (e : r ≡ as_row o) where
-  pub row-none : r ≡ Untied → o ≡ none
-  unfolding as_row
-  row-none k = go o (sym e ∙ k)
-    where
-      go : (o : Option Tie) → as_row o ≡ Untied → o ≡ none
-      go none h = refl
-      go (some q) h = absurd (let z : ◌≡◌ {A = ℕ} 0 1 = cc in omega arith)
-
-  pub row_some : {x k : ℕ} → r ≡ Tied x k → (q : Tie) × (o ≡ some q)
-  unfolding as_row
-  row_some {x = x} {k = k} h = go o refl (sym e ∙ h)
-    where
-      go : (p : Option Tie) → o ≡ p → as_row p ≡ Tied x k → (q : Tie) × (o ≡ some q)
-      go none g h = absurd (let z : ◌≡◌ {A = ℕ} 0 1 = cc in omega arith)
-      go (some q) g h = (q, g)
-
-module _ {older newer : List ℕ} {scope : Scope} (F : FoundScope older newer scope) (s : List ℕ) (from : Place) (p : Stored) {r : Row}
+module _ {older newer : List ℕ} {scope : Scope} (F : FoundScope older newer scope) (s : List ℕ) (from : Place) (p : Stored) {r : Option tied_row.Tie}
     (look : Sorted (body_rows older scope.older) → r ≡ as_row (find (is_tied p.id) (body_rows older scope.older))) where
   looked : r ≡ as_row (tied older (key_of scope) p.id)
   unfolding row_of
   looked = look (F.older-rows.sorted F.tables.older-formed) ∙ ap (λ ties. as_row (find (is_tied p.id) ties)) (F.older-rows.rows F.tables.older-formed)
 
-  pub property-tied : (rows : List ℕ) {x k : ℕ} → r ≡ Tied x k → PropertyDone older newer scope s rows from p rows from.listed
+  pub property-tied : (rows : List ℕ) {x : tied_row.Tie} → r ≡ Some x → PropertyDone older newer scope s rows from p rows from.listed
   unfolding list_site
   property-tied rows h =
-      let f = row_some looked h in
+      let f = told_as_some tie_of (tied older (key_of scope) p.id) r looked h in
       record { is = rw (tied-same F.tables s (key_of scope) (prop_of p) f.0 f.1) refl }
 
-  pub property-untied : (rows rows' : List ℕ) (n : ℕ) → r ≡ Untied → UntiedDone newer scope s rows from p rows' n → PropertyDone older newer scope s rows from p rows' n
+  pub property-untied : (rows rows' : List ℕ) (n : ℕ) → r ≡ None → UntiedDone newer scope s rows from p rows' n → PropertyDone older newer scope s rows from p rows' n
   unfolding list_site difference_row
   property-untied rows rows' n h d =
-      let e = row-none looked h in
+      let e = told_as_none tie_of (tied older (key_of scope) p.id) r looked h in
       let b = untied-told F.tables s (key_of scope) (prop_of p) e in
       let i = older-id F.tables s (key_of scope) (prop_of p) e in
       let q = property_in newer s (key_of scope) (prop_of p) in
@@ -105,7 +89,7 @@ module _ {newer : List ℕ} {scope : Scope} {s : List ℕ} {from : Place} {p : S
         let k : 0x8000 ≤ (property_in newer s (key_of scope) (prop_of p)).id = rw shown-is at l in
         record { is = rw (le-ltb (property_in newer s (key_of scope) (prop_of p)).id 0x8000 k) refl }
 
-    starts : (o : Option Tie) → ((shown s (prop_of p) o).start ≡ p.start) × ((shown s (prop_of p) o).size ≡ p.size)
+    starts : (o : maybe.Option Tie) → ((shown s (prop_of p) o).start ≡ p.start) × ((shown s (prop_of p) o).size ≡ p.size)
     starts none = (refl, refl)
     starts (some r) = (refl, refl)
 

@@ -2,19 +2,16 @@
 use Prim.Native.Nat.{ℕ, ◌+◌, ◌≤◌}
 use native.Mathlib.Omega.{arith}
 use mathlib.Core.Path.{◌≡◌, refl, ap, ◌∙◌}
-use mathlib.Core.Bool.{true}
 use mathlib.Core.List.{List}
 use lib.ListN.{length}
-use Rattle.rules.specs.Bytes.{byte, u16}
+use Rattle.rules.specs.Bytes.{u16}
 use Rattle.rules.specs.Answer.{longest}
-use Rattle.rules.specs.Access2000.{Prop, property_at, goes_on_lem, run_at}
+use Rattle.rules.specs.Access2000.{Prop, run_at}
 use Rattle.rules.specs.Read2000.{entry_key}
 use Rattle.coderows.specs.Look.{Finds}
 use Rattle.coderows.specs.declared.Body.{Body}
-use Rattle.walk2000.specs.Told as walked
-use Rattle.walk2000.specs.declared.Extent.{Extent}
-use Rattle.walk2000.proofs.Runs.{ends}
-use Rattle.run2000.proofs.Sizes.{value-sized}
+use Rattle.run2000.specs.declared.Stored.{Stored}
+use Rattle.shown2000.proofs.NextLaws.{Goes}
 use Rattle.cursor.specs.Work.{Ran}
 use Rattle.cursor.proofs.WorkLaws.{Work, held_as, ran_as}
 use Rattle.form2000.proofs.Visits.{Running, run-start, run_asks, run_on}
@@ -59,28 +56,28 @@ listed_start {older = older} {newer = newer} {scope = scope} {s = s} {rows = row
 
 -- a property more
 module _ {older newer : List ℕ} {scope : Scope} {s : List ℕ} {control at : ℕ} {old : Listing} {p : ℕ} {rows : List ℕ} {listed property : ℕ} (k : Listed older newer scope s control at old p (listing rows listed property))
-    {r : Extent} (goes : goes_on_lem s p ≡ true) (re : r ≡ walked.value (property_at s p)) {st sz : ℕ} (e : r ≡ Extent.At st sz) where
+    {q : Stored} (g : Goes s p q) where
   pub listed-few : property + 1 ≤ longest
-  listed-few = run_asks k.goes goes re e (λ qs h. omega (arith, h.few))
+  listed-few = run_asks k.goes g.on refl g.told (λ qs h. omega (arith, h.few))
 
   pub listed-ready : {from : Place} → RunReady older newer scope s from
-      → PropertyReady older newer scope s (record { at = p; control = control; property = property; listed = listed }) (record { id = byte s p; start = st; size = sz })
+      → PropertyReady older newer scope s (record { at = p; control = control; property = property; listed = listed }) q
   listed-ready h = record {
     stored = record {
       small = h.small;
-      inside = (ends _ _ _ _ _ re e).1;
-      sized = value-sized _ _ _ _ _ re e;
-      few = run_asks k.goes goes re e (λ qs f. omega (arith, f.few, f.listed-few));
+      inside = g.inside;
+      sized = g.sized;
+      few = run_asks k.goes g.on refl g.told (λ qs f. omega (arith, f.few, f.listed-few));
     };
     found = h.found;
   }
 
-  pub listed-on : {rows' : List ℕ} {n : ℕ} → PropertyDone older newer scope s rows (record { at = p; control = control; property = property; listed = listed }) (record { id = byte s p; start = st; size = sz }) rows' n
-      → Listed older newer scope s control at old (st + sz) (listing rows' n (property + 1))
-  listed-on d = record { goes = run_on k.goes goes re e d.is }
+  pub listed-on : {rows' : List ℕ} {n : ℕ} → PropertyDone older newer scope s rows (record { at = p; control = control; property = property; listed = listed }) q rows' n
+      → Listed older newer scope s control at old (q.start + q.size) (listing rows' n (property + 1))
+  listed-on d = record { goes = run_on k.goes g.on refl g.told (rw g.id-is d.is) }
 
 -- ---- an entry
-module _ {older newer olds news s : List ℕ} {from : Place} (h : NodeReady older newer olds news s from) {code : ℕ} (ce : code ≡ u16 s from.at)
+module _ {older newer s : List ℕ} {from : Place} (h : NodeReady older newer s from) {code : ℕ} (ce : code ≡ u16 s from.at)
     {inOlder inNewer : Body} (oe : Finds older 2 code inOlder) (ne : Finds newer 2 code inNewer) where
   abbrev scope : Scope
   scope = record { kind = 2; code = code; older = inOlder; newer = inNewer }

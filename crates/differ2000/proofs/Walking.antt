@@ -14,7 +14,7 @@ use Rattle.rows.specs.Counting.{props_in}
 use Rattle.cursor.specs.Cursors.{cursor, Passed}
 use Rattle.cursor.specs.Work.{RanOf, Ran}
 use Rattle.cursor.specs.declared.Cursor.{Cursor}
-use Rattle.cursor.proofs.RowLaws.{left}
+use Rattle.cursor.proofs.LeftLaws.{left}
 use Rattle.cursor.proofs.VisitLaws.{EntryWork}
 use Rattle.cursor.proofs.WorkLaws.{held_as}
 use Rattle.cursor2000.specs.Steps.{step_at}
@@ -47,8 +47,8 @@ top_work older newer s old = record {
 pub record Going (older newer s : List ℕ) (o : Nodes Prop) (old : Listing) (a : List ℕ) (c : Cursor) (i : ℕ) (st : Listing) : Type 0 where
   pub goes : Visiting (Ran (top_list older newer s 0) o old) (node_list older newer s) (top_list older newer s) (FewLeft old) s a c i st
 
-pub going_start : {older newer olds news s : List ℕ} {n : ℕ} {rows : List ℕ} {from : Place} (a : List ℕ) {b r : Cursor} → length a ≡ 512
-    → TopReady older newer olds news s n from → b ≡ cursor from.at 0 n no_parent → Passed (step_at s) is_reported b r
+pub going_start : {older newer s : List ℕ} {n : ℕ} {rows : List ℕ} {from : Place} (a : List ℕ) {b r : Cursor} → length a ≡ 512
+    → TopReady older newer s n from → b ≡ cursor from.at 0 n no_parent → Passed (step_at s) is_reported b r
     → Going older newer s (left (step_at s) 0 a r) (listing_at rows from) a r 0 (listing_at rows from)
 going_start {older = older} {newer = newer} {s = s} {n = n} {rows = rows} {from = from} a {r = r} l h e k =
     let old = listing_at rows from in
@@ -64,7 +64,7 @@ module _ {older newer s : List ℕ} {o : Nodes Prop} {old : Listing} {a : List �
   pub going-few : control < longest
   going-few = top_asks g.goes l (λ xs h. omega (arith, h.few))
 
-  pub going-ready : {olds news : List ℕ} → Given older newer olds news s → NodeReady older newer olds news s (record { at = c.at; control = control; property = property; listed = listed })
+  pub going-ready : Given older newer s → NodeReady older newer s (record { at = c.at; control = control; property = property; listed = listed })
   unfolding props_in
   going-ready known = top_asks g.goes l (λ xs h. record { known = known; inside = (its g.goes l).inside; few = rw (its g.goes l).run_is (omega (arith, h.few)); listed-few = h.listed-few })
 

@@ -5,14 +5,16 @@ use mathlib.Core.Path.{◌≡◌, sym, ap, ◌∙◌}
 use mathlib.Core.List.{List, map}
 use mathlib.Core.Option.{some}
 use lib.ListN.{length, length-map}
+use Rattle.std.proofs.Common.{Option, Some}
 use Rattle.rules.specs.Tree.{nodes_of}
 use Rattle.rules.specs.Access2000.{head_at_lem}
 use Rattle.rules.specs.Read2000.{object_key, spot_in}
 use Rattle.rules.specs.Rows.{difference_width, written}
 use Rattle.rules.specs.Differences.{Site, site_in, no_control, node_sites, sites_of, sites_in, sites, differences_from}
+use Rattle.rules.specs.Told.{told_as}
 use Rattle.rows.proofs.PutLaws.{written-put}
 use Rattle.rows.proofs.CountingLaws.{nodes_of_lem, props_of_lem}
-use Rattle.coderows.specs.Look.{Listed, Finds}
+use Rattle.coderows.specs.Look.{Finds}
 use Rattle.coderows.specs.declared.Body.{Body}
 use Rattle.walk2000.specs.Told as walked
 use Rattle.walk2000.specs.declared.Opens.{Opens}
@@ -68,18 +70,18 @@ module _ {older newer s : List ℕ} (h : StreamReady older newer s) where
           let z : 0 ≤ 0 = omega arith in (omega (arith, p, g.property-is, m), omega (arith, p, q, g.few z))
 
       -- the top list stands after it
-      module _ {o : Opens} (he : o ≡ walked.head (head_at_lem s own.at)) {n next : ℕ} (k : o ≡ Opens.Listed n next) where
+      module _ {o : Option Opens} (he : o ≡ told_as walked.head (head_at_lem s own.at)) {n next : ℕ} (k : o ≡ Some (Opens.Listed n next)) where
         there : top_at s n next ≡ some (nodes_of is.tree.1, length s)
         there = top-is is own-end he k
 
         abbrev start : Place
         start = record { at = next; control = 0; property = own.property; listed = own.listed }
 
-        pub top_ready : {olds news : List ℕ} → Listed older olds → Listed newer news → TopReady older newer olds news s n start
-        top_ready ol nl =
+        pub top_ready : TopReady older newer s n start
+        top_ready =
             let x = is.tree in
             record {
-              known = record { tables = h.tables; older-listed = ol; newer-listed = nl; small = h.small };
+              known = record { tables = h.tables; small = h.small };
               few = rw there (omega (arith, few older s x is.reads, h.small, nodes_of_lem x.1, props_of_lem x.1, own-many.0));
               listed-few = own-many.1;
             }

@@ -14,14 +14,15 @@ use Rattle.propvalue.specs.Sized.{Sized}
 use Rattle.rows.specs.Put.{put}
 use Rattle.rows.specs.Acts.{Held}
 use Rattle.rows.specs.Counting.{props_in}
-use Rattle.coderows.specs.Look.{Listed, Finds}
-use Rattle.run2000.specs.Runs.{prop}
+use Rattle.coderows.specs.Look.{Finds}
+use Rattle.run2000.specs.Runs.{prop_of}
+use Rattle.run2000.specs.declared.Stored.{Stored}
+use Rattle.shown2000.specs.declared.Scopes.{Scopes}
 use Rattle.cursor.specs.Work.{Ran}
 use Rattle.form2000.specs.Acts.{top_at}
 use Rattle.differ2000.specs.declared.Difference.{Difference}
 use Rattle.differ2000.specs.declared.Place.{Place}
 use Rattle.differ2000.specs.declared.Scope.{Scope}
-use Rattle.differ2000.specs.declared.Stored.{Stored}
 
 -- ---- a list, as far as it is written
 pub record Listing : Type 0 where
@@ -63,9 +64,6 @@ pub record Tables (older newer : List ℕ) : Type 0 where
 -- ---- a property
 abbrev pub key_of : Scope → ScopeKey
 key_of x = record { kind = x.kind; code = x.code }
-
-abbrev pub prop_of : Stored → Prop
-prop_of p = prop p.id p.start p.size
 
 -- a value within a stream that isn't too long, as long as its id tells, and a list that has room for numbers
 pub record StoredReady (s : List ℕ) (from : Place) (p : Stored) : Type 0 where
@@ -127,14 +125,17 @@ pub record RunDone (older newer : List ℕ) (scope : Scope) (s rows : List ℕ) 
   pub is : Ran (run_list older newer s (key_of scope) from.control) (run_at s from.at) (listing_at rows from) (listing_at rows' r) r.at
 
 -- ---- an entry without its list
-pub record Given (older newer olds news s : List ℕ) : Type 0 where
+pub record Given (older newer s : List ℕ) : Type 0 where
   pub tables : Tables older newer
-  pub older-listed : Listed older olds
-  pub newer-listed : Listed newer news
   pub small : length s ≤ longest
 
-pub record NodeReady (older newer olds news s : List ℕ) (from : Place) : Type 0 where
-  pub known : Given older newer olds news s
+-- the tables that are looked through stay the same
+pub record SameTables (older newer older' newer' : Scopes) : Type 0 where
+  pub older-same : older'.table.now ≡ older.table.now
+  pub newer-same : newer'.table.now ≡ newer.table.now
+
+pub record NodeReady (older newer s : List ℕ) (from : Place) : Type 0 where
+  pub known : Given older newer s
   pub inside : from.at + 1 < length s
   pub few : FewProps from (run_at s (from.at + 2))
   pub listed-few : from.listed ≤ from.property
@@ -150,8 +151,8 @@ pub record NodeDone (older newer s rows : List ℕ) (from : Place) (rows' : List
 abbrev pub top_list : List ℕ → List ℕ → List ℕ → ℕ → List (Node Prop) → Listing → Listing
 top_list older newer s n xs st = list_sites older newer s (node_sites n xs) st
 
-pub record TopReady (older newer olds news s : List ℕ) (n : ℕ) (from : Place) : Type 0 where
-  pub known : Given older newer olds news s
+pub record TopReady (older newer s : List ℕ) (n : ℕ) (from : Place) : Type 0 where
+  pub known : Given older newer s
   pub few : Held (λ y. from.property + (length y.0 + props_in y.0) ≤ longest) (top_at s n from.at)
   pub listed-few : from.listed ≤ from.property
 

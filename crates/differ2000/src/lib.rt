@@ -1,22 +1,20 @@
 // The properties of an Access 2000 stream that a newer code table shows otherwise than the older that it succeeds: one walk, two look-ups for each property. No row of a reading is kept.
 #![tactic(auto)]
 
-ghost use Rattle.std.specs.Prelude.{◌≡◌, [], ◌∷◌, ◌+◌, ◌*◌, ◌≤◌, ◌<◌, length};
-ghost use Rattle.rules.specs.Rows.{difference_width};
-ghost use Rattle.rows.specs.Put.{put};
+ghost use Rattle.std.specs.Prelude.{◌≡◌, ◌<◌};
 ghost use Rattle.differ2000.specs.Listing as l;
 
-use codehints::{HINTS, find_scope};
-use coderows::{Body, Row, SCOPE_LIST_WORDS, list_scopes};
+use coderows::Body;
 use count2000::OBJECT_RUN;
 use cursor::{STACK_WORDS, top};
 use cursor2000::{past, reported};
 use form2000::object_scope;
 use numbers::u16_at;
-use rules::{LAST_ID, SCOPE_ENTRY, UNMAPPED};
-use run2000::bit_or;
-use shown2000::{find_row, property};
-use walk2000::{Extent, Opens, head, value};
+use rows::put_row;
+use rules::{SCOPE_ENTRY, UNMAPPED};
+use run2000::{Stored, bit_or};
+use shown2000::{Scopes, find_row, property, stored_at};
+use walk2000::{Opens, head};
 
 // How many words a difference's row has.
 pub const DIFFERENCE_WIDTH: usize = 10;
@@ -57,39 +55,34 @@ struct Scope {
     newer: Body,
 }
 
-// A property of a run.
-#[derive(Clone, Copy)]
-struct Stored {
-    id: u8,
-    start: usize,
-    size: usize,
-}
-
-// Writes row `at` of a list.
-fn put_difference(rows: &mut [u32], at: usize, row: Difference)
-    requires { at * difference_width + difference_width ≤ length rows.old }
-    ensures { rows.new ≡ put difference_width rows.old at (l.words row ∷ []) }
-{
-    let k = at * DIFFERENCE_WIDTH;
-    rows[k] = row.property;
-    rows[k + 1] = row.control;
-    rows[k + 2] = row.code;
-    rows[k + 3] = row.scope_kind;
-    rows[k + 4] = row.scope_code;
-    rows[k + 5] = row.older_id;
-    rows[k + 6] = row.newer_id;
-    rows[k + 7] = row.newer_mark;
-    rows[k + 8] = row.start;
-    rows[k + 9] = row.size;
+impl Difference {
+    // The row as it is lent.
+    fn words(self) -> [u32; DIFFERENCE_WIDTH]
+        ensures { result ≡ l.words self }
+    {
+        [
+            self.property,
+            self.control,
+            self.code,
+            self.scope_kind,
+            self.scope_code,
+            self.older_id,
+            self.newer_id,
+            self.newer_mark,
+            self.start,
+            self.size,
+        ]
+    }
 }
 
 // Writes row `at` of a list where it fits.
+#[tactic(auto, unfolding(crate::specs::Listing::put_fit))]
 fn put_fit(rows: &mut [u32], at: usize, row: Difference)
     requires { at < 4294967296 }
     ensures { rows.new ≡ l.put_fit rows.old at (l.words row) }
 {
     if at * DIFFERENCE_WIDTH + DIFFERENCE_WIDTH <= rows.len() {
-        put_difference(rows, at, row);
+        put_row(rows, at, row.words());
     }
 }
 
@@ -105,12 +98,10 @@ fn list_untied(
     requires { l.UntiedReady newer.now scope s.now from p }
     ensures { l.UntiedDone newer.now scope s.now rows.old from p rows.new result }
 {
-    let body = scope.newer;
-    let shown = property(newer, body, s, p.id, p.start, p.size);
+    let shown = property(newer, scope.newer, s, p);
     if UNMAPPED <= shown.id {
         return from.listed;
     }
-    let v = shown.value;
     let row = Difference {
         property: from.property,
         control: from.control,
@@ -119,7 +110,7 @@ fn list_untied(
         scope_code: scope.code as u32,
         older_id: bit_or(UNMAPPED, p.id as u32),
         newer_id: shown.id,
-        newer_mark: v.mark,
+        newer_mark: shown.value.mark,
         start: shown.start,
         size: shown.size,
     };
@@ -140,10 +131,9 @@ fn list_property(
     requires { l.PropertyReady older.now newer.now scope s.now from p }
     ensures { l.PropertyDone older.now newer.now scope s.now rows.old from p rows.new result }
 {
-    let body = scope.older;
-    match find_row(older, body, p.id) {
-        Row::Tied { target: _, kind: _ } => from.listed,
-        Row::Untied => list_untied(newer, scope, s, rows, from, p),
+    match find_row(older, scope.older, p.id) {
+        Some(_) => from.listed,
+        None => list_untied(newer, scope, s, rows, from, p),
     }
 }
 
@@ -159,93 +149,56 @@ fn list_run(
     requires { l.RunReady older.now newer.now scope s.now from }
     ensures { l.RunDone older.now newer.now scope s.now rows.old from rows.new result }
 {
-    let control = from.control;
-    let mut p = from.at;
-    let mut property = from.property;
-    let mut listed = from.listed;
-    while p < s.len() {
-        let id = s[p];
-        if LAST_ID < id {
-            return Place {
-                at: p,
-                control,
-                property,
-                listed,
-            };
-        }
-        let Extent::At { start, size } = value(s, p) else {
-            return Place {
-                at: p,
-                control,
-                property,
-                listed,
-            };
-        };
-        let stored = Stored { id, start, size };
-        let here = Place {
-            at: p,
-            control,
-            property,
+    let mut here = from;
+    while let Some(p) = stored_at(s, here.at) {
+        let listed = list_property(older, newer, scope, s, rows, here, p);
+        here = Place {
+            at: p.start + p.size,
+            property: here.property + 1,
             listed,
+            ..here
         };
-        listed = list_property(older, newer, scope, s, rows, here, stored);
-        p = start + size;
-        property = property + 1;
     }
-    Place {
-        at: p,
-        control,
-        property,
-        listed,
-    }
+    here
 }
 
 // Lists the properties of the entry at a place without its list, and gives the place after its run.
 fn list_node(
-    older: &[u8],
-    newer: &[u8],
-    hints: &mut [u8; HINTS],
-    olds: &[u32; SCOPE_LIST_WORDS],
-    news: &[u32; SCOPE_LIST_WORDS],
+    older: &mut Scopes,
+    newer: &mut Scopes,
     s: &[u8],
     rows: &mut [u32],
     from: Place,
 ) -> Place
-    requires { l.NodeReady older.now newer.now olds.now news.now s.now from }
-    ensures { l.NodeDone older.now newer.now s.now rows.old from rows.new result }
+    requires { l.NodeReady older.old.table.now newer.old.table.now s.now from }
+    ensures same { l.SameTables older.old newer.old older.new newer.new }
+    ensures listed { l.NodeDone older.old.table.now newer.old.table.now s.now rows.old from rows.new result }
 {
     let code = u16_at(s, from.at);
-    let in_older = find_scope(older, hints, olds, SCOPE_ENTRY, code);
-    let in_newer = find_scope(newer, hints, news, SCOPE_ENTRY, code);
     let scope = Scope {
         kind: SCOPE_ENTRY,
         code,
-        older: in_older,
-        newer: in_newer,
+        older: older.find(SCOPE_ENTRY, code),
+        newer: newer.find(SCOPE_ENTRY, code),
     };
     let run = Place {
         at: from.at + 2,
-        control: from.control,
-        property: from.property,
-        listed: from.listed,
+        ..from
     };
-    list_run(older, newer, scope, s, rows, run)
+    list_run(older.table, newer.table, scope, s, rows, run)
 }
 
 // Lists what is reported of the top list, which has `n` entries from a place on, and gives the row after.
 fn list_top(
-    older: &[u8],
-    newer: &[u8],
-    hints: &mut [u8; HINTS],
-    olds: &[u32; SCOPE_LIST_WORDS],
-    news: &[u32; SCOPE_LIST_WORDS],
+    older: &mut Scopes,
+    newer: &mut Scopes,
     s: &[u8],
     n: u32,
     rows: &mut [u32],
     from: Place,
 ) -> u32
-    requires { l.TopReady older.now newer.now olds.now news.now s.now n from }
-    ensures { l.TopDone older.now newer.now s.now n rows.old from rows.new result }
+    requires { l.TopReady older.old.table.now newer.old.table.now s.now n from }
+    ensures { l.TopDone older.old.table.now newer.old.table.now s.now n rows.old from rows.new result }
 {
     let mut stack = [0; STACK_WORDS];
     let mut c = reported(s, top(from.at, n));
@@ -259,9 +212,9 @@ fn list_top(
             property,
             listed,
         };
-        let e = list_node(older, newer, hints, olds, news, s, rows, here);
+        let e = list_node(older, newer, s, rows, here);
         c = reported(s, past(s, &mut stack, c, control, e.at));
-        control = control + 1;
+        control += 1;
         property = e.property;
         listed = e.listed;
     }
@@ -273,19 +226,14 @@ pub fn list_stream(older: &[u8], newer: &[u8], s: &[u8], rows: &mut [u32]) -> u3
     requires { l.StreamReady older.now newer.now s.now }
     ensures { l.StreamDone older.now newer.now s.now rows.old rows.new result }
 {
-    let mut hints = [0; HINTS];
-    let mut olds = [0; SCOPE_LIST_WORDS];
-    list_scopes(older, &mut olds);
-    let mut news = [0; SCOPE_LIST_WORDS];
-    list_scopes(newer, &mut news);
+    let mut in_older = Scopes::of(older);
+    let mut in_newer = Scopes::of(newer);
     let kind = object_scope(s);
-    let in_older = find_scope(older, &mut hints, &olds, kind, 0);
-    let in_newer = find_scope(newer, &mut hints, &news, kind, 0);
     let scope = Scope {
         kind,
         code: 0,
-        older: in_older,
-        newer: in_newer,
+        older: in_older.find(kind, 0),
+        newer: in_newer.find(kind, 0),
     };
     let from = Place {
         at: OBJECT_RUN,
@@ -295,26 +243,16 @@ pub fn list_stream(older: &[u8], newer: &[u8], s: &[u8], rows: &mut [u32]) -> u3
     };
     let own = list_run(older, newer, scope, s, rows, from);
     match head(s, own.at) {
-        Opens::Listed { count, next } => {
+        Some(Opens::Listed { count, next }) => {
             let start = Place {
                 at: next,
                 control: 0,
                 property: own.property,
                 listed: own.listed,
             };
-            list_top(
-                older,
-                newer,
-                &mut hints,
-                &olds,
-                &news,
-                s,
-                count as u32,
-                rows,
-                start,
-            )
+            list_top(&mut in_older, &mut in_newer, s, count as u32, rows, start)
         }
-        Opens::Plain { next: _ } => own.listed,
-        Opens::Bad => own.listed,
+        Some(Opens::Plain { .. }) => own.listed,
+        None => own.listed,
     }
 }
