@@ -4,7 +4,8 @@
 ghost use Rattle.std.specs.Prelude.{◌≡◌};
 ghost use Rattle.csv2000.specs.Room as room;
 
-use coderows::Body;
+use codehints::HINTS;
+use coderows::{Body, SCOPE_LIST_WORDS};
 use count2000::OBJECT_RUN;
 use csvrecord::{Owner, owner_size, record_left};
 use cursor::{STACK_WORDS, top};
@@ -102,7 +103,9 @@ pub fn sheet_left(table: &[u8], s: &[u8], index: &[u32], letters: &[u8], all: us
     requires { room.StreamReady table.now s.now index.now letters.now }
     ensures { room.StreamDone table.now s.now all result }
 {
-    let mut scopes = Scopes::of(table);
+    let mut hints = [0; HINTS];
+    let mut listed = [0; SCOPE_LIST_WORDS];
+    let mut scopes = Scopes::of(table, &mut hints, &mut listed);
     let body = scopes.find(object_scope(s), 0);
     let owner = owner_size(Owner::Object);
     let own = run_left(table, body, s, OBJECT_RUN, index, letters, owner, all);

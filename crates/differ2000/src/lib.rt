@@ -4,7 +4,8 @@
 ghost use Rattle.std.specs.Prelude.{◌≡◌, ◌<◌};
 ghost use Rattle.differ2000.specs.Listing as l;
 
-use coderows::Body;
+use codehints::HINTS;
+use coderows::{Body, SCOPE_LIST_WORDS};
 use count2000::OBJECT_RUN;
 use cursor::{STACK_WORDS, top};
 use cursor2000::{past, reported};
@@ -226,8 +227,12 @@ pub fn list_stream(older: &[u8], newer: &[u8], s: &[u8], rows: &mut [u32]) -> u3
     requires { l.StreamReady older.now newer.now s.now }
     ensures { l.StreamDone older.now newer.now s.now rows.old rows.new result }
 {
-    let mut in_older = Scopes::of(older);
-    let mut in_newer = Scopes::of(newer);
+    let mut hints = [0; HINTS];
+    let mut listed = [0; SCOPE_LIST_WORDS];
+    let mut in_older = Scopes::of(older, &mut hints, &mut listed);
+    let mut newer_hints = [0; HINTS];
+    let mut newer_listed = [0; SCOPE_LIST_WORDS];
+    let mut in_newer = Scopes::of(newer, &mut newer_hints, &mut newer_listed);
     let kind = object_scope(s);
     let scope = Scope {
         kind,

@@ -17,24 +17,27 @@ use rules::{LAST_ID, Property, UNMAPPED};
 use run2000::{Stored, bit_or, part};
 use walk2000::value;
 
-// A code table, and what makes the look-ups of its scopes short: a list of them, and hints.
+// A code table, and what makes the look-ups of its scopes short: a list of them, and hints. Both are lent, since returned they would be copied by memcpy.
 #[derive(Drop)]
 pub struct Scopes<'a> {
     pub table: &'a [u8],
-    pub hints: [u8; HINTS],
-    pub listed: [u32; SCOPE_LIST_WORDS],
-    pub ghost is_list: { Listed table.now listed },
+    pub hints: &'a mut [u8; HINTS],
+    pub listed: &'a [u32; SCOPE_LIST_WORDS],
+    pub ghost is_list: { Listed table.now listed.now },
 }
 
 impl<'a> Scopes<'a> {
-    pub fn of(table: &'a [u8]) -> Scopes<'a>
+    pub fn of(
+        table: &'a [u8],
+        hints: &'a mut [u8; HINTS],
+        listed: &'a mut [u32; SCOPE_LIST_WORDS],
+    ) -> Scopes<'a>
         ensures { result.table.now ≡ table.now }
     {
-        let mut listed = [0; SCOPE_LIST_WORDS];
-        list_scopes(table, &mut listed);
+        list_scopes(table, listed);
         Scopes {
             table,
-            hints: [0; HINTS],
+            hints,
             listed,
         }
     }
@@ -44,7 +47,7 @@ impl<'a> Scopes<'a> {
         ensures rows { Finds self.old.table.now kind code result }
         ensures same { self.new.table.now ≡ self.old.table.now }
     {
-        find_scope(self.table, &mut self.hints, &self.listed, kind, code)
+        find_scope(self.table, self.hints, self.listed, kind, code)
     }
 }
 

@@ -5,7 +5,8 @@ ghost use Rattle.std.specs.Prelude.{◌≡◌};
 ghost use Rattle.form2000.specs.Acts.{ReadReady};
 ghost use Rattle.tally2000.specs.Counting as counting;
 
-use coderows::Body;
+use codehints::HINTS;
+use coderows::{Body, SCOPE_LIST_WORDS};
 use count2000::{OBJECT_RUN, count};
 use cursor::{STACK_WORDS, top};
 use cursor2000::{past, reported};
@@ -65,7 +66,9 @@ fn count_stream(table: &[u8], s: &[u8], words: &mut [u32])
     requires { counting.StreamReady table.now s.now }
     ensures { counting.StreamDone table.now s.now words.old words.new }
 {
-    let mut scopes = Scopes::of(table);
+    let mut hints = [0; HINTS];
+    let mut listed = [0; SCOPE_LIST_WORDS];
+    let mut scopes = Scopes::of(table, &mut hints, &mut listed);
     let body = scopes.find(object_scope(s), 0);
     let end = count_run(table, body, s, OBJECT_RUN, words);
     match head(s, end) {
