@@ -1,14 +1,13 @@
 -- Numbers added place by place, and the ceiling; and the layouts' counts as what a Blob comes to.
-use Prim.Native.Nat.{ℕ, ◌+◌, ◌-◌, ◌≤◌, ◌<◌}
+use Prim.Native.Nat.{ℕ, ◌+◌, ◌≤◌, ◌<◌}
 use native.Mathlib.Numerals.{add-one}
 use native.Mathlib.Omega.{arith}
-use mathlib.Core.Path.{◌≡◌, refl, sym, ◌∙◌}
-use mathlib.Core.Bool.{Bool, true, false, not}
+use mathlib.Core.Path.{◌≡◌, refl, sym, ap, ◌∙◌}
+use mathlib.Core.Bool.{Bool, true, false, ◌&&◌}
 use mathlib.Core.List.{List, [], ◌∷◌, ◌++◌, append_assoc, append-nil}
-use lib.Dec.{leb}
-use lib.ListN.{length, get_or, set, take, drop, length-drop}
+use lib.ListN.{length, get_or, set, take, drop, length-drop, length-set}
 use lib.Seq.{take-suc-set, drop-set-lt, drop-length, take-length, length-take-le}
-use borrow.Author.Tests.{not-true, not-false, leb-true, le-leb, lt-leb, lt-ltb, le-ltb}
+use borrow.Author.Tests.{leb-true, lt-ltb, le-ltb}
 use Rattle.rules.specs.Lists.{all}
 use Rattle.rules.specs.Answer.{refusal, too_long_lem, bad_table, longest}
 use Rattle.rules.specs.CodeTable.{well_formed_lem}
@@ -24,11 +23,11 @@ use Rattle.tallylater.specs.Counting as new
 
 -- ---- one place of two lists
 module _ (t d : List ℕ) (i : ℕ) where
-  pub fit-no : i < length t → i < length d → ceiling < get_or t i 0 + get_or d i 0 → all holds (sums (drop i t) (drop i d)) ≡ false
-  fit-no h k big = held-step t d i h k ∙ rw (lt-leb (get_or t i 0 + get_or d i 0) ceiling big)
+  pub fit-no : i < length t → i < length d → holds (get_or t i 0 + get_or d i 0) ≡ false → all holds (sums (drop i t) (drop i d)) ≡ false
+  fit-no h k big = held-step t d i h k ∙ rw big
 
-  pub fit-yes : i < length t → i < length d → get_or t i 0 + get_or d i 0 ≤ ceiling → all holds (sums (drop i t) (drop i d)) ≡ all holds (sums (drop (i + 1) t) (drop (i + 1) d))
-  fit-yes h k small = held-step t d i h k ∙ rw (le-leb (get_or t i 0 + get_or d i 0) ceiling small)
+  pub fit-yes : i < length t → i < length d → holds (get_or t i 0 + get_or d i 0) ≡ true → all holds (sums (drop i t) (drop i d)) ≡ all holds (sums (drop (i + 1) t) (drop (i + 1) d))
+  fit-yes h k small = held-step t d i h k ∙ rw small
 
   -- where all fit, the next sum fits, and the rest does
   pub sum-small : i < length t → i < length d → all holds (sums (drop i t) (drop i d)) ≡ true → get_or t i 0 + get_or d i 0 ≤ ceiling
@@ -59,47 +58,50 @@ module _ (t d : List ℕ) (i : ℕ) where
       let z : i ≡ length t = omega arith in
       rw (z, drop-length t, take-length t, e, drop-length d, append-nil)
 
--- two tests that say the same
-same_test : (a b : Bool) {P Q : Type 0} → (a ≡ true → P) → (b ≡ true → Q) → (Q → a ≡ true) → (P → b ≡ true) → a ≡ b
-same_test true b p q r s = sym (s (p refl))
-same_test false true p q r s = r (q refl)
-same_test false false p q r s = refl
+-- the sums up to i are in place
+pub record Adding (old more into : List ℕ) (i : ℕ) : Type 0 where
+  pub paired : length into ≡ length more
+  pub fits : all holds (sums (drop i into) (drop i more)) ≡ true
+  pub added : sums old more ≡ take i into ++ sums (drop i into) (drop i more)
 
-pub one_holds : (x y : ℕ) → y ≤ ceiling → leb x (ceiling - y) ≡ holds (x + y)
-one_holds x y h =
-    same_test (leb x (ceiling - y)) (leb (x + y) ceiling) (leb-true x (ceiling - y)) (leb-true (x + y) ceiling) (λ p. le-leb x (ceiling - y) (omega arith)) (λ p. le-leb (x + y) ceiling (omega arith))
+pub adding_start : {old more : List ℕ} → length old ≡ length more → all holds (sums old more) ≡ true → Adding old more old 0
+adding_start p f = record { paired = p; fits = f; added = refl }
 
--- a test `!f(..)`, by its two arms
-pub told-no : (r q : Bool) → r ≡ q → not r ≡ true → q ≡ false
-told-no r q e h = sym e ∙ not-true r h
+module _ {old more into : List ℕ} {i : ℕ} (known : Adding old more into i) where
+  module _ (h : i < length more) where
+    pub adding_small : get_or into i 0 + get_or more i 0 ≤ ceiling
+    adding_small = sum-small into more i (omega (arith, known.paired)) h known.fits
 
-pub told-yes : (r q : Bool) → r ≡ q → not r ≡ false → q ≡ true
-told-yes r q e h = sym e ∙ not-false r h
+    pub adding_more : Adding old more (set into i (get_or into i 0 + get_or more i 0)) (i + 1)
+    adding_more = record {
+      paired = length-set into i _ ∙ known.paired;
+      fits = rest-fits into more i _ (omega (arith, known.paired)) h known.fits;
+      added = known.added ∙ sum-put into more i (omega (arith, known.paired)) h;
+    }
 
--- ---- the record's parts: d is what is added
-module _ (t d : Totals) where
-  pub answers-no : all holds (sums t.answers d.answers) ≡ false → false ≡ within (sum t d)
-  unfolding within sum
-  answers-no a = rw a
+  pub adding_all : length more ≤ i → i ≤ length more → into ≡ sums old more
+  adding_all h k = sym (known.added ∙ sums-end into more i (omega (arith, known.paired)) (omega (arith, known.paired)) known.paired)
 
-  module _ (a : all holds (sums t.answers d.answers) ≡ true) where
-    pub types-no : all holds (sums t.types d.types) ≡ false → false ≡ within (sum t d)
-    unfolding within sum
-    types-no b = rw (a, b)
+-- a chain of tests, by the two arms of each
+pub and_then : {v r a : Bool} (b : Bool) → v ≡ r → r ≡ b → true ≡ a → v ≡ (a && b)
+and_then b e f t = e ∙ f ∙ ap (λ a. a && b) t
 
-    module _ (b : all holds (sums t.types d.types) ≡ true) where
-      pub unmapped-no : holds (t.unmapped + d.unmapped) ≡ false → false ≡ within (sum t d)
-      unfolding within sum
-      unmapped-no u = rw (a, b, u)
+pub and_else : {v r a : Bool} (b : Bool) → v ≡ r → r ≡ false → false ≡ a → v ≡ (a && b)
+and_else b e f t = e ∙ f ∙ ap (λ a. a && b) t
 
-      module _ (u : holds (t.unmapped + d.unmapped) ≡ true) where
-        pub mapped-no : holds (t.mapped + d.mapped) ≡ false → false ≡ within (sum t d)
-        unfolding within sum
-        mapped-no m = rw (a, b, u, m)
-
-        pub marks-last : holds (t.mapped + d.mapped) ≡ true → all holds (sums t.marks d.marks) ≡ within (sum t d)
-        unfolding within sum
-        marks-last m = rw (a, b, u, m)
+-- the record's parts fit one by one: d is what is added
+pub within_parts : (t d : Totals) (v₁ v₂ v₃ : Bool) {r : Bool} → v₁ ≡ (all holds (sums t.answers d.answers) && all holds (sums t.types d.types)) → v₂ ≡ (v₁ && holds (t.unmapped + d.unmapped))
+    → v₃ ≡ (v₂ && holds (t.mapped + d.mapped)) → r ≡ (v₃ && all holds (sums t.marks d.marks)) → r ≡ within (sum t d)
+unfolding within sum
+within_parts t d v₁ v₂ v₃ e₁ e₂ e₃ e =
+    e ∙ ap (λ v. v && all holds (sums t.marks d.marks)) (e₃ ∙ ap (λ v. v && holds (t.mapped + d.mapped)) (e₂ ∙ ap (λ v. v && holds (t.unmapped + d.unmapped)) e₁))
+    ∙ go (all holds (sums t.answers d.answers)) (all holds (sums t.types d.types)) (holds (t.unmapped + d.unmapped)) (holds (t.mapped + d.mapped))
+  where
+    go : (a b u m : Bool) → ((((a && b) && u) && m) && all holds (sums t.marks d.marks)) ≡ (a && (b && (u && (m && all holds (sums t.marks d.marks)))))
+    go false b u m = refl
+    go true false u m = refl
+    go true true false m = refl
+    go true true true m = refl
 
 -- a part of a record's numbers
 pub part-many : (words : List ℕ) (m n : ℕ) → length words ≡ 48 → m + n ≤ 48 → length (take n (drop m words)) ≡ n

@@ -42,12 +42,10 @@ fn all_fit(old: &[u32], more: &[u32]) -> bool
     requires { length old.now ≡ length more.now }
     ensures { result ≡ all holds (sums old.now more.now) }
 {
-    let mut i = 0;
-    while i < old.len() {
-        if old[i] > CEILING - more[i] {
+    for (i, n) in old.iter().enumerate() {
+        if !one_fits(*n, more[i]) {
             return false;
         }
-        i = i + 1;
     }
     true
 }
@@ -63,10 +61,8 @@ fn add_all(into: &mut [u32], more: &[u32])
     requires { (length into.old ≡ length more.now) × (all holds (sums into.old more.now) ≡ true) }
     ensures { into.new ≡ sums into.old more.now }
 {
-    let mut i = 0;
-    while i < into.len() {
-        into[i] = into[i] + more[i];
-        i = i + 1;
+    for (i, n) in more.iter().enumerate() {
+        into[i] += *n;
     }
 }
 
@@ -75,22 +71,11 @@ fn fits(old: Totals, words: &[u32]) -> bool
     requires { length words.now ≡ 48 }
     ensures { result ≡ within (sum old (laid words.now)) }
 {
-    let answers = old.answers;
-    if !all_fit(&answers, &words[0..TYPES_AT]) {
-        return false;
-    }
-    let types = old.types;
-    if !all_fit(&types, &words[TYPES_AT..UNMAPPED_AT]) {
-        return false;
-    }
-    if !one_fits(old.unmapped, words[UNMAPPED_AT]) {
-        return false;
-    }
-    if !one_fits(old.mapped, words[MAPPED_AT]) {
-        return false;
-    }
-    let marks = old.marks;
-    all_fit(&marks, &words[MARKS_AT..WORDS])
+    all_fit(&old.answers, &words[..TYPES_AT])
+        && all_fit(&old.types, &words[TYPES_AT..UNMAPPED_AT])
+        && one_fits(old.unmapped, words[UNMAPPED_AT])
+        && one_fits(old.mapped, words[MAPPED_AT])
+        && all_fit(&old.marks, &words[MARKS_AT..WORDS])
 }
 
 // The record with what was counted added.
@@ -99,7 +84,7 @@ fn sum_of(old: Totals, words: &[u32]) -> Totals
     ensures { result ≡ sum old (laid words.now) }
 {
     let mut answers = old.answers;
-    add_all(&mut answers, &words[0..TYPES_AT]);
+    add_all(&mut answers, &words[..TYPES_AT]);
     let mut types = old.types;
     add_all(&mut types, &words[TYPES_AT..UNMAPPED_AT]);
     let mut marks = old.marks;
