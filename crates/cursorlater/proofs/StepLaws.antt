@@ -14,14 +14,11 @@ use Rattle.rules.specs.Tree.{Entry, parent, Entries, end, more, levels_at, many_
 use Rattle.rules.specs.Later.{Prop, group_at, children_at, with_children, node_at, nodes_at}
 use Rattle.rules.proofs.ListLaws.{Every, every_if, every_at}
 use Rattle.rows.proofs.LevelLaws.{levels-none, levels-more, is_more}
-use Rattle.countlater.specs.Count.{children, behind_by, behind, one_node, top_node}
+use Rattle.countlater.specs.Count.{children, behind_by, one_node, top_node}
 use Rattle.countlater.specs.declared.Children.{Children}
-use Rattle.countlater.specs.declared.Group.{Group}
-use Rattle.countlater.proofs.NodeLaws.{children_of_lem, children_bad, top-reported, top_skipped}
+use Rattle.countlater.proofs.NodeLaws.{children_of_lem, top-reported, top_skipped}
 use Rattle.cursor.specs.Walk.{Step, close_by, entry_by}
-use Rattle.cursor.specs.Stack.{Moved}
-use Rattle.cursor.specs.Cursors.{top_at, PastReady, Past}
-use Rattle.cursor.specs.declared.Cursor.{Cursor}
+use Rattle.cursor.specs.Cursors.{top_at}
 use Rattle.cursorlater.specs.Steps.{list_of, step_at}
 
 -- ---- a node by its step
@@ -111,12 +108,3 @@ behind-small s h stop (code.Some t) = children-small s h t stop
 
 pub count_small : (s : List ℕ) (stop : ℕ) (o : code.Option ℕ) {b : Children} → code.Some b ≡ children (behind_by s stop o) → Bytes s → b.count < 65536
 count_small s stop o {b} e h = every_at CountSmall (behind_by s stop o) (b.count, b.next) (behind-small s h stop o) (children_of_lem (behind_by s stop o) e)
-
--- ---- after a group
-module _ (s : List ℕ) (g : Group) where
-  pub past_bad : code.None ≡ children (behind s g) → {a : List ℕ} {c : Cursor} → PastReady a c (behind s g) → ⊥
-  past_bad e h = rw (children_bad (behind s g) e) at h.there
-
-  pub past_of : {b : Children} → code.Some b ≡ children (behind s g) → {a : List ℕ} {c : Cursor} {row : ℕ} {a' : List ℕ} {r : Cursor}
-      → Moved a c row b.count b.next a' r → Past a c row (behind s g) a' r
-  past_of e m = rw (children_of_lem (behind s g) e) m

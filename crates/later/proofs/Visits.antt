@@ -39,7 +39,7 @@ use Rattle.cursor.specs.Cursors.{cursor, PastReady, Past}
 use Rattle.cursor.specs.Work.{Ran}
 use Rattle.cursor.specs.declared.Cursor.{Cursor}
 use Rattle.cursor.proofs.RowLaws.{left, how_many}
-use Rattle.cursor.proofs.WorkLaws.{Work, Left, left-start, left_fact, left-done, left_asks_fact, left-next}
+use Rattle.cursor.proofs.WorkLaws.{Work, Left, left-start, left_fact, left-done, left-next}
 use Rattle.cursor.proofs.VisitLaws as laws
 use Rattle.cursor.proofs.VisitLaws.{Visit, EntryWork, Going}
 use Rattle.cursorlater.specs.Steps.{step_at}
@@ -65,10 +65,6 @@ grouping_start W h = record { work = W; rest = left-start h; passed = passed_sta
 
 module _ {A : Type 0} {one : Prop → A → A} {all : List Prop → A → A} {Ok : List Prop → A → Type 0} {s : List ℕ} {limit at : ℕ} {old : A} {p n : ℕ} {now : A}
     (w : Grouping one all Ok s limit at old p n now) where
-  -- what is asked whatever is left
-  pub grouping_fact : {Q : Type 0} → ((qs : List Prop) → Ok qs now → Q) → Q
-  grouping_fact f = left_fact w.rest f
-
   module _ (h : limit ≤ length s) where
     pub grouping_none : code.None ≡ extent s limit p → Grouped all s limit at old now (record { count = n; stop = p; trailer = code.None })
     grouping_none e =
@@ -177,9 +173,6 @@ module _ {A : Type 0} {all : List (Node Prop) → A → A} {Ok : List (Node Prop
   sweep_start {s = s} {from = from} {a = a} h n = record { within = n.within; here = n.here; rest = rw (sym (scan-same s from a n)) (left-start h) }
 
   module _ {wanted : A → ℕ → Type 0} {s : List ℕ} {a : ℕ} {now : A} (k : Sweeping wanted all Ok s a now) where
-    pub sweep_fact : {Q : Type 0} → ((xs : List (Node Prop)) → Ok xs now → Q) → Q
-    sweep_fact f = left_fact k.rest f
-
     pub sweep_stop : all [] now ≡ now → length s ≤ a → wanted now 0
     sweep_stop z h = left-done k.rest z (ap (λ (ns : List (Node Prop)). some (ns, 0)) (scan-end s a h))
 
@@ -195,9 +188,6 @@ module _ {A : Type 0} {all : List (Node Prop) → A → A} {Ok : List (Node Prop
       module _ (t : 0 < length (props_at s b a)) where
         here-first : ◌≡◌ {A = Option (List (Node Prop) × ℕ)} (some (scan_from s a, 0)) (some (scanned_node (props_at s b a) ∷ scan_from s b, 0))
         here-first = ap (λ (ns : List (Node Prop)). some (ns, 0)) (found (scanned_node (props_at s b a) ∷ []) (shown_some (props_at s b a) t))
-
-        pub sweep_asks : {Q : Type 0} → ((xs : List (Node Prop)) → Ok (scanned_node (props_at s b a) ∷ xs) now → Q) → Q
-        sweep_asks f = left_asks_fact k.rest (scanned_node (props_at s b a)) (some (scan_from s b, 0)) here-first f
 
         pub sweep_on : {one : Node Prop → A → A} {all' : List (Node Prop) → A → A} {Ok' : List (Node Prop) → A → Type 0} → Work one all all' Ok Ok' → {next : A} → next ≡ one (scanned_node (props_at s b a)) now
             → Sweeping wanted all' Ok' s b next
