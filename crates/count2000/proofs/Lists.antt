@@ -13,7 +13,7 @@ use Rattle.rows.specs.declared.Tally.{Tally}
 use Rattle.rows.proofs.TakenLaws.{Counting, counting-start, counting-all, counting_deep, counting_bad, counting_more, Choosing, choosing_start, choosing_all, choosing_left, choosing_bad, choosing_more}
 use Rattle.count2000.specs.Told.{EntryRead, ListRead}
 use Rattle.count2000.specs.declared.EntryTally.{EntryTally}
-use Rattle.count2000.proofs.Entries.{whole, whole_is, chosen, chosen_is, entry-room}
+use Rattle.count2000.proofs.Entries.{whole, whole_is, chosen, chosen_is, entry_room}
 
 -- of n entries at `at`, with `left` levels left, `done` are counted: `all` is what they have
 pub record Listing (s : List ℕ) (left n at done : ℕ) (all : Tally) : Type 0 where
@@ -46,7 +46,7 @@ module _ {s : List ℕ} {left n at done : ℕ} {all : Tally} (known : Listing s 
       pub list_more : {y : EntryTally} → v ≡ Some y → Listing s left n at (done + 1) (tally_record (all.controls + y.tally.controls) (all.props + y.tally.props) y.tally.next)
       unfolding entries_at
       list_more {y = y} k = record {
-        few = omega (arith, known.few, entry-room h k);
+        few = omega (arith, known.few, entry_room h k);
         counts = counting_more known.counts (λ z. omega arith) more (whole v) known-one y.tally (ap whole k);
       }
 
@@ -72,13 +72,13 @@ module _ {s : List ℕ} {n at done : ℕ} {all : Tally} (known : Topping s n at 
       pub top_kept : y.kept ≡ true → Topping s n at (done + 1) (tally_record (all.controls + y.tally.controls) (all.props + y.tally.props) y.tally.next)
       unfolding entries_at
       top_kept t = record {
-        few = omega (arith, known.few, entry-room h k);
+        few = omega (arith, known.few, entry_room h k);
         chooses = choosing_more known.chooses (eqb-false 256 0 refl) more (chosen v) (chosen_is h) y.tally (ap chosen k ∙ rw t);
       }
 
       pub top_left : y.kept ≡ false → Topping s n at (done + 1) (tally_record all.controls all.props y.tally.next)
       unfolding entries_at
       top_left t = record {
-        few = omega (arith, known.few, entry-room h k);
+        few = omega (arith, known.few, entry_room h k);
         chooses = choosing_left known.chooses (eqb-false 256 0 refl) more y.tally.next (sym (chosen_is h) ∙ ap chosen k ∙ rw t);
       }

@@ -35,6 +35,7 @@ pub struct StreamTally {
 
 // The entry at `at`; `left` levels are left below it.
 #[cycle(entry_list)]
+#[tactic(auto, using(rules::proofs::ToldLaws::told_some, rules::proofs::ToldLaws::told_none, rules::proofs::ToldLaws::told_as_none, walk2000::proofs::Inverse::run_of, walk2000::proofs::Inverse::opens_plain, walk2000::proofs::Inverse::opens_listed, rows::proofs::TakenLaws::tally_of), unfolding(rules::specs::Access2000::entry_at, rules::specs::Access2000::close_at))]
 fn entry(s: &[u8], at: usize, left: usize) -> Option<EntryTally>
     ensures { told.EntryRead s.now at left result }
 {
@@ -65,6 +66,7 @@ fn entry(s: &[u8], at: usize, left: usize) -> Option<EntryTally>
 
 // `n` entries from `at` on, with `left` levels left: with none left there may be no entry.
 #[cycle(entry_list)]
+#[tactic(auto, using(crate::proofs::Lists::list_all, crate::proofs::Lists::list_deep, crate::proofs::Lists::list_bad, crate::proofs::Lists::list_more, crate::proofs::Entries::entry_room))]
 fn list(s: &[u8], at: usize, n: usize, left: usize) -> Option<Tally>
     ensures { told.ListRead s.now at n left result }
 {
@@ -85,6 +87,7 @@ fn list(s: &[u8], at: usize, n: usize, left: usize) -> Option<Tally>
 }
 
 // The top list, of which only some entries are reported.
+#[tactic(auto, using(crate::proofs::Lists::top_all, crate::proofs::Lists::top_refused, crate::proofs::Lists::top_kept, crate::proofs::Lists::top_left, crate::proofs::Entries::entry_room))]
 fn top(s: &[u8], at: usize, n: usize) -> Option<Tally>
     ensures { result ≡ tally_top (entries_at levels s.now n at) }
 {
@@ -105,6 +108,7 @@ fn top(s: &[u8], at: usize, n: usize) -> Option<Tally>
 }
 
 // Counts a whole stream: the object's run, the top list, and no byte more.
+#[tactic(auto, using(rules::proofs::ToldLaws::told_as_none, walk2000::proofs::Inverse::run_of, walk2000::proofs::Inverse::opens_plain, walk2000::proofs::Inverse::opens_listed, rows::proofs::TakenLaws::top_of), unfolding(rules::specs::Access2000::stream_of))]
 pub fn count(s: &[u8]) -> Option<StreamTally>
     ensures { result ≡ told_as told.stream_tally (stream_of s.now) }
 {
