@@ -4,17 +4,15 @@ use native.Mathlib.Omega.{arith}
 use mathlib.Core.Path.{◌≡◌, refl, ap}
 use mathlib.Core.List.{List}
 use mathlib.Core.Option.{Option, none, some}
-use lib.Dec.{ltb, eqb}
-use lib.ListN.{length}
+use lib.Dec.{eqb}
 use Rattle.rules.specs.Lists.{◌>>=◌}
-use Rattle.rules.specs.Bytes.{Bytes, byte, byte_at, half_at_lem}
+use Rattle.rules.specs.Bytes.{Bytes, byte_at, half_at_lem}
 use Rattle.rules.specs.Tree.{Entries, levels_at}
 use Rattle.rules.specs.Access2000.{Prop, run_at, head_at_lem, close_at, entry_at, entries_at}
 use Rattle.rules.proofs.ListLaws.{Every, every_if, every_then, every_when, every_at}
+use Rattle.walk2000.proofs.Extents.{half-small}
 use Rattle.cursor.specs.Walk.{Step, close_by, entry_by}
-use Rattle.cursor.specs.Stack.{count_of, Moved}
-use Rattle.cursor.specs.Cursors.{PastReady, Past}
-use Rattle.cursor.specs.declared.Cursor.{Cursor}
+use Rattle.cursor.specs.Stack.{count_of}
 use Rattle.cursor2000.specs.Steps.{step_at, list_at_lem}
 
 -- ---- an entry by its step
@@ -40,16 +38,6 @@ unfolding entries_at
 entries_same s d n p = ap (λ one. levels_at one d n p) (λ i below q. entry-same s below q i)
 
 -- ---- a count fits its word
-byte_small : (s : List ℕ) → Bytes s → (p : ℕ) → Every (λ b. b < 256) (byte_at s p)
-unfolding byte_at
-byte_small s h p = every_if (λ b. b < 256) (ltb p (length s)) (some (byte s p)) none (λ _. h p) λ _. tt
-
-half-small : (s : List ℕ) → Bytes s → (p : ℕ) → Every (λ n. n < 65536) (half_at_lem s p)
-unfolding half_at_lem
-half-small s h p =
-    every_then (λ b. b < 256) (λ n. n < 65536) (byte_at s p) _ (byte_small s h p) λ lo l.
-    every_then (λ b. b < 256) (λ n. n < 65536) (byte_at s (p + 1)) _ (byte_small s h (p + 1)) λ hi m. omega arith
-
 abbrev CountSmall : Option ℕ × ℕ → Type 0
 CountSmall x = count_of x.0 < 65536
 
@@ -65,15 +53,6 @@ pub count_small : (s : List ℕ) → Bytes s → (p m e : ℕ) → head_at_lem s
 count_small s h p m e r = every_at CountSmall (head_at_lem s p) (some m, e) (head_small s h p) r
 
 -- ---- after a run
-module _ (s : List ℕ) (q : ℕ) where
-  pub past_bad : head_at_lem s q ≡ none → {a : List ℕ} {c : Cursor} → PastReady a c (list_at_lem s q) → ⊥
-  unfolding list_at_lem
-  past_bad e h = rw e at h.there
-
-  pub list_some : (list : Option ℕ) (e : ℕ) → head_at_lem s q ≡ some (list, e) → list_at_lem s q ≡ some (count_of list, e)
-  unfolding list_at_lem
-  list_some list e r = rw r
-
-  pub past_by : (list : Option ℕ) {e : ℕ} → head_at_lem s q ≡ some (list, e) → {a : List ℕ} {c : Cursor} {row : ℕ} {a' : List ℕ} {r : Cursor}
-      → Moved a c row (count_of list) e a' r → Past a c row (list_at_lem s q) a' r
-  past_by list {e = e} k m = rw (list_some list e k) m
+pub list_some : (s : List ℕ) (q : ℕ) (list : Option ℕ) (e : ℕ) → head_at_lem s q ≡ some (list, e) → list_at_lem s q ≡ some (count_of list, e)
+unfolding list_at_lem
+list_some s q list e r = rw r

@@ -43,6 +43,7 @@ pub fn reported(s: &[u8], c: Cursor) -> Cursor
 }
 
 // Goes on after the entry at `c`, which has row `row`, and whose run ends at `run`.
+#[tactic(auto, using(rules::proofs::ToldLaws::told_as_none, walk2000::proofs::Inverse::opens_plain, walk2000::proofs::Inverse::opens_listed), unfolding(crate::specs::Steps::list_at_lem))]
 pub fn past(s: &[u8], stack: &mut [u32; STACK_WORDS], c: Cursor, row: u32, run: usize) -> Cursor
     requires { PastReady stack.old c (list_at_lem s.now run) }
     ensures { Past stack.old c row (list_at_lem s.now run) stack.new result }

@@ -45,7 +45,8 @@ module _ (s : List ℕ) (small : Bytes s) where
   unfolding byte_at
   byte_small p = every_if (λ b. b < 256) (ltb p (length s)) _ _ (λ _. small p) λ _. tt
 
-  half-small : (p : ℕ) → Every (λ n. n < 65536) (half_at_lem s p)
+  -- what two bytes stand for
+  pub half-small : (p : ℕ) → Every (λ n. n < 65536) (half_at_lem s p)
   unfolding half_at_lem
   half-small p =
       every_then (λ b. b < 256) (λ n. n < 65536) (byte_at s p) _ (byte_small p) λ lo l.
@@ -65,8 +66,8 @@ module _ (s : List ℕ) (small : Bytes s) where
       go (Some n) e = let few : n ≤ 4 = tells-few id n e in (omega arith, omega arith)
       go None e = length-near p
 
-  pub told-near : (id p : ℕ) (r : Option Extent) (y : Extent) → r ≡ told_as told.extent (extent_at s id p) → r ≡ Some y → Near p (y.start, y.size)
-  told-near id p r y e k = every_at (Near p) (extent_at s id p) (y.start, y.size) (extent-near id p) (extent-at (extent_at s id p) r y e k)
+  pub told_near : (id p : ℕ) (r : Option Extent) (y : Extent) → r ≡ told_as told.extent (extent_at s id p) → r ≡ Some y → Near p (y.start, y.size)
+  told_near id p r y e k = every_at (Near p) (extent_at s id p) (y.start, y.size) (extent-near id p) (extent-at (extent_at s id p) r y e k)
 
 -- ---- a value has as many bytes as its id tells
 abbrev Fit : ℕ → ℕ × ℕ → Type 0

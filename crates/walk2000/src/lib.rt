@@ -71,7 +71,7 @@ fn extent_at(s: &[u8], id: u8, at: usize) -> Option<Extent>
 }
 
 // The value of the property at `at`, where one starts there.
-#[tactic(auto, using(rules::proofs::ToldLaws::told_as_some, rules::proofs::ToldLaws::told_as_none), unfolding(rules::specs::Access2000::property_at))]
+#[tactic(auto, using(crate::proofs::Extents::told_near, rules::proofs::ToldLaws::told_as_some, rules::proofs::ToldLaws::told_as_none), unfolding(rules::specs::Access2000::property_at))]
 pub fn value(s: &[u8], at: usize) -> Option<Extent>
     requires { at < length s.now }
     ensures { result ≡ told_as told.value (property_at s.now at) }
@@ -84,6 +84,7 @@ pub fn value(s: &[u8], at: usize) -> Option<Extent>
 }
 
 // The run at `at`: up to the next FD, FE or FF, or the end.
+#[tactic(auto, using(crate::proofs::Runs::passed_none, crate::proofs::Runs::passed_stop, crate::proofs::Runs::passed_bad, crate::proofs::Runs::ends, rules::proofs::Access2000Laws::past_end), unfolding(rules::specs::Access2000::goes_on_lem))]
 pub fn run_at(s: &[u8], at: usize) -> Option<Run>
     ensures { result ≡ told_as told.run (run_at s.now at) }
 {
