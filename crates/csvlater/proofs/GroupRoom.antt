@@ -18,6 +18,8 @@ use Rattle.cursor.specs.declared.Cursor.{Cursor}
 use Rattle.cursor.proofs.WorkLaws.{held_as}
 use Rattle.cursor.proofs.VisitLaws.{EntryWork}
 use Rattle.cursorlater.specs.Steps.{step_at}
+use Rattle.std.specs.Prelude as code
+use Rattle.countlater.specs.declared.Group.{Group}
 use Rattle.later.specs.Write.{props_at, tree_control, scanned_control}
 use Rattle.later.proofs.Visits.{Grouping, grouping_start, Visiting, top_start, Sweeping}
 use Rattle.csvrecord.specs.Parts.{tail_text}
@@ -27,10 +29,10 @@ use Rattle.csvlater.specs.Room.{GroupDone, node_left, SectionsReady}
 use Rattle.csvlater.specs.declared.GroupLeft.{GroupLeft}
 
 -- ---- a group: what the loop keeps
-abbrev pub Taking : List ℕ → ℕ → ℕ → ℕ → ℕ → ℕ → ℕ → ℕ → Type 0
-Taking s limit at owner all p n left = Grouping (λ q l. l - (owner + length (tail_text s (property_row (property_of s q))))) (records_left s (property_of s) owner) Nothing s limit at all p n left
+abbrev pub Taking : List ℕ → ℕ → ℕ → ℕ → ℕ → Group → ℕ → Type 0
+Taking s limit at owner all g left = Grouping (λ q l. l - (owner + length (tail_text s (property_row (property_of s q))))) (records_left s (property_of s) owner) Nothing s limit at all g.count g.stop g.trailer left
 
-pub taking_start : {s : List ℕ} {limit at : ℕ} (owner : ℕ) {all : ℕ} → Taking s limit at owner all at 0 all
+pub taking_start : {s : List ℕ} {limit at : ℕ} (owner : ℕ) {all : ℕ} → Taking s limit at owner all (record { count = 0; stop = at; trailer = code.None }) all
 taking_start {s = s} owner = grouping_start (records_work s (property_of s) owner) tt
 
 -- ---- a node by its group

@@ -3,11 +3,11 @@
 
 ghost use Rattle.csvlater.specs.Room as room;
 
-use countlater::{GROUP_AT, Group, OBJECT_AT, count, ends_group, parse_entry};
+use countlater::{GROUP_AT, Group, OBJECT_AT, count};
 use csvrecord::{Owner, owner_size, record_left};
 use cursor::{STACK_WORDS, top};
 use cursorlater::{past, reported};
-use later::property_at;
+use later::next_property;
 use matchlater::{MATCH_SIZE, find_match};
 use numbers::u16_at;
 
@@ -34,33 +34,17 @@ fn group_left(
     requires { room.GroupReady s.now limit index.now letters.now }
     ensures { room.GroupDone s.now limit at owner all result }
 {
-    let mut p = at;
-    let mut count: usize = 0;
+    let mut group = Group {
+        count: 0,
+        stop: at,
+        trailer: None,
+    };
     let mut left = all;
-    while let Some(entry) = parse_entry(s, limit, p) {
-        let shown = property_at(s, p, entry.size);
-        left = record_left(left, owner, index, letters, s, shown);
-        count += 1;
-        p = entry.next;
-        if ends_group(entry.trailer) {
-            return GroupLeft {
-                group: Group {
-                    count,
-                    stop: p,
-                    trailer: Some(entry.trailer),
-                },
-                left,
-            };
-        }
+    while let Some(next) = next_property(s, limit, group) {
+        left = record_left(left, owner, index, letters, s, next.property);
+        group = next.group;
     }
-    GroupLeft {
-        group: Group {
-            count,
-            stop: p,
-            trailer: None,
-        },
-        left,
-    }
+    GroupLeft { group, left }
 }
 
 // After the records of the reported of the `n` top nodes from `at` on, with all below them.

@@ -3,7 +3,7 @@
 use Prim.Native.Nat.{ℕ, ◌+◌, ◌*◌, ◌≤◌, ◌<◌}
 use native.Mathlib.Omega.{arith}
 use mathlib.Core.Path.{◌≡◌, refl, sym, ap, ap₂, subst, ◌∙◌}
-use mathlib.Core.Bool.{Bool, true, false}
+use mathlib.Core.Bool.{Bool, true, false, cond}
 use mathlib.Core.List.{List, [], ◌∷◌, ◌++◌, map}
 use mathlib.Core.Option.{Option, some}
 use lib.Dec.{ltb}
@@ -14,11 +14,10 @@ use Rattle.rules.specs.Bytes.{u16}
 use Rattle.rules.specs.Rows.{property_width}
 use Rattle.rules.specs.Reading.{property_row}
 use Rattle.rules.specs.ReadLater.{property_of}
-use Rattle.rules.specs.declared.Property.{Property}
 use Rattle.rules.specs.Tree.{Node, no_parent, levels, is_reported}
-use Rattle.rules.specs.Later.{Prop, end_at, property_at, ends_group, group_at, nodes_at, match_at, scan_from}
+use Rattle.rules.specs.Later.{Prop, is_inside, length_at, end_at, trailer_at, property_at, ends_group, group_at, nodes_at, match_at, scan_from}
 use Rattle.rules.proofs.ListLaws.{none_some}
-use Rattle.rules.proofs.LaterLaws.{group-none, group-last, group-more}
+use Rattle.rules.proofs.LaterLaws.{inside_true, group-none, group-last, group-more}
 use Rattle.rows.specs.Acts.{top_nodes, Held}
 use Rattle.rows.specs.Put.{put}
 use Rattle.rows.specs.Writing.{write_properties}
@@ -26,10 +25,9 @@ use Rattle.rows.proofs.PutLaws.{put-length}
 use Rattle.rows.proofs.WritingLaws.{properties-more, properties-none}
 use Rattle.matchlater.specs.Match.{NextMatch}
 use Rattle.matchlater.proofs.MatchLaws.{scanned_node, shown, scan-same, scan_step, scan-end}
-use Rattle.countlater.specs.Count.{extent, group, behind, group_in}
-use Rattle.countlater.specs.declared.Extent.{Extent}
+use Rattle.countlater.specs.Count.{extent_record, extent, group, behind, group_in}
 use Rattle.countlater.specs.declared.Group.{Group}
-use Rattle.countlater.proofs.PassedLaws.{extent_inside, extent_outside, props_some, Passed, passed_start, passed_none, passed_last, passed_more}
+use Rattle.countlater.proofs.PassedLaws.{props_some, Passed, passed_start, passed_none, passed_last, passed_more}
 use Rattle.countlater.proofs.NodeLaws.{behind-in, head_past}
 use Rattle.countlater.proofs.ScanLaws.{shown_some, shown-none}
 use Rattle.cursor.specs.Walk.{Step}
@@ -44,7 +42,8 @@ use Rattle.cursor.proofs.VisitLaws as laws
 use Rattle.cursor.proofs.VisitLaws.{Visit, EntryWork, Going}
 use Rattle.cursorlater.specs.Steps.{step_at}
 use Rattle.cursorlater.proofs.StepLaws.{nodes-same}
-use Rattle.later.specs.Write.{props_at, GroupReady, GroupDone}
+use Rattle.later.specs.Write.{props_at, next_record, next_of, GroupReady, GroupDone}
+use Rattle.later.specs.declared.NextProperty.{NextProperty}
 use Rattle.later.specs.Groups.{Grouped}
 use Rattle.later.proofs.Walking.{Parts, parts}
 
@@ -53,41 +52,81 @@ use Rattle.later.proofs.Walking.{Parts, parts}
 abbrev from_at : List ℕ → ℕ → ℕ → Option (List Prop × ℕ)
 from_at s limit p = some (props_at s limit p, (group_at s limit p).stop)
 
--- what is left of it from p on, after n properties
-pub record Grouping {A : Type 0} (one : Prop → A → A) (all : List Prop → A → A) (Ok : List Prop → A → Type 0) (s : List ℕ) (limit at : ℕ) (old : A) (p n : ℕ) (now : A) : Type 0 where
+-- what is left of it after n properties: from p on, or nothing where a trailer ended it
+abbrev left_at : List ℕ → ℕ → ℕ → code.Option ℕ → Option (List Prop × ℕ)
+left_at s limit p code.None = from_at s limit p
+left_at s limit p (code.Some t) = some ([], p)
+
+abbrev Gone : List ℕ → ℕ → ℕ → ℕ → ℕ → code.Option ℕ → Type 0
+Gone s limit at n p code.None = Passed s limit at n p
+Gone s limit at n p (code.Some t) = record { count = n; stop = p; trailer = code.Some t } ≡ group (group_at s limit at)
+
+pub record Grouping {A : Type 0} (one : Prop → A → A) (all : List Prop → A → A) (Ok : List Prop → A → Type 0) (s : List ℕ) (limit at : ℕ) (old : A) (n p : ℕ) (o : code.Option ℕ) (now : A) : Type 0 where
   pub work : Work one all all Ok Ok
-  pub rest : Left (Ran all (from_at s limit at) old) all Ok (from_at s limit p) now
-  pub passed : Passed s limit at n p
+  pub rest : Left (Ran all (from_at s limit at) old) all Ok (left_at s limit p o) now
+  pub gone : Gone s limit at n p o
+  pub few : n ≤ p
 
 pub grouping_start : {A : Type 0} {one : Prop → A → A} {all : List Prop → A → A} {Ok : List Prop → A → Type 0} {s : List ℕ} {limit at : ℕ} {old : A}
-    → Work one all all Ok Ok → Ok (props_at s limit at) old → Grouping one all Ok s limit at old at 0 old
-grouping_start W h = record { work = W; rest = left-start h; passed = passed_start }
+    → Work one all all Ok Ok → Ok (props_at s limit at) old → Grouping one all Ok s limit at old 0 at code.None old
+grouping_start W h = record { work = W; rest = left-start h; gone = passed_start; few = omega arith }
 
-module _ {A : Type 0} {one : Prop → A → A} {all : List Prop → A → A} {Ok : List Prop → A → Type 0} {s : List ℕ} {limit at : ℕ} {old : A} {p n : ℕ} {now : A}
-    (w : Grouping one all Ok s limit at old p n now) where
-  module _ (h : limit ≤ length s) where
-    pub grouping_none : code.None ≡ extent s limit p → Grouped all s limit at old now (record { count = n; stop = p; trailer = code.None })
-    grouping_none e =
-        let o : from_at s limit p ≡ some ([], p) = ap (λ g. some (g.props, g.stop)) (group-none s limit p h (extent_outside s limit p e)) in
-        record { is = (left-done w.rest (w.work.none_left now) o).held.is; group-is = passed_none h w.passed e }
+-- what the next one's answer says
+pub record NextIs (s : List ℕ) (limit n p : ℕ) (o : code.Option ℕ) (x : NextProperty) : Type 0 where
+  pub open_yet : o ≡ code.None
+  pub test : is_inside s limit p ≡ true
+  pub is : x ≡ next_record s n p
+  pub property-is : x.property ≡ property_of s (property_at s p)
+  pub behind : p < x.group.stop
+  pub within : x.group.stop ≤ limit
 
-    -- the property of this turn is done
-    module _ {x : Extent} (e : code.Some x ≡ extent s limit p) {next : A} (we : next ≡ one (property_at s p) now) where
-      pub grouping_last : true ≡ ends_group x.trailer → Grouped all s limit at old next (record { count = n + 1; stop = x.next; trailer = code.Some x.trailer })
-      grouping_last t =
-          let i = extent_inside e in
-          let g = group-last s limit p h i.test (ap ends_group (sym i.trailer) ∙ sym t) in
-          let o : from_at s limit p ≡ some (property_at s p ∷ [], end_at s p) = ap (λ g. some (g.props, g.stop)) g in
-          let d = left-done (left-next w.rest (property_at s p) (some ([], end_at s p)) o w.work we) (w.work.none_left next) refl in
-          record { is = d.held.is; group-is = passed_last h w.passed e t }
+pub next_is : {s : List ℕ} {limit n p : ℕ} (o : code.Option ℕ) {x : NextProperty} → code.Some x ≡ next_of s limit n p o → NextIs s limit n p o x
+next_is (code.Some t) e = cc
+next_is {s} {limit} {n} {p} code.None {x} e = go (is_inside s limit p) refl e
+  where
+    go : (b : Bool) → is_inside s limit p ≡ b → code.Some x ≡ cond b (code.Some (next_record s n p)) code.None → NextIs s limit n p code.None x
+    go false w h = cc
+    go true w h =
+        let k : x ≡ next_record s n p = cc in
+        let st : x.group.stop ≡ end_at s p = ap (λ y. y.group.stop) k in
+        record { open_yet = refl; test = w; is = k; property-is = ap (λ y. y.property) k; behind = omega arith; within = omega (arith, inside_true s limit p w) }
 
-      pub grouping_more : false ≡ ends_group x.trailer → Grouping one all Ok s limit at old x.next (n + 1) next
-      grouping_more t =
-          let i = extent_inside e in
-          let g = group-more s limit p h i.test (ap ends_group (sym i.trailer) ∙ sym t) in
-          let o : from_at s limit p ≡ some (property_at s p ∷ props_at s limit x.next, (group_at s limit x.next).stop) =
-          ap (λ g. some (g.props, g.stop)) g ∙ ap (λ a. some (property_at s p ∷ props_at s limit a, (group_at s limit a).stop)) (sym i.next) in
-          record { work = w.work; rest = left-next w.rest (property_at s p) (from_at s limit x.next) o w.work we; passed = passed_more h w.passed e t }
+next_none : (s : List ℕ) (limit n p : ℕ) → code.None ≡ next_of s limit n p code.None → is_inside s limit p ≡ false
+next_none s limit n p e = go (is_inside s limit p) e
+  where
+    go : (b : Bool) → code.None ≡ cond b (code.Some (next_record s n p)) code.None → b ≡ false
+    go true h = cc
+    go false h = refl
+
+out : (s : List ℕ) (limit p : ℕ) → is_inside s limit p ≡ false → code.None ≡ extent s limit p
+out s limit p f = rw f refl
+
+here : (s : List ℕ) (limit p : ℕ) → is_inside s limit p ≡ true → code.Some (extent_record (length_at s p) (end_at s p) (trailer_at s p)) ≡ extent s limit p
+here s limit p t = rw t refl
+
+module _ {A : Type 0} {one : Prop → A → A} {all : List Prop → A → A} {Ok : List Prop → A → Type 0} {s : List ℕ} {limit at : ℕ} {old : A} {n p : ℕ} {now : A} (h : limit ≤ length s) where
+  pub grouping_done : (o : code.Option ℕ) → Grouping one all Ok s limit at old n p o now → code.None ≡ next_of s limit n p o → Grouped all s limit at old now (record { count = n; stop = p; trailer = o })
+  grouping_done (code.Some t) w e = record { is = (left-done w.rest (w.work.none_left now) refl).held.is; group-is = w.gone }
+  grouping_done code.None w e =
+      let f = next_none s limit n p e in
+      let o : from_at s limit p ≡ some ([], p) = ap (λ g. some (g.props, g.stop)) (group-none s limit p h f) in
+      record { is = (left-done w.rest (w.work.none_left now) o).held.is; group-is = passed_none h w.gone (out s limit p f) }
+
+  -- the next property is done
+  pub grouping_more : (o : code.Option ℕ) → Grouping one all Ok s limit at old n p o now → {x : NextProperty} → code.Some x ≡ next_of s limit n p o → {next : A} → next ≡ one (property_at s p) now
+      → Grouping one all Ok s limit at old x.group.count x.group.stop x.group.trailer next
+  grouping_more (code.Some t) w e we = cc
+  grouping_more code.None w {x} e {next} we =
+      let i = next_is code.None e in
+      subst (λ y. Grouping one all Ok s limit at old y.group.count y.group.stop y.group.trailer next) (sym i.is) (go (ends_group (trailer_at s p)) refl i.test)
+    where
+      go : (b : Bool) → ends_group (trailer_at s p) ≡ b → is_inside s limit p ≡ true → Grouping one all Ok s limit at old (n + 1) (end_at s p) (cond b (code.Some (trailer_at s p)) code.None) next
+      go true b t =
+          let o : from_at s limit p ≡ some (property_at s p ∷ [], end_at s p) = ap (λ g. some (g.props, g.stop)) (group-last s limit p h t b) in
+          record { work = w.work; rest = left-next w.rest (property_at s p) (some ([], end_at s p)) o w.work we; gone = passed_last h w.gone (here s limit p t) (sym b); few = omega (arith, w.few) }
+      go false b t =
+          let o : from_at s limit p ≡ some (property_at s p ∷ props_at s limit (end_at s p), (group_at s limit (end_at s p)).stop) = ap (λ g. some (g.props, g.stop)) (group-more s limit p h t b) in
+          record { work = w.work; rest = left-next w.rest (property_at s p) (from_at s limit (end_at s p)) o w.work we; gone = passed_more h w.gone (here s limit p t) (sym b); few = omega (arith, w.few) }
 
 -- of no property nothing comes
 pub grouped_none : {A : Type 0} {all : List Prop → A → A} {s : List ℕ} {limit at : ℕ} {old now : A} {r : Group} → Grouped all s limit at old now r → all [] old ≡ old → r.count ≤ 0 → now ≡ old
@@ -218,33 +257,32 @@ putting s = record {
 }
 
 -- what the loop keeps
-pub record Writing (s : List ℕ) (limit at : ℕ) (old : List ℕ) (first : ℕ) (new : List ℕ) (p n : ℕ) : Type 0 where
-  group : Grouping (put_one s) (put_all s) Room s limit at (filled old first) p n (filled new (first + n))
+pub record Writing (s : List ℕ) (limit at : ℕ) (old : List ℕ) (first : ℕ) (new : List ℕ) (n p : ℕ) (o : code.Option ℕ) : Type 0 where
+  pub few : n ≤ p
+  group : Grouping (put_one s) (put_all s) Room s limit at (filled old first) n p o (filled new (first + n))
 
-pub writing_start : {s : List ℕ} {limit at : ℕ} {old : List ℕ} {first : ℕ} → GroupReady s limit at (length old) first → Writing s limit at old first old at 0
+pub writing_start : {s : List ℕ} {limit at : ℕ} {old : List ℕ} {first : ℕ} → GroupReady s limit at (length old) first → Writing s limit at old first old 0 at code.None
 writing_start {s = s} {limit = limit} {at = at} {old = old} {first = first} g =
     let z : first ≡ first + 0 = omega arith in
-    record { group = subst (λ n. Grouping (put_one s) (put_all s) Room s limit at (filled old first) at 0 (filled old n)) z (grouping_start (putting s) (record { fits = g.fits })) }
+    record { few = omega arith; group = subst (λ n. Grouping (put_one s) (put_all s) Room s limit at (filled old first) 0 at code.None (filled old n)) z (grouping_start (putting s) (record { fits = g.fits })) }
 
-written : {s : List ℕ} {limit at : ℕ} {old : List ℕ} {first : ℕ} {new : List ℕ} {n : ℕ} {r : Group} → Grouped (put_all s) s limit at (filled old first) (filled new n) r → GroupDone s limit at old first new r
-written d = record { rows = ap (λ f. f.rows) d.is; is = d.group-is }
+module _ {s : List ℕ} {limit at : ℕ} {old : List ℕ} {first : ℕ} {new : List ℕ} {n p : ℕ} (h : limit ≤ length s) where
+  pub writing_done : (o : code.Option ℕ) → Writing s limit at old first new n p o → code.None ≡ next_of s limit n p o → GroupDone s limit at old first new (record { count = n; stop = p; trailer = o })
+  writing_done o w e = let d = grouping_done h o w.group e in record { rows = ap (λ f. f.rows) d.is; is = d.group-is }
 
-module _ {s : List ℕ} {limit at : ℕ} {old : List ℕ} {first : ℕ} {new : List ℕ} {p n : ℕ} (w : Writing s limit at old first new p n) (h : limit ≤ length s) where
-  pub writing_none : code.None ≡ extent s limit p → GroupDone s limit at old first new (record { count = n; stop = p; trailer = code.None })
-  writing_none e = written (grouping_none w.group h e)
+  pub writing_room : (o : code.Option ℕ) → Writing s limit at old first new n p o → {x : NextProperty} → code.Some x ≡ next_of s limit n p o → (first + n) * property_width + property_width ≤ length new
+  writing_room (code.Some t) w e = cc
+  writing_room code.None w e = omega (arith, props_some s limit p h (next_is code.None e).test, w.group.rest.ok.fits)
 
-  module _ {x : Extent} (e : code.Some x ≡ extent s limit p) where
-    pub writing_room : (first + n) * property_width + property_width ≤ length new
-    writing_room = omega (arith, props_some s limit p h (extent_inside e).test, w.group.rest.ok.fits)
-
-    module _ {q : Property} (eq : q ≡ property_of s (property_at s p)) {new' : List ℕ} (en : new' ≡ put property_width new (first + n) (property_row q ∷ [])) where
-      put_it : filled new' (first + n + 1) ≡ put_one s (property_at s p) (filled new (first + n))
-      put_it = let a = en ∙ ap (λ q. put property_width new (first + n) (property_row q ∷ [])) eq in λ i. filled (a i) (first + n + 1)
-
-      pub writing_last : true ≡ ends_group x.trailer → GroupDone s limit at old first new' (record { count = n + 1; stop = x.next; trailer = code.Some x.trailer })
-      writing_last t = written (grouping_last w.group h e put_it t)
-
-      pub writing_more : false ≡ ends_group x.trailer → Writing s limit at old first new' x.next (n + 1)
-      writing_more t =
-          let z : first + n + 1 ≡ first + (n + 1) = omega arith in
-          record { group = subst (λ k. Grouping (put_one s) (put_all s) Room s limit at (filled old first) x.next (n + 1) (filled new' k)) z (grouping_more w.group h e put_it t) }
+  pub writing_more : (o : code.Option ℕ) → Writing s limit at old first new n p o → {x : NextProperty} → code.Some x ≡ next_of s limit n p o
+      → {new' : List ℕ} → new' ≡ put property_width new (first + n) (property_row x.property ∷ []) → Writing s limit at old first new' x.group.count x.group.stop x.group.trailer
+  writing_more o w {x} e {new'} en =
+      let i = next_is o e in
+      let a = en ∙ ap (λ q. put property_width new (first + n) (property_row q ∷ [])) i.property-is in
+      let m : first + n + 1 ≡ first + (n + 1) = omega arith in
+      let z : first + n + 1 ≡ first + x.group.count = m ∙ ap (λ y. first + y.group.count) (sym i.is) in
+      let g = grouping_more h o w.group e (λ j. filled (a j) (first + n + 1)) in
+      record {
+        few = g.few;
+        group = subst (λ k. Grouping (put_one s) (put_all s) Room s limit at (filled old first) x.group.count x.group.stop x.group.trailer (filled new' k)) z g;
+      }

@@ -1,12 +1,13 @@
 -- The writing pass: what each function asks and leaves.
-use Rattle.std.specs.Prelude.{ℕ, ◌+◌, ◌*◌, ◌≤◌, ◌≡◌, Bool, List, map, eqb, length}
+use Rattle.std.specs.Prelude.{ℕ, ◌+◌, ◌*◌, ◌≤◌, ◌≡◌, Bool, cond, List, map, eqb, length}
+use Rattle.std.specs.Prelude as code
 use Rattle.std.proofs.Math.Option.{Option, none, some}
 use Rattle.rules.specs.Lists.{find}
 use Rattle.rules.specs.Answer.{longest}
 use Rattle.rules.specs.Rows.{property_width}
 use Rattle.rules.specs.Reading.{Control}
 use Rattle.rules.specs.Tree.{Node}
-use Rattle.rules.specs.Later.{Prop, length_at, group_at, scan_from, object_group, tree_of, nodes_by}
+use Rattle.rules.specs.Later.{Prop, is_inside, ends_group, length_at, end_at, trailer_at, property_at, group_at, scan_from, object_group, tree_of, nodes_by}
 use Rattle.rules.specs.ReadLater.{property_of, name_by_lem, name_of, scanned_name, name_in_lem, control_of}
 use Rattle.rules.specs.declared.Property.{Property}
 use Rattle.rules.specs.declared.Name.{Name}
@@ -16,6 +17,7 @@ use Rattle.rows.specs.Acts.{Nodes, Fit, stood, act_by, Ready}
 use Rattle.rows.specs.declared.Next.{Next}
 use Rattle.countlater.specs.Count.{group, is_tree}
 use Rattle.countlater.specs.declared.Group.{Group}
+use Rattle.later.specs.declared.NextProperty.{NextProperty}
 
 -- ---- a group
 -- the property at `at` lies within a stream that is not too long
@@ -35,6 +37,17 @@ pub record GroupReady (s : List ℕ) (limit at room first : ℕ) : Type 0 where
 pub record GroupDone (s : List ℕ) (limit at : ℕ) (old : List ℕ) (first : ℕ) (new : List ℕ) (r : Group) : Type 0 where
   pub rows : new ≡ write_properties (map (property_of s) (props_at s limit at)) old first
   pub is : r ≡ group (group_at s limit at)
+
+-- ---- a group's properties one by one: n are passed, and the next one stands at p, unless a trailer ended the group
+abbrev pub ended : ℕ → code.Option ℕ
+ended trailer = cond (ends_group trailer) (code.Some trailer) code.None
+
+abbrev pub next_record : List ℕ → ℕ → ℕ → NextProperty
+next_record s n p = record { property = property_of s (property_at s p); group = record { count = n + 1; stop = end_at s p; trailer = ended (trailer_at s p) } }
+
+abbrev pub next_of : List ℕ → ℕ → ℕ → ℕ → code.Option ℕ → code.Option NextProperty
+next_of s limit n p (code.Some trailer) = code.None
+next_of s limit n p code.None = cond (is_inside s limit p) (code.Some (next_record s n p)) code.None
 
 -- ---- a node's name: that of the first property 0x0014 among these
 abbrev pub name_or : Option Property → Name

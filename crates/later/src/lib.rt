@@ -12,7 +12,7 @@ ghost use Rattle.rows.specs.Writing.{state};
 ghost use Rattle.rows.specs.Acts.{top_nodes};
 ghost use Rattle.rows.specs.Judge.{Written, Exits};
 ghost use Rattle.countlater.specs.Count.{whole_tree};
-ghost use Rattle.later.specs.Write.{name_among, PropertyInside, GroupReady, GroupDone, NodesReady, NodesDone, ScanReady, ScanDone, BlobReady};
+ghost use Rattle.later.specs.Write.{name_among, next_of, PropertyInside, GroupReady, GroupDone, NodesReady, NodesDone, ScanReady, ScanDone, BlobReady};
 
 use countlater::{GROUP_AT, Group, OBJECT_AT, VALUE_AT, count, ends_group, parse_entry};
 use cursor::{STACK_WORDS, top};
@@ -31,6 +31,39 @@ const TYPE_AT: usize = 2;
 
 // The id of a control's name.
 const NAME_ID: u32 = 0x14;
+
+// A property of a group, and the group as far as it.
+#[derive(Clone, Copy)]
+pub struct NextProperty {
+    pub property: Property,
+    pub group: Group,
+}
+
+// The property after those of `group`, which reaches to `limit` at most; none where a trailer ended the group, or the property isn't inside.
+pub fn next_property(s: &[u8], limit: usize, group: Group) -> Option<NextProperty>
+    requires inside { limit ≤ length s.now }
+    requires small { length s.now ≤ longest }
+    requires few { group.count ≤ group.stop }
+    ensures { result ≡ next_of s.now limit group.count group.stop group.trailer }
+{
+    if group.trailer.is_some() {
+        return None;
+    }
+    let entry = parse_entry(s, limit, group.stop)?;
+    let trailer = if ends_group(entry.trailer) {
+        Some(entry.trailer)
+    } else {
+        None
+    };
+    Some(NextProperty {
+        property: property_at(s, group.stop, entry.size),
+        group: Group {
+            count: group.count + 1,
+            stop: entry.next,
+            trailer,
+        },
+    })
+}
 
 // The property at `at`, whose value has `size` bytes.
 pub fn property_at(s: &[u8], at: usize, size: usize) -> Property
@@ -94,25 +127,16 @@ fn write_group(s: &[u8], limit: usize, at: usize, rows: &mut [u32], first: usize
     requires { GroupReady s.now limit at (length rows.old) first }
     ensures { GroupDone s.now limit at rows.old first rows.new result }
 {
-    let mut p = at;
-    let mut count: usize = 0;
-    while let Some(entry) = parse_entry(s, limit, p) {
-        put_property(rows, first + count, property_at(s, p, entry.size));
-        count += 1;
-        p = entry.next;
-        if ends_group(entry.trailer) {
-            return Group {
-                count,
-                stop: p,
-                trailer: Some(entry.trailer),
-            };
-        }
-    }
-    Group {
-        count,
-        stop: p,
+    let mut group = Group {
+        count: 0,
+        stop: at,
         trailer: None,
+    };
+    while let Some(next) = next_property(s, limit, group) {
+        put_property(rows, first + group.count, next.property);
+        group = next.group;
     }
+    group
 }
 
 // Writes the reported of the `n` top nodes from `at` on, with all below them.

@@ -19,6 +19,7 @@ use Rattle.cursor.specs.declared.Cursor.{Cursor}
 use Rattle.cursor.proofs.WorkLaws.{held_as}
 use Rattle.cursor.proofs.VisitLaws.{Visit, EntryWork}
 use Rattle.cursorlater.specs.Steps.{step_at}
+use Rattle.std.specs.Prelude as code
 use Rattle.later.specs.Write.{props_at, tree_control, scanned_control}
 use Rattle.later.proofs.Visits.{Grouping, grouping_start, Visiting, top_start, Sweeping}
 use Rattle.tally.specs.Places.{bump, bumps, types_at, property_places, properties_places, control_places}
@@ -28,10 +29,10 @@ use Rattle.tallylater.specs.Counting.{group_tally, GroupDone, node_places, node_
 use Rattle.countlater.specs.declared.Group.{Group}
 
 -- ---- a group: what the loop keeps
-abbrev pub Counting : List ℕ → ℕ → ℕ → List ℕ → ℕ → ℕ → List ℕ → Type 0
-Counting s limit at old p n words = Grouping (λ q w. bumps w (property_places false (property_of s q))) (group_tally s) (Same old) s limit at old p n words
+abbrev pub Counting : List ℕ → ℕ → ℕ → List ℕ → Group → List ℕ → Type 0
+Counting s limit at old g words = Grouping (λ q w. bumps w (property_places false (property_of s q))) (group_tally s) (Same old) s limit at old g.count g.stop g.trailer words
 
-pub counting-start : {s : List ℕ} {limit at : ℕ} {old : List ℕ} → Counting s limit at old at 0 old
+pub counting-start : {s : List ℕ} {limit at : ℕ} {old : List ℕ} → Counting s limit at old (record { count = 0; stop = at; trailer = code.None }) old
 counting-start {s = s} {old = old} = grouping_start (properties_work false (property_of s) old) refl
 
 -- ---- a node: its group, then its type

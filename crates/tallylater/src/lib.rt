@@ -5,10 +5,10 @@ ghost use Rattle.std.specs.Prelude.{◌≤◌, length};
 ghost use Rattle.rules.specs.Answer.{longest};
 ghost use Rattle.tallylater.specs.Counting as counting;
 
-use countlater::{GROUP_AT, Group, OBJECT_AT, count, ends_group, parse_entry};
+use countlater::{GROUP_AT, Group, OBJECT_AT, count};
 use cursor::{STACK_WORDS, top};
 use cursorlater::{past, reported};
-use later::property_at;
+use later::next_property;
 use matchlater::{MATCH_SIZE, find_match};
 use numbers::u16_at;
 use rows::{CONTROL_WIDTH, PROPERTY_WIDTH, counted, judge};
@@ -23,25 +23,16 @@ fn count_group(s: &[u8], limit: usize, at: usize, words: &mut [u32]) -> Group
     requires { counting.GroupReady s.now limit }
     ensures { counting.GroupDone s.now limit at words.old words.new result }
 {
-    let mut p = at;
-    let mut count: usize = 0;
-    while let Some(entry) = parse_entry(s, limit, p) {
-        count_property(words, false, property_at(s, p, entry.size));
-        count += 1;
-        p = entry.next;
-        if ends_group(entry.trailer) {
-            return Group {
-                count,
-                stop: p,
-                trailer: Some(entry.trailer),
-            };
-        }
-    }
-    Group {
-        count,
-        stop: p,
+    let mut group = Group {
+        count: 0,
+        stop: at,
         trailer: None,
+    };
+    while let Some(next) = next_property(s, limit, group) {
+        count_property(words, false, next.property);
+        group = next.group;
     }
+    group
 }
 
 // Counts the reported of the `n` top nodes from `at` on, with all below them.
