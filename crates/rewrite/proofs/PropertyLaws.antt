@@ -158,8 +158,8 @@ module _ (s : List ℕ) (small : Bytes s) where
       )
 
 -- the end of a value that was read
-pub value-inside : (s : List ℕ) (p : ℕ) {r : Option Extent} {v : Extent} → r ≡ told_as told.value (property_at s p) → r ≡ Some v → v.start + v.size ≤ length s
-value-inside s p {r} {v} found is = go (property_at s p) (property-within s p) found
+pub value_inside : (s : List ℕ) (p : ℕ) {r : Option Extent} {v : Extent} → r ≡ told_as told.value (property_at s p) → r ≡ Some v → v.start + v.size ≤ length s
+value_inside s p {r} {v} found is = go (property_at s p) (property-within s p) found
   where
     go : (o : maybe.Option Prop) → Every (Within s p) o → r ≡ told_as told.value o → v.start + v.size ≤ length s
     go none h e = cc

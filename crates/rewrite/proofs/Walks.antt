@@ -70,8 +70,8 @@ pub record Counting (s : List ℕ) (n p : ℕ) : Type 0 where
   pub few : n ≤ p
   pub within : p ≤ length s
 
-pub count-start : {s : List ℕ} → Bytes s → Accepted s → Counting s 10 10
-count-start small ok = record { left = _; rest = going (body-left small ok); sum = refl; few = omega arith; within = omega (arith, ten-inside small ok) }
+pub count_start : {s : List ℕ} → Bytes s → Accepted s → Counting s 10 10
+count_start small ok = record { left = _; rest = going (body-left small ok); sum = refl; few = omega arith; within = omega (arith, ten-inside small ok) }
 
 module _ {s : List ℕ} {n p : ℕ} (c : Counting s n p) where
   module _ {x : Piece} (h : p < length s) (k : Spells s p x) where
@@ -94,8 +94,8 @@ module _ {s : List ℕ} {n p : ℕ} (c : Counting s n p) where
           within = g.inside;
         }
 
-  pub count-end : Bytes s → length s ≤ p → Sized s n
-  count-end small h = record { size = omega (arith, c.sum, ap length (rest_ended small c.rest h)); few = omega (arith, c.few, c.within) }
+  pub count_end : Bytes s → length s ≤ p → Sized s n
+  count_end small h = record { size = omega (arith, c.sum, ap length (rest_ended small c.rest h)); few = omega (arith, c.few, c.within) }
 
 -- ---- writing: what is left is to be written after what `new` has
 pub record Writing (s old : List ℕ) (at : ℕ) (new : List ℕ) (o p : ℕ) : Type 0 where
@@ -103,19 +103,19 @@ pub record Writing (s old : List ℕ) (at : ℕ) (new : List ℕ) (o p : ℕ) : 
   pub rest : Rest s left p
   pub remains : Remains old at (body s) new o left
 
-pub write-start : {s old : List ℕ} {at : ℕ} → Bytes s → Accepted s → Writing s old at old at 10
-write-start small ok = record { left = _; rest = going (body-left small ok); remains = all_remains }
+pub write_start : {s old : List ℕ} {at : ℕ} → Bytes s → Accepted s → Writing s old at old at 10
+write_start small ok = record { left = _; rest = going (body-left small ok); remains = all_remains }
 
 -- a piece takes a byte or more
 pub goes_forth : {s left : List ℕ} {p : ℕ} {x : Piece} → Goes s left p x → (p < x.next) × (x.next ≤ length s)
 goes_forth g = let o = g.order in (omega (arith, o.kept, o.replaced, o.ends), g.inside)
 
 module _ {s old new : List ℕ} {at o p : ℕ} (c : Writing s old at new o p) where
-  pub write-next : {x : Piece} {later : List ℕ} {o' : ℕ} (g : Goes s c.left p x) → Wrote new o (piece_bytes s p x) later o' → Writing s old at later o' x.next
-  write-next g w = record { left = g.later; rest = g.then; remains = on c.remains g.is w }
+  pub write_next : {x : Piece} {later : List ℕ} {o' : ℕ} (g : Goes s c.left p x) → Wrote new o (piece_bytes s p x) later o' → Writing s old at later o' x.next
+  write_next g w = record { left = g.later; rest = g.then; remains = on c.remains g.is w }
 
-  pub write-end : Bytes s → length s ≤ p → Wrote old at (body s) new o
-  write-end small h = done c.remains (rest_ended small c.rest h)
+  pub write_end : Bytes s → length s ≤ p → Wrote old at (body s) new o
+  write_end small h = done c.remains (rest_ended small c.rest h)
 
 -- ---- the answer
 module _ (s out : List ℕ) where

@@ -54,6 +54,7 @@ fn after_type(s: &[u8], at: usize) -> usize
     }
 }
 
+#[tactic(auto, using(crate::proofs::PropertyLaws::told_spells, crate::proofs::PropertyLaws::short_spells, crate::proofs::PropertyLaws::long_spells, crate::proofs::PropertyLaws::value_inside))]
 fn property(s: &[u8], at: usize) -> Piece
     requires at_in_bounds { at < length s.now }
     requires at_value { goes_on_lem s.now at ≡ true }
@@ -90,6 +91,7 @@ fn property(s: &[u8], at: usize) -> Piece
 }
 
 // What stands after a run, and the type of the entry that follows.
+#[tactic(auto, using(walk2000::proofs::Inverse::opens_plain, walk2000::proofs::Inverse::opens_listed, crate::proofs::OpeningLaws::plain_spells, crate::proofs::OpeningLaws::one_spells))]
 fn opening(s: &[u8], at: usize) -> Piece
     requires at_in_bounds { at < length s.now }
     requires at_value { goes_on_lem s.now at ≡ false }
@@ -142,6 +144,7 @@ fn piece_size(from: usize, x: Piece) -> usize
 }
 
 // How many bytes are written.
+#[tactic(auto, using(crate::proofs::Walks::count_start))]
 fn size_of(s: &[u8]) -> usize
     requires { Accepted s.now }
     ensures { Sized s.now result }
@@ -176,6 +179,7 @@ fn put_piece(out: &mut [u8], at: usize, s: &[u8], from: usize, x: Piece) -> usiz
 }
 
 // What is written after the ten bytes that are kept.
+#[tactic(auto, using(crate::proofs::Walks::write_start, crate::proofs::Walks::write_next, crate::proofs::Walks::turn))]
 fn put_pieces(out: &mut [u8], at: usize, s: &[u8]) -> usize
     requires { Accepted s.now }
     ensures { Wrote out.old at (body s.now) out.new result }
