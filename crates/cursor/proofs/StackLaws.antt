@@ -77,8 +77,8 @@ module _ {a : List ℕ} {c r : Cursor} {level : ℕ} (h : Closing a c r level) w
   pub closed_last : level ≤ 0 → Unwound a c r
   closed_last e = closed (unwind-end a level r.left r.parent (omega arith))
 
-  pub closed-some : 0 < r.left → Unwound a c r
-  closed-some e = closed (unwind_some a level r.left r.parent e)
+  pub closed_some : 0 < r.left → Unwound a c r
+  closed_some e = closed (unwind_some a level r.left r.parent e)
 
   pub closing_more : r.left ≡ 0 → 0 < level
       → Closing a c (record { at = c.at; level = level - 1; left = get_or a ((level - 1) * 2) 0; parent = get_or a ((level - 1) * 2 + 1) 0 }) (level - 1)

@@ -38,6 +38,7 @@ pub fn top(at: usize, n: u32) -> Cursor
 }
 
 // Closes the lists that have no entry left.
+#[tactic(auto, using(crate::proofs::StackLaws::closing_more, crate::proofs::StackLaws::closed_last, crate::proofs::StackLaws::closed_some))]
 fn unwound(stack: &[u32; STACK_WORDS], c: Cursor) -> Cursor
     requires { c.level ≤ levels }
     ensures { Unwound stack.now c result }
@@ -58,6 +59,7 @@ fn unwound(stack: &[u32; STACK_WORDS], c: Cursor) -> Cursor
 }
 
 // Goes on after the entry at `c`, which has row `row`, and whose list has `count` entries and starts at `next`.
+#[tactic(auto, using(crate::proofs::StackLaws::moved_out))]
 pub fn after_entry(
     stack: &mut [u32; STACK_WORDS],
     c: Cursor,
