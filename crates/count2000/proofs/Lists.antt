@@ -10,7 +10,7 @@ use Rattle.rules.specs.Tree.{levels}
 use Rattle.rules.specs.Access2000.{entry_at, entries_at}
 use Rattle.rows.specs.Counting.{tally_record, tally1, tally_top}
 use Rattle.rows.specs.declared.Tally.{Tally}
-use Rattle.rows.proofs.TakenLaws.{Counting, counting-start, counting-all, counting_deep, counting_bad, counting_more, Choosing, choosing_start, choosing_all, choosing_left, choosing_bad, choosing_more}
+use Rattle.rows.proofs.TakenLaws.{Counting, counting-all, counting_deep, counting_bad, counting_more, Choosing, choosing_all, choosing_left, choosing_bad, choosing_more}
 use Rattle.count2000.specs.Told.{EntryRead, ListRead}
 use Rattle.count2000.specs.declared.EntryTally.{EntryTally}
 use Rattle.count2000.proofs.Entries.{whole, whole_is, chosen, chosen_is, entry_room}
@@ -19,9 +19,6 @@ use Rattle.count2000.proofs.Entries.{whole, whole_is, chosen, chosen_is, entry_r
 pub record Listing (s : List ℕ) (left n at done : ℕ) (all : Tally) : Type 0 where
   pub few : at + all.controls + all.props ≤ all.next
   pub counts : Counting (entry_at s) left n at all.controls all.props done all.next
-
-pub list_start : (s : List ℕ) (left n at : ℕ) → Listing s left n at 0 (tally_record 0 0 at)
-list_start s left n at = record { few = omega arith; counts = counting-start }
 
 module _ {s : List ℕ} {left n at done : ℕ} {all : Tally} (known : Listing s left n at done all) where
   pub list_all : n ≤ done → ListRead s at n left (Some all)
@@ -54,9 +51,6 @@ module _ {s : List ℕ} {left n at done : ℕ} {all : Tally} (known : Listing s 
 pub record Topping (s : List ℕ) (n at done : ℕ) (all : Tally) : Type 0 where
   pub few : at + all.controls + all.props ≤ all.next
   pub chooses : Choosing (entry_at s) levels n at all.controls all.props done all.next
-
-pub top_start : (s : List ℕ) (n at : ℕ) → Topping s n at 0 (tally_record 0 0 at)
-top_start s n at = record { few = omega arith; chooses = choosing_start }
 
 module _ {s : List ℕ} {n at done : ℕ} {all : Tally} (known : Topping s n at done all) where
   pub top_all : n ≤ done → Some all ≡ tally_top (entries_at levels s n at)

@@ -2,7 +2,7 @@
 use Prim.Native.Nat.{ℕ, zero, suc, ◌+◌, ◌-◌, ◌≤◌, ◌<◌}
 use native.Mathlib.Omega.{arith}
 use native.Mathlib.Numerals.{sub-one}
-use mathlib.Core.Path.{◌≡◌, refl, sym, ap, subst, ◌∙◌}
+use mathlib.Core.Path.{◌≡◌, refl, sym, ap, ◌∙◌}
 use mathlib.Core.Bool.{Bool, true, false}
 use mathlib.Core.List.{List, [], ◌∷◌}
 use mathlib.Core.Option.{Option, none, some}
@@ -110,15 +110,6 @@ pub record Skipping {P : Type 0} (step : Steps P) (pick : Entry P → Bool) (c h
   pub passing : Passing step pick c here.at left
   pub stands : here ≡ cursor here.at c.level left c.parent
 
-pub skipping_start : {P : Type 0} (step : Steps P) (pick : Entry P → Bool) (c : Cursor) → c.level ≡ 0 → Skipping step pick c c c.left
-skipping_start step pick c top = record { passing = passing_none step pick c top; stands = refl }
-
 module _ {P : Type 0} {step : Steps P} {pick : Entry P → Bool} {c here : Cursor} {left : ℕ} (h : Skipping step pick c here left) where
-  pub skipped_all : left ≤ 0 → Passed step pick c here
-  skipped_all e = subst (λ r. Passed step pick c r) (sym h.stands) (passed_all h.passing e)
-
-  pub skipped_some : Every (λ e. pick e.0 ≡ true) (top_at step here.at) → Passed step pick c here
-  skipped_some e = subst (λ r. Passed step pick c r) (sym h.stands) (passed_some h.passing e)
-
   pub skipping_next : 0 < left → (e : Entry P) (next : ℕ) → top_at step here.at ≡ some (e, next) → pick e ≡ false → Skipping step pick c (cursor next c.level (left - 1) c.parent) (left - 1)
   skipping_next l e next r k = record { passing = passing_next h.passing l e next r k; stands = refl }

@@ -45,14 +45,7 @@ module _ {A : Type 0} {one : Prop → A → A} {all : List Prop → A → A} {Ok
   pub run-stop : goes_on_lem s p ≡ false → wanted now p
   run-stop t = left-done k.rest (k.work.none_left now) (steps.run-stop s p t)
 
-  -- what is asked whatever is left
-  pub run_fact : {Q : Type 0} → ((qs : List Prop) → Ok qs now → Q) → Q
-  run_fact f = left_fact k.rest f
-
   module _ {r : code.Option Extent} (goes : goes_on_lem s p ≡ true) (re : r ≡ told_as told.value (property_at s p)) where
-    pub run-broken : r ≡ code.None → ⊥
-    run-broken e = rw (steps.run_bad s p r goes re e) at k.rest.ok
-
     module _ {v : Extent} (e : r ≡ code.Some v) where
       abbrev this : Prop
       this = prop (byte s p) v.start v.size

@@ -82,18 +82,6 @@ module _ {s : List ℕ} {n p : ℕ} (c : Counting s n p) where
     pub count-few : n + size_of p x ≤ x.next
     count-few = let o = count_goes.order in omega (arith, c.few, o.kept, o.replaced, o.ends)
 
-    pub count_next : Counting s (n + size_of p x) x.next
-    count_next =
-        let g = count_goes in
-        let l = piece_long s g.order g.inside in
-        record {
-          left = g.later;
-          rest = g.then;
-          sum = omega (arith, c.sum, ap length g.is, length-append (piece_bytes s p x) g.later);
-          few = count-few;
-          within = g.inside;
-        }
-
   pub count_end : Bytes s → length s ≤ p → Sized s n
   count_end small h = record { size = omega (arith, c.sum, ap length (rest_ended small c.rest h)); few = omega (arith, c.few, c.within) }
 
@@ -105,10 +93,6 @@ pub record Writing (s old : List ℕ) (at : ℕ) (new : List ℕ) (o p : ℕ) : 
 
 pub write_start : {s old : List ℕ} {at : ℕ} → Bytes s → Accepted s → Writing s old at old at 10
 write_start small ok = record { left = _; rest = going (body-left small ok); remains = all_remains }
-
--- a piece takes a byte or more
-pub goes_forth : {s left : List ℕ} {p : ℕ} {x : Piece} → Goes s left p x → (p < x.next) × (x.next ≤ length s)
-goes_forth g = let o = g.order in (omega (arith, o.kept, o.replaced, o.ends), g.inside)
 
 module _ {s old new : List ℕ} {at o p : ℕ} (c : Writing s old at new o p) where
   pub write_next : {x : Piece} {later : List ℕ} {o' : ℕ} (g : Goes s c.left p x) → Wrote new o (piece_bytes s p x) later o' → Writing s old at later o' x.next
