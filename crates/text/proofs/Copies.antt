@@ -1,46 +1,32 @@
--- Bytes written and copied several at once, where there is room.
-use mathlib.Core.Path.{◌≡◌, refl, sym, ap, subst, ◌∙◌}
+-- Bytes copied several at once, where there is room.
+use mathlib.Core.Path.{◌≡◌, sym, ap, subst, ◌∙◌}
 use mathlib.Core.List.{List, [], ◌∷◌, ◌++◌}
-use Prim.Native.Nat.{ℕ, ◌+◌, ◌-◌, ◌≤◌, ◌<◌}
+use Prim.Native.Nat.{ℕ, ◌+◌, ◌≤◌, ◌<◌}
 use native.Mathlib.Omega.{arith}
-use native.Mathlib.Nat.{add_assoc}
-use native.Mathlib.Numerals.{add-one}
-use lib.ListN.{length, set, drop, length-set}
-use lib.Seq.{drop-cons}
-use Rattle.rules.specs.Bytes.{byte, part}
+use borrow.Rule.Slice.PartMut.{put_mid}
+use lib.ListN.{length, take, drop, length-drop, length-take, length-append}
+use lib.Seq.{drop-drop}
+use Rattle.std.proofs.Common.{take-append-drop}
 use Rattle.text.specs.Writer.{Wrote}
-use Rattle.text.proofs.Chain as chain
-use Rattle.text.proofs.Chain.{◌⨟◌}
+use Rattle.text.proofs.Chain.{nothing, same}
+use Rattle.text.proofs.Written.{stands, next}
 
--- ---- bytes one after the other
--- the same up to a place said otherwise
-pub ends : {o x n : List ℕ} {a p : ℕ} (q : ℕ) → Wrote o a x n p → p ≡ q → Wrote o a x n q
-ends {o = o} {x = x} {n = n} {a = a} q w e = subst (λ (m : ℕ). Wrote o a x n m) e w
+-- what a slice of n bytes from `at` on is written with
+pub set_wrote : {o x y : List ℕ} {at n k : ℕ} → at + n ≤ length o → k ≡ n → length y ≡ length (take k (drop at o)) → y ≡ x → Wrote o at x (put_mid at k o y) (at + n)
+set_wrote {o} {x} {y} {at} {n} {k} h q l e =
+    let m : k ≡ length x = omega (arith, ap length e, length-take k (drop at o), length-drop at o) in
+    let d : drop k (drop at o) ≡ drop (at + length x) o = ap (λ (i : ℕ). drop i (drop at o)) m ∙ drop-drop (length x) at o in
+    let w : Wrote o at x (take at o ++ (x ++ drop (at + length x) o)) (at + length x) = stands (omega arith) in
+    subst (λ (l : List ℕ). Wrote o at x l (at + n)) (sym (λ i. take at o ++ (e i ++ d i))) (subst (λ (i : ℕ). Wrote o at x (take at o ++ (x ++ drop (at + length x) o)) i) {x = at + length x} {y = at + n} (omega arith) w)
 
-pub two-set : {o : List ℕ} {at a b : ℕ} → at + 2 ≤ length o → Wrote o at (a ∷ b ∷ []) (set (set o at a) (at + 1) b) (at + 2)
-two-set {at = at} h = ends (at + 2) (chain.byte (omega arith) ⨟ chain.byte (simp length-set (omega arith))) (omega arith)
+-- fewer than one byte is left
+pub none_left : {o s : List ℕ} {a : ℕ} → length s < 1 → Wrote o a s o a
+none_left {s = []} h = nothing
+none_left {s = b ∷ s} h = absurd (omega arith)
 
--- ---- bytes of s from a place on
-module _ (s : List ℕ) where
-  drop-next : (p q : ℕ) → q ≡ p + 1 → p < length s → drop p s ≡ byte s p ∷ drop q s
-  drop-next p q e h = drop-cons s p 0 h ∙ ap (λ (n : ℕ). byte s p ∷ drop n s) (sym (e ∙ add-one p))
+-- a piece of what is left is written, for all of which there is room
+pub parts : {left piece more : List ℕ} (k : ℕ) → piece ≡ take k left → more ≡ drop k left → left ≡ piece ++ more
+parts {left} k p m = sym ((λ i. p i ++ m i) ∙ take-append-drop k left)
 
-  pub drop-one : (i : ℕ) → i < length s → length s ≤ i + 1 → drop i s ≡ byte s i ∷ []
-  drop-one i h l = drop-next i (i + 1) refl h ∙ ap (λ r. byte s i ∷ r) (lib.ListN.drop_of_length-le s l)
-
-  pub drop-two : (i : ℕ) → i + 2 ≤ length s → drop i s ≡ byte s i ∷ byte s (i + 1) ∷ drop (i + 2) s
-  drop-two i h = drop-next i (i + 1) refl (omega arith) ∙ ap (λ l. byte s i ∷ l) (drop-next (i + 1) (i + 2) (omega arith) (omega arith))
-
-  pub drop-four : (i : ℕ) → i + 4 ≤ length s → drop i s ≡ byte s i ∷ byte s (i + 1) ∷ byte s (i + 2) ∷ byte s (i + 3) ∷ drop (i + 4) s
-  drop-four i h = drop-two i (omega arith) ∙ ap (λ l. byte s i ∷ byte s (i + 1) ∷ l) (simp add_assoc at (drop-two (i + 2) (omega arith)))
-
-  drop-eight : (i : ℕ) → i + 8 ≤ length s
-      → drop i s ≡ byte s i ∷ byte s (i + 1) ∷ byte s (i + 2) ∷ byte s (i + 3) ∷ byte s (i + 4) ∷ byte s (i + 5) ∷ byte s (i + 6) ∷ byte s (i + 7) ∷ drop (i + 8) s
-  drop-eight i h = drop-four i (omega arith) ∙ ap (λ l. byte s i ∷ byte s (i + 1) ∷ byte s (i + 2) ∷ byte s (i + 3) ∷ l) (simp add_assoc at (drop-four (i + 4) (omega arith)))
-
-  pub part-eight : (i : ℕ) → i + 8 ≤ length s
-      → part s i 8 ≡ byte s i ∷ byte s (i + 1) ∷ byte s (i + 2) ∷ byte s (i + 3) ∷ byte s (i + 4) ∷ byte s (i + 5) ∷ byte s (i + 6) ∷ byte s (i + 7) ∷ []
-  part-eight i h = rw (drop-eight i h)
-
-  pub eight-more : (i : ℕ) → i + 8 ≤ length s → drop i s ≡ part s i 8 ++ drop (i + 8) s
-  eight-more i h = drop-eight i h ∙ sym (ap (λ (l : List ℕ). l ++ drop (i + 8) s) (part-eight i h))
+pub piece_room : {o new left piece : List ℕ} (more : List ℕ) {a b : ℕ} → left ≡ piece ++ more → a + length left ≤ length o → Wrote o a piece new b → b + length more ≤ length new
+piece_room {piece = piece} more e h w = omega (arith, ap length e, length-append piece more, same w, next w (omega (arith, ap length e, length-append piece more)))

@@ -1,9 +1,12 @@
 -- The digits of a number as the code writes them, one at a time; how long a label is.
-use mathlib.Core.Path.{◌≡◌, refl, ap, ◌∙◌}
+use mathlib.Core.Path.{◌≡◌, refl, sym, ap, ◌∙◌}
 use mathlib.Core.Bool.{Bool, true, false, cond}
 use mathlib.Core.List.{List, [], ◌∷◌, ◌++◌, append_assoc}
-use Prim.Native.Nat.{ℕ, zero, suc, ◌+◌, ◌*◌, ◌-◌, ◌/◌, ◌%◌, ◌≤◌, ◌<◌}
+use Prim.Native.Nat.{ℕ, zero, suc, ◌+◌, ◌*◌, ◌-◌, ◌^◌, ◌/◌, ◌%◌, ◌≤◌, ◌<◌}
 use native.Mathlib.Omega.{arith}
+use native.Mathlib.Numerals.{unary_clauses}
+use Rattle.std.specs.Prelude.{Option, None, Some, IfNone, IfSome}
+use Rattle.std.specs.Option.{unwrap_or}
 use borrow.Author.Tests.{lt-ltb, le-ltb, ltb-true, ltb-false}
 use lib.Dec.{ltb}
 use lib.ListN.{length, length-append}
@@ -81,6 +84,23 @@ short-label n h = rw (one-digit n h)
 pub longer-label : (n : ℕ) → 10 ≤ n → length (label n) ≡ length (label (n / 10)) + 1
 unfolding label
 longer-label n h = rw (more_digits n h) (simp length-append (omega arith))
+
+-- by its power of ten
+one-power : (k : ℕ) → 1 ≤ 10 ^ k
+one-power zero = omega arith
+one-power (suc k) = let h = one-power k in simp unary_clauses (omega arith)
+
+pub label_power : (k n : ℕ) → 10 ^ k ≤ n → n < 10 * 10 ^ k → length (label n) ≡ 9 + k
+label_power zero n h l = short-label n (omega arith)
+label_power (suc k) n h l =
+    let a = simp unary_clauses at h in
+    let b = simp unary_clauses at l in
+    let one = one-power k in
+    longer-label n (omega arith) ∙ ap (λ (m : ℕ). m + 1) (label_power k (n / 10) (omega arith) (omega arith)) ∙ omega arith
+
+pub label_logged : (n : ℕ) (r : Option ℕ) → IfNone r (n ≡ 0) → IfSome r (λ k. 10 ^ k ≤ n) → IfSome r (λ k. n < 10 * 10 ^ k) → 9 + unwrap_or r 0 ≡ length (label n)
+label_logged n None z a b = let e : n ≡ 0 = z in sym (short-label n (omega arith))
+label_logged n (Some k) z a b = sym (label_power k n a b)
 
 -- ten, and ten times ten k times
 abbrev times : ℕ → ℕ

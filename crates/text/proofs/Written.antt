@@ -1,6 +1,6 @@
 -- What a buffer holds after a text was written, and so what the functions that write a whole text answer; the parts of a GUID's text.
 use mathlib.Core.Path.{◌≡◌, refl, sym, ap, ◌∙◌}
-use mathlib.Core.List.{List, [], ◌∷◌, ◌++◌}
+use mathlib.Core.List.{List, [], ◌∷◌, ◌++◌, append_assoc}
 use Prim.Native.Nat.{ℕ, suc, ◌+◌, ◌≤◌, ◌<◌}
 use native.Mathlib.Omega.{arith}
 use native.Mathlib.Nat.{zero-add}
@@ -34,6 +34,9 @@ module _ {o x n : List ℕ} {a b : ℕ} (w : Wrote o a x n b) (h : a + length x 
 
   pub all : n ≡ take a o ++ x ++ drop (a + length x) o
   all = ap (λ (s : Buffer). s.0) both ∙ sets-eq x o a h
+
+pub stands : {o x : List ℕ} {a : ℕ} → a + length x ≤ length o → Wrote o a x (take a o ++ (x ++ drop (a + length x) o)) (a + length x)
+stands {o} {x} {a} h = record { is = room o a x h ∙ ap (λ (l : List ℕ). (l, a + length x)) (sets-eq x o a h ∙ append_assoc (take a o) x (drop (a + length x) o)) }
 
 -- ---- the exit of a writer of a text t
 module _ (t o : List ℕ) where

@@ -1,13 +1,12 @@
 // Text in a lent buffer. A `put` function writes at a place and returns the place after it; what has no room is left out.
 #![tactic(auto)]
 
-ghost use Rattle.std.specs.Prelude.{◌≡◌, [], ◌∷◌, ◌++◌, ◌+◌, ◌-◌, ◌/◌, ◌%◌, ◌^◌, ◌≤◌, ◌<◌, length, drop};
-ghost use Rattle.rules.specs.Bytes.{part};
+ghost use Rattle.std.specs.Prelude.{◌≡◌, [], ◌∷◌, ◌++◌, ◌+◌, ◌-◌, ◌/◌, ◌%◌, ◌^◌, ◌≤◌, ◌<◌, length};
 ghost use Rattle.rules.specs.Answer.{refusal, answer};
 ghost use Rattle.rules.specs.Digits.{digit, decimal, hex};
 ghost use Rattle.rules.specs.Texts.{hexes, guid_text_lem, label, guid_exit, label_exit};
 ghost use Rattle.text.specs.Writer.{Wrote};
-ghost use Rattle.text.specs.Copies.{Few, tens};
+ghost use Rattle.text.specs.Copies.{Copied, tens};
 
 use rules::{Answer, NO_ROOM_FOR_TEXT, NOT_A_GUID};
 
@@ -46,140 +45,64 @@ fn places(size: usize, count: usize) -> usize
     size - count + 1
 }
 
-// ---- several bytes at once, for which there is room
-fn set_two(out: &mut [u8], at: usize, a: u8, b: u8)
-    requires { at + 2 ≤ length out.old }
-    ensures { Wrote out.old at (a ∷ b ∷ []) out.new (at + 2) }
+// ---- several bytes at once
+// All of them, for which there is room: as many as the type says, so that they are moved at once.
+fn set<const N: usize>(out: &mut [u8], at: usize, bytes: [u8; N]) -> usize
+    requires { at + N ≤ length out.old }
+    ensures { Wrote out.old at bytes.entry out.new result }
 {
-    out[at] = a;
-    out[at + 1] = b;
+    let end = at + N;
+    out[at..end].copy_from_slice(&bytes);
+    end
 }
 
-fn set_four(out: &mut [u8], at: usize, a: u8, b: u8, c: u8, d: u8)
-    requires { at + 4 ≤ length out.old }
-    ensures { Wrote out.old at (a ∷ b ∷ c ∷ d ∷ []) out.new (at + 4) }
+// Copies `s`, for which there is room, as far as whole pieces of N bytes go. What is left of it is returned too.
+fn copy_pieces<'a, const N: usize>(out: &mut [u8], at: usize, s: &'a [u8]) -> (usize, &'a [u8])
+    requires room { at + length s.now ≤ length out.old }
+    requires piece { (0 < N) × (N ≤ 8) }
+    ensures { Copied N out.old at s.now out.new result.0 result.1.now }
 {
-    set_two(out, at, a, b);
-    set_two(out, at + 2, c, d);
-}
-
-fn set_six(out: &mut [u8], at: usize, a: u8, b: u8, c: u8, d: u8, e: u8, f: u8)
-    requires { at + 6 ≤ length out.old }
-    ensures { Wrote out.old at (a ∷ b ∷ c ∷ d ∷ e ∷ f ∷ []) out.new (at + 6) }
-{
-    set_four(out, at, a, b, c, d);
-    set_two(out, at + 4, e, f);
-}
-
-// The eight bytes of `s` from `i` on. All are read before one is written: so they are moved at once.
-fn set_eight(out: &mut [u8], at: usize, s: &[u8], i: usize)
-    requires { (at + 8 ≤ length out.old) × (i + 8 ≤ length s.now) }
-    ensures { Wrote out.old at (part s.now i 8) out.new (at + 8) }
-{
-    let a = s[i];
-    let b = s[i + 1];
-    let c = s[i + 2];
-    let d = s[i + 3];
-    let e = s[i + 4];
-    let f = s[i + 5];
-    let g = s[i + 6];
-    let h = s[i + 7];
-    set_four(out, at, a, b, c, d);
-    set_four(out, at + 4, e, f, g, h);
-}
-
-// ---- the bytes of `s` from `i` on, for which there is room: one at most
-fn copy_last(out: &mut [u8], at: usize, s: &[u8], i: usize) -> usize
-    requires { Few out.old at s.now i 1 }
-    ensures { Wrote out.old at (drop i s.now) out.new result }
-{
-    if i < s.len() {
-        out[at] = s[i];
-        return at + 1;
+    let mut o = at;
+    let mut rest = s;
+    while let Some((piece, more)) = rest.split_first_chunk::<N>() {
+        o = set(out, o, *piece);
+        rest = more;
     }
-    at
+    (o, rest)
 }
 
-// Three at most.
-fn copy_few(out: &mut [u8], at: usize, s: &[u8], i: usize) -> usize
-    requires { Few out.old at s.now i 3 }
-    ensures { Wrote out.old at (drop i s.now) out.new result }
-{
-    if 2 <= s.len() - i {
-        set_two(out, at, s[i], s[i + 1]);
-        return copy_last(out, at + 2, s, i + 2);
-    }
-    copy_last(out, at, s, i)
-}
-
-// Seven at most.
-fn copy_some(out: &mut [u8], at: usize, s: &[u8], i: usize) -> usize
-    requires { Few out.old at s.now i 7 }
-    ensures { Wrote out.old at (drop i s.now) out.new result }
-{
-    if 4 <= s.len() - i {
-        set_four(out, at, s[i], s[i + 1], s[i + 2], s[i + 3]);
-        return copy_few(out, at + 4, s, i + 4);
-    }
-    copy_few(out, at, s, i)
-}
-
+// The bytes of `s`, for which there is room. One copy of them all would call memcpy, and the archive is to call nothing but memset.
 fn copy(out: &mut [u8], at: usize, s: &[u8]) -> usize
     requires { at + length s.now ≤ length out.old }
     ensures { Wrote out.old at s.now out.new result }
 {
-    let mut o = at;
-    let mut i = 0;
-    while 8 <= s.len() - i {
-        set_eight(out, o, s, i);
-        o += 8;
-        i += 8;
-    }
-    copy_some(out, o, s, i)
+    let (o, rest) = copy_pieces::<8>(out, at, s);
+    let (o, rest) = copy_pieces::<4>(out, o, rest);
+    let (o, rest) = copy_pieces::<2>(out, o, rest);
+    let (o, _) = copy_pieces::<1>(out, o, rest);
+    o
 }
 
 // ---- whatever room there is
-pub fn put_two(out: &mut [u8], at: usize, a: u8, b: u8) -> usize
-    ensures { Wrote out.old at (a ∷ b ∷ []) out.new result }
-{
-    if at < places(out.len(), 2) {
-        set_two(out, at, a, b);
-        return at + 2;
-    }
-    put_each(out, at, &[a, b])
-}
-
-pub fn put_four(out: &mut [u8], at: usize, a: u8, b: u8, c: u8, d: u8) -> usize
-    ensures { Wrote out.old at (a ∷ b ∷ c ∷ d ∷ []) out.new result }
-{
-    if at < places(out.len(), 4) {
-        set_four(out, at, a, b, c, d);
-        return at + 4;
-    }
-    put_each(out, at, &[a, b, c, d])
-}
-
-pub fn put_six(out: &mut [u8], at: usize, a: u8, b: u8, c: u8, d: u8, e: u8, f: u8) -> usize
-    ensures { Wrote out.old at (a ∷ b ∷ c ∷ d ∷ e ∷ f ∷ []) out.new result }
-{
-    if at < places(out.len(), 6) {
-        set_six(out, at, a, b, c, d, e, f);
-        return at + 6;
-    }
-    put_each(out, at, &[a, b, c, d, e, f])
-}
-
 // A byte at a time.
 fn put_each(out: &mut [u8], at: usize, s: &[u8]) -> usize
     ensures { Wrote out.old at s.now out.new result }
 {
     let mut o = at;
-    let mut i = 0;
-    while i < s.len() {
-        o = put_byte(out, o, s[i]);
-        i += 1;
+    for b in s {
+        o = put_byte(out, o, *b);
     }
     o
+}
+
+// As many bytes as the type says.
+pub fn put_bytes<const N: usize>(out: &mut [u8], at: usize, bytes: [u8; N]) -> usize
+    ensures { Wrote out.old at bytes.entry out.new result }
+{
+    if at < places(out.len(), N) {
+        return set(out, at, bytes);
+    }
+    put_each(out, at, &bytes)
 }
 
 pub fn put_text(out: &mut [u8], at: usize, s: &[u8]) -> usize
@@ -209,26 +132,12 @@ fn put_digit(out: &mut [u8], at: usize, n: u32) -> usize
     put_byte(out, at, digit_of(n))
 }
 
-fn put_two_digits(out: &mut [u8], at: usize, a: u32, b: u32) -> usize
-    requires { (a < 16) × (b < 16) }
-    ensures { Wrote out.old at (digit a ∷ digit b ∷ []) out.new result }
-{
-    put_two(out, at, digit_of(a), digit_of(b))
-}
-
-fn put_four_digits(out: &mut [u8], at: usize, a: u32, b: u32, c: u32, d: u32) -> usize
-    requires { (a < 16) × (b < 16) × (c < 16) × (d < 16) }
-    ensures { Wrote out.old at (digit a ∷ digit b ∷ digit c ∷ digit d ∷ []) out.new result }
-{
-    put_four(out, at, digit_of(a), digit_of(b), digit_of(c), digit_of(d))
-}
-
 // A number below 100 in two digits, and one below 10000 in four.
 fn put_tens(out: &mut [u8], at: usize, n: u32) -> usize
     requires { n < 100 }
     ensures { Wrote out.old at (tens n) out.new result }
 {
-    put_two_digits(out, at, n / 10, n % 10)
+    put_bytes(out, at, [digit_of(n / 10), digit_of(n % 10)])
 }
 
 fn put_thousands(out: &mut [u8], at: usize, n: u32) -> usize
@@ -237,7 +146,16 @@ fn put_thousands(out: &mut [u8], at: usize, n: u32) -> usize
 {
     let q = n / 100;
     let r = n % 100;
-    put_four_digits(out, at, q / 10, q % 10, r / 10, r % 10)
+    put_bytes(
+        out,
+        at,
+        [
+            digit_of(q / 10),
+            digit_of(q % 10),
+            digit_of(r / 10),
+            digit_of(r % 10),
+        ],
+    )
 }
 
 // A number of four digits at most.
@@ -283,20 +201,26 @@ pub fn put_hex(out: &mut [u8], at: usize, k: u32, n: u32) -> usize
 
 // ---- GUID text
 // A byte as two digits to the base 16.
+fn hex_digits(b: u8) -> [u8; 2]
+    ensures { result ≡ hex 2 b }
+{
+    let n = b as u32;
+    [digit_of(n / 16), digit_of(n % 16)]
+}
+
 pub fn put_hex_byte(out: &mut [u8], at: usize, b: u8) -> usize
     ensures { Wrote out.old at (hex 2 b) out.new result }
 {
-    let n = b as u32;
-    put_two_digits(out, at, n / 16 % 16, n % 16)
+    put_bytes(out, at, hex_digits(b))
 }
 
 // The bytes of `g` at two places.
 fn put_pair(out: &mut [u8], at: usize, g: &[u8], i: usize, j: usize) -> usize
     ensures { Wrote out.old at (hexes g.now (i ∷ j ∷ [])) out.new result }
 {
-    let a = numbers::byte_at(g, i) as u32;
-    let b = numbers::byte_at(g, j) as u32;
-    put_four_digits(out, at, a / 16 % 16, a % 16, b / 16 % 16, b % 16)
+    let [a, b] = hex_digits(numbers::byte_at(g, i));
+    let [c, d] = hex_digits(numbers::byte_at(g, j));
+    put_bytes(out, at, [a, b, c, d])
 }
 
 pub fn put_guid(out: &mut [u8], at: usize, g: &[u8]) -> usize
@@ -355,17 +279,10 @@ pub fn guid_text(guid: &[u8], out: &mut [u8]) -> Answer
 }
 
 // ---- labels
-// Each division by ten takes a digit away.
 pub fn label_length(n: u32) -> u32
     ensures { result ≡ length (label n) }
 {
-    let mut size = SHORTEST_LABEL;
-    let mut rest = n;
-    while 10 <= rest {
-        rest = rest / 10;
-        size += 1;
-    }
-    size
+    SHORTEST_LABEL + n.checked_ilog10().unwrap_or(0)
 }
 
 pub fn label_text(n: u32, out: &mut [u8]) -> Answer
