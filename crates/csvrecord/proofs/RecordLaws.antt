@@ -1,5 +1,5 @@
 -- A record in its parts, as the code writes them, and how long each is.
-use Prim.Native.Nat.{ℕ, ◌+◌, ◌-◌, ◌<◌, ◌≤◌}
+use Prim.Native.Nat.{ℕ, ◌+◌, ◌<◌, ◌≤◌}
 use native.Mathlib.Omega.{arith}
 use mathlib.Core.Path.{◌≡◌, refl, sym, ap, ◌∙◌}
 use mathlib.Core.List.{List, [], ◌∷◌, ◌++◌, append_assoc}
@@ -17,7 +17,7 @@ use Rattle.rules.specs.Csv.{comma, crlf, is_data, field_text, record_text, heade
 use Rattle.rules.specs.declared.Property.{Property}
 use Rattle.csvlaws.proofs.CsvPlain.{Plain, plain-field, plain-none, decimal-plain, hex-plain, name_for_plain, or_id-plain, mark-plain, value-text-plain}
 use Rattle.text.specs.Writer.{Wrote}
-use Rattle.text.proofs.Chain.{◌⨟◌, wrote_as}
+use Rattle.text.proofs.Chain.{wrote_as}
 use Rattle.values.proofs.Marks.{values}
 use Rattle.fields.proofs.Tables as tables
 use Rattle.csvrecord.specs.Parts.{control_field, type_field, owned_record, owner_text, marked_text, named_text, value_field, tail_text}
@@ -101,17 +101,6 @@ module _ {m : ℕ} (k : ℕ) (e : m ≡ k) where
 pub marked-last : {m : ℕ} → 8 ≤ m → {o n : List ℕ} {a r : ℕ} → Wrote o a (comma ∷ text "loose" ++ (comma ∷ [])) n r → Wrote o a (marked_text m) n r
 unfolding marked_text mark_word
 marked-last {m} h w = wrote_as w (sym (ap (λ (l : List ℕ). comma ∷ l ++ (comma ∷ [])) (get_or-eq_default mark_words (text "loose") h)))
-
--- a word and its commas, in the pieces that the code puts
-module _ {o l n : List ℕ} {i j r a b c d e f : ℕ} (first : Wrote o i (a ∷ b ∷ c ∷ d ∷ []) l j) where
-  pub four-two : Wrote l j (e ∷ f ∷ []) n r → Wrote o i (a ∷ b ∷ c ∷ d ∷ e ∷ f ∷ []) n r
-  four-two second = first ⨟ second
-
-  pub four-four : {g h : ℕ} → Wrote l j (e ∷ f ∷ g ∷ h ∷ []) n r → Wrote o i (a ∷ b ∷ c ∷ d ∷ e ∷ f ∷ g ∷ h ∷ []) n r
-  four-four second = first ⨟ second
-
-  pub four-two-one : {m : List ℕ} {k g : ℕ} → Wrote l j (e ∷ f ∷ []) m k → Wrote m k (g ∷ []) n r → Wrote o i (a ∷ b ∷ c ∷ d ∷ e ∷ f ∷ g ∷ []) n r
-  four-two-one second third = first ⨟ second ⨟ third
 
 pub sixteen : (a b : ℕ) → length (hex 8 a ++ hex 8 b) ≡ 16
 unfolding hex

@@ -11,10 +11,13 @@ ghost use Rattle.names.specs.Lookup.{Lent};
 ghost use Rattle.text.specs.Writer.{Wrote};
 ghost use Rattle.csvrecord.specs.Parts.{owner_text, marked_text, named_text, value_field, tail_text, ColumnSize};
 
-use csvtext::{field_left, hexes_left, less, put_field, put_hexes};
+use csvtext::{field_left, hexes_left, put_field, put_hexes};
 use names::HINTS;
-use rules::{MARK_TEXT, Property};
-use text::{label_length, put_byte, put_decimal, put_four, put_hex, put_six, put_text, put_two};
+use rules::{
+    MARK_BINARY, MARK_BOOL, MARK_DOUBLE, MARK_GUID, MARK_LONG, MARK_NOT_DEFAULT, MARK_SHORT,
+    MARK_TEXT, Property,
+};
+use text::{label_length, put_byte, put_bytes, put_decimal, put_hex, put_text};
 use values::{put_value, value_bytes};
 
 // Whose property a record tells: the object's, or a control's.
@@ -25,10 +28,6 @@ pub enum Owner {
 }
 
 const COMMA: u8 = b',';
-
-const CR: u8 = 0x0D;
-
-const LF: u8 = 0x0A;
 
 // Digits of an id, of a type code.
 const CODE_DIGITS: u32 = 4;
@@ -113,44 +112,15 @@ fn put_marked(out: &mut [u8], at: usize, mark: u32) -> usize
     ensures { Wrote out.old at (marked_text mark) out.new result }
 {
     match mark {
-        0 => {
-            let p = put_four(out, at, b',', b'b', b'o', b'o');
-            put_two(out, p, b'l', b',')
-        }
-        1 => {
-            let p = put_six(out, at, b',', b'n', b'o', b't', b'd', b'e');
-            put_six(out, p, b'f', b'a', b'u', b'l', b't', b',')
-        }
-        2 => {
-            let p = put_four(out, at, b',', b's', b'h', b'o');
-            let p = put_two(out, p, b'r', b't');
-            put_byte(out, p, b',')
-        }
-        3 => {
-            let p = put_four(out, at, b',', b'l', b'o', b'n');
-            put_two(out, p, b'g', b',')
-        }
-        4 => {
-            let p = put_four(out, at, b',', b'd', b'o', b'u');
-            put_four(out, p, b'b', b'l', b'e', b',')
-        }
-        5 => {
-            let p = put_four(out, at, b',', b'g', b'u', b'i');
-            put_two(out, p, b'd', b',')
-        }
-        6 => {
-            let p = put_four(out, at, b',', b't', b'e', b'x');
-            put_two(out, p, b't', b',')
-        }
-        7 => {
-            let p = put_four(out, at, b',', b'b', b'i', b'n');
-            put_four(out, p, b'a', b'r', b'y', b',')
-        }
-        _ => {
-            let p = put_four(out, at, b',', b'l', b'o', b'o');
-            let p = put_two(out, p, b's', b'e');
-            put_byte(out, p, b',')
-        }
+        MARK_BOOL => put_bytes(out, at, *b",bool,"),
+        MARK_NOT_DEFAULT => put_bytes(out, at, *b",notdefault,"),
+        MARK_SHORT => put_bytes(out, at, *b",short,"),
+        MARK_LONG => put_bytes(out, at, *b",long,"),
+        MARK_DOUBLE => put_bytes(out, at, *b",double,"),
+        MARK_GUID => put_bytes(out, at, *b",guid,"),
+        MARK_TEXT => put_bytes(out, at, *b",text,"),
+        MARK_BINARY => put_bytes(out, at, *b",binary,"),
+        _ => put_bytes(out, at, *b",loose,"),
     }
 }
 
@@ -187,7 +157,7 @@ fn put_tail(
     let v = p.value;
     let q = put_named(out, at, index, letters, hints, v.mark, p.id);
     let q = put_value_field(out, q, stream, p);
-    put_two(out, q, CR, LF)
+    put_bytes(out, q, *b"\r\n")
 }
 
 // A record; `owner` has the fields that tell the owner, with their commas.
@@ -244,14 +214,14 @@ fn word_size(mark: u32) -> usize
     ensures { result ≡ length (mark_word mark) }
 {
     match mark {
-        0 => 4,
-        1 => 10,
-        2 => 5,
-        3 => 4,
-        4 => 6,
-        5 => 4,
-        6 => 4,
-        7 => 6,
+        MARK_BOOL => 4,
+        MARK_NOT_DEFAULT => 10,
+        MARK_SHORT => 5,
+        MARK_LONG => 4,
+        MARK_DOUBLE => 6,
+        MARK_GUID => 4,
+        MARK_TEXT => 4,
+        MARK_BINARY => 6,
         _ => 5,
     }
 }
@@ -278,11 +248,11 @@ fn column_size(mark: u32, low: u32) -> usize
     ensures { ColumnSize mark low result }
 {
     match mark {
-        0 => yes_size(low),
-        1 => 1,
-        2 => signed_size(low),
-        3 => signed_size(low),
-        4 => 16,
+        MARK_BOOL => yes_size(low),
+        MARK_NOT_DEFAULT => 1,
+        MARK_SHORT => signed_size(low),
+        MARK_LONG => signed_size(low),
+        MARK_DOUBLE => 16,
         _ => 38,
     }
 }
@@ -295,7 +265,7 @@ fn value_left(room: usize, stream: &[u8], p: Property) -> usize
         return field_left(room, value_bytes(stream, p.start, p.size));
     }
     if v.mark < MARK_TEXT {
-        return less(room, column_size(v.mark, v.low));
+        return room.saturating_sub(column_size(v.mark, v.low));
     }
     hexes_left(room, value_bytes(stream, p.start, p.size))
 }
@@ -313,9 +283,10 @@ pub fn record_left(
     ensures { result ≡ room - (owner + length (tail_text stream.now (property_row p))) }
 {
     let v = p.value;
-    let left = less(room, owner);
-    let left = less(left, property_size(index, letters, v.mark, p.id));
-    let left = less(left, word_size(v.mark));
-    let left = less(left, 4);
+    let left = room
+        .saturating_sub(owner)
+        .saturating_sub(property_size(index, letters, v.mark, p.id))
+        .saturating_sub(word_size(v.mark))
+        .saturating_sub(4);
     value_left(left, stream, p)
 }

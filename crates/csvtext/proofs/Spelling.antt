@@ -4,15 +4,15 @@ use native.Mathlib.Omega.{arith}
 use mathlib.Core.Path.{◌≡◌, refl, sym, ap, ◌∙◌}
 use mathlib.Core.Bool.{Bool, true, false, cond}
 use mathlib.Core.List.{List, [], ◌∷◌, ◌++◌, map}
-use lib.ListN.{length, drop, length-drop}
+use lib.ListN.{length, get_or, drop, length-drop}
 use Rattle.rules.specs.Lists.{concat}
 use Rattle.rules.specs.Bytes.{byte, u16}
 use Rattle.rules.specs.Utf16.{is_high}
 use Rattle.rules.specs.Scalars.{scalar, scalars_from}
 use Rattle.csvlaws.proofs.Utf8Laws.{high-then}
-use Rattle.utf16.proofs.Units.{two}
+use Rattle.std.specs.Int.{w16, from_le_bytes}
+use Rattle.utf16.proofs.Units.{two, Units, many_units, unit_there, unit_number}
 use Rattle.text.specs.Writer.{Wrote}
-use Rattle.text.proofs.Chain.{wrote_as}
 use Rattle.text.proofs.Remains.{Remains, all_remains, on, done}
 use Rattle.csvtext.specs.Units.{waiting, unit_by}
 
@@ -69,27 +69,44 @@ module _ (spell : ℕ → List ℕ) (high u : ℕ) where
   unfolding unit_by
   ends e = rw e
 
--- ---- written: what the units from i on spell is still to be written
-pub record SpellsLeft (spell : ℕ → List ℕ) (bytes old : List ℕ) (at : ℕ) (now : List ℕ) (p i high : ℕ) : Type 0 where
-  pub inside : i ≤ length bytes
+-- ---- the units as arrays: one more, and all
+module _ {s : List ℕ} {units : List (List ℕ)} (U : Units s units) (k : ℕ) where
+  module _ (h : k < length units) {u : ℕ} (read : u ≡ from_le_bytes w16 (get_or units k [])) where
+    read_unit : u16 s (2 * k) ≡ u
+    read_unit = sym (read ∙ unit_number U k h)
+
+    next_place : 2 * k + 2 ≡ 2 * (k + 1)
+    next_place = omega arith
+
+    pub scalars_unit : (high : ℕ) → scalars_from high (drop (2 * k) s) ≡ ended high u ++ scalars_from (waiting u) (drop (2 * (k + 1)) s)
+    scalars_unit high = scalars-step s (2 * k) high (unit_there U k h) ∙ (λ t. ended high (read_unit t) ++ scalars_from (waiting (read_unit t)) (drop (next_place t) s))
+
+    pub spelled_unit : (spell : ℕ → List ℕ) (high : ℕ) → spelled_from spell high (drop (2 * k) s) ≡ unit_by spell high u ++ spelled_from spell (waiting u) (drop (2 * (k + 1)) s)
+    spelled_unit spell high =
+        spelled_step spell s (2 * k) high (unit_there U k h)
+        ∙ (λ t. unit_by spell high (read_unit t) ++ spelled_from spell (waiting (read_unit t)) (drop (next_place t) s))
+
+  pub scalars_over : length units ≤ k → (high : ℕ) → scalars_from high (drop (2 * k) s) ≡ []
+  scalars_over h high = scalars-end s (2 * k) high (omega (arith, many_units U))
+
+  pub spelled_over : length units ≤ k → (spell : ℕ → List ℕ) (high : ℕ) → spelled_from spell high (drop (2 * k) s) ≡ []
+  spelled_over h spell high = spelled-end spell s (2 * k) high (omega (arith, many_units U))
+
+-- ---- written: what the units from the k-th on spell is still to be written
+pub record SpellsLeft (spell : ℕ → List ℕ) (bytes old : List ℕ) (at : ℕ) (now : List ℕ) (p k high : ℕ) : Type 0 where
   pub low : high < 0xDC00
-  pub rest : Remains old at (spelled_from spell 0 bytes) now p (spelled_from spell high (drop i bytes))
+  pub rest : Remains old at (spelled_from spell 0 bytes) now p (spelled_from spell high (drop (2 * k) bytes))
 
 pub spells_start : {spell : ℕ → List ℕ} {bytes old : List ℕ} {at : ℕ} → SpellsLeft spell bytes old at old at 0 0
-spells_start = record { inside = omega arith; low = omega arith; rest = all_remains }
+spells_start = record { low = omega arith; rest = all_remains }
 
-module _ {spell : ℕ → List ℕ} {bytes old : List ℕ} {at : ℕ} {now : List ℕ} {p i high : ℕ} (g : SpellsLeft spell bytes old at now p i high) where
-  pub spells_more : i + 1 < length bytes → {u next : ℕ} → u ≡ u16 bytes i → next ≡ waiting u → {new : List ℕ} {e : ℕ} → Wrote now p (unit_by spell high u) new e
-      → SpellsLeft spell bytes old at new e (i + 2) next
-  spells_more h {u} {next} read waited v =
-      let w : next ≡ waiting (u16 bytes i) = waited ∙ ap waiting read in
-      record {
-        inside = omega arith;
-        low = omega (arith, w, waits (u16 bytes i) (is_high (u16 bytes i)) refl);
-        rest = on g.rest
-            (spelled_step spell bytes i high h ∙ sym (ap (λ (n : ℕ). unit_by spell high (u16 bytes i) ++ spelled_from spell n (drop (i + 2) bytes)) w))
-            (wrote_as v (ap (unit_by spell high) read));
-      }
+module _ {spell : ℕ → List ℕ} {bytes old : List ℕ} {at : ℕ} {now : List ℕ} {p k high : ℕ} (g : SpellsLeft spell bytes old at now p k high) {units : List (List ℕ)} (U : Units bytes units) where
+  pub spells_more : k < length units → {u next : ℕ} → u ≡ from_le_bytes w16 (get_or units k []) → next ≡ waiting u → {new : List ℕ} {e : ℕ} → Wrote now p (unit_by spell high u) new e
+      → SpellsLeft spell bytes old at new e (k + 1) next
+  spells_more h {u} {next} read w v = record {
+    low = omega (arith, w, waits u (is_high u) refl);
+    rest = on g.rest (spelled_unit U k h read spell high ∙ sym (ap (λ (n : ℕ). unit_by spell high u ++ spelled_from spell n (drop (2 * (k + 1)) bytes)) w)) v;
+  }
 
-  pub spells_done : length bytes ≤ i + 1 → Wrote old at (spelled_from spell 0 bytes) now p
-  spells_done h = done g.rest (spelled-end spell bytes i high h)
+  pub spells_done : length units ≤ k → Wrote old at (spelled_from spell 0 bytes) now p
+  spells_done h = done g.rest (spelled_over U k h spell high)

@@ -3,14 +3,13 @@ use Prim.Native.Nat.{ℕ, ◌+◌, ◌*◌, ◌-◌, ◌<◌, ◌≤◌}
 use native.Mathlib.Omega.{arith}
 use mathlib.Core.Path.{◌≡◌, refl, sym, ap, ◌∙◌}
 use mathlib.Core.Bool.{Bool, true, false, cond, not, ◌&&◌}
-use mathlib.Core.List.{List, [], ◌∷◌, ◌++◌, map}
+use mathlib.Core.List.{List, [], ◌∷◌, ◌++◌, map, append_assoc, append-nil}
 use lib.Dec.{eqb}
-use lib.ListN.{length, drop}
-use lib.Seq.{drop-cons}
-use native.Mathlib.Numerals.{add-one}
+use lib.ListN.{length, get_or, drop}
 use borrow.Author.Tests.{eq-eqb, ne_eqb}
 use Rattle.rules.specs.Lists.{concat, all}
-use Rattle.rules.specs.Bytes.{byte, u16}
+use Rattle.std.specs.Int.{w16, from_le_bytes}
+use Rattle.utf16.proofs.Units.{Units}
 use Rattle.rules.specs.Digits.{hex}
 use Rattle.rules.specs.Utf16.{is_high}
 use Rattle.rules.specs.Scalars.{scalar, scalars_from, scalars}
@@ -20,7 +19,7 @@ use Rattle.csvlaws.proofs.CsvLaws.{doubled-append, all_append}
 use Rattle.csvlaws.proofs.CsvPlain.{plain-doubled}
 use Rattle.csvlaws.proofs.Utf8Laws.{utf8-doubled, utf8_data}
 use Rattle.csvtext.specs.Units.{waiting, doubled_of, unit_text, unit_data}
-use Rattle.csvtext.proofs.Spelling.{scalars-step, scalars-end, spelled_from, ends}
+use Rattle.csvtext.proofs.Spelling.{scalars_unit, scalars_over, spelled_from, ends}
 
 -- ---- from a place on, after a first half that waits
 abbrev pub text_from : ℕ → List ℕ → List ℕ
@@ -46,20 +45,21 @@ unfolding data_from utf8 scalars
 data_all s = refl
 
 -- ---- a unit more
-module _ (s : List ℕ) (i high : ℕ) where
-  pub data_step : i + 1 < length s → data_from high (drop i s) ≡ (unit_data high (u16 s i) && data_from (waiting (u16 s i)) (drop (i + 2) s))
+module _ {s : List ℕ} {units : List (List ℕ)} (U : Units s units) (k high : ℕ) where
+  pub data_unit : k < length units → {u : ℕ} → u ≡ from_le_bytes w16 (get_or units k [])
+      → data_from high (drop (2 * k) s) ≡ (unit_data high u && data_from (waiting u) (drop (2 * (k + 1)) s))
   unfolding data_from unit_data concat
-  data_step h = ap characters_data (scalars-step s i high h) ∙ go (is_high (u16 s i)) _
+  data_unit h {u} read = ap characters_data (scalars_unit U k h read high) ∙ go (is_high u) _
     where
-      go : (t : Bool) (cs : List ℕ) → characters_data (cond t [] (scalar high (u16 s i) ∷ []) ++ cs) ≡ (cond t true (is_data (scalar high (u16 s i))) && characters_data cs)
+      go : (t : Bool) (cs : List ℕ) → characters_data (cond t [] (scalar high u ∷ []) ++ cs) ≡ (cond t true (is_data (scalar high u)) && characters_data cs)
       go true cs = refl
       go false cs =
-          all_append is_data (utf8_of (scalar high (u16 s i))) (concat (map utf8_of cs))
-          ∙ ap (λ (t : Bool). t && characters_data cs) (utf8_data (scalar high (u16 s i)))
+          all_append is_data (utf8_of (scalar high u)) (concat (map utf8_of cs))
+          ∙ ap (λ (t : Bool). t && characters_data cs) (utf8_data (scalar high u))
 
-  pub data_end : length s ≤ i + 1 → data_from high (drop i s) ≡ true
+  pub data_over : length units ≤ k → data_from high (drop (2 * k) s) ≡ true
   unfolding data_from concat all
-  data_end h = rw (scalars-end s i high h)
+  data_over h = rw (scalars_over U k h high)
 
 -- ---- a unit
 module _ (high u : ℕ) where
@@ -113,13 +113,10 @@ module _ (f : List ℕ) where
   field-quoted e = rw e
 
 -- ---- hex
-pub hexes-end : hex_text [] ≡ []
+pub hexes_append : (s : List ℕ) (b : ℕ) → hex_text (s ++ b ∷ []) ≡ hex_text s ++ hex 2 b
 unfolding hex_text
-hexes-end = refl
-
-pub hexes-step : (s : List ℕ) (i : ℕ) → i < length s → hex_text (drop i s) ≡ hex 2 (byte s i) ++ hex_text (drop (i + 1) s)
-unfolding hex_text
-hexes-step s i h = rw (drop-cons s i 0 h, add-one i)
+hexes_append [] b = append-nil (hex 2 b)
+hexes_append (a ∷ s) b = ap (λ (l : List ℕ). hex 2 a ++ l) (hexes_append s b) ∙ sym (append_assoc (hex 2 a) (hex_text s) (hex 2 b))
 
 pub length-hexes : (s : List ℕ) → length (hex_text s) ≡ length s + length s
 unfolding hex_text hex

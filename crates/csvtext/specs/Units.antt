@@ -1,6 +1,5 @@
 -- The characters of UTF-16 text, unit by unit: what a unit ends, and what waits after it.
-use Rattle.std.specs.Prelude.{ℕ, ◌+◌, ◌*◌, ◌≤◌, ◌<◌, ◌≡◌, Bool, true, cond, not, ◌&&◌, List, [], ◌∷◌, ltb, leb, length}
-use Rattle.rules.specs.Bytes.{u16}
+use Rattle.std.specs.Prelude.{ℕ, Bool, true, cond, not, ◌&&◌, List, [], ◌∷◌, ltb, leb}
 use Rattle.rules.specs.Utf16.{is_high}
 use Rattle.rules.specs.Scalars.{scalar}
 use Rattle.rules.specs.Utf8.{utf8_of}
@@ -28,13 +27,6 @@ unit_data high u = cond (is_high u) true (is_data (scalar high u))
 -- a unit that is a byte and needs no quotes: one after the comma
 unfoldable pub is_letter : ℕ → Bool
 is_letter u = not (ltb u 0x2D) && leb u 0x7F
-
--- so many units from `from` on, up to r, are letters
-pub record Past (bytes : List ℕ) (from r : ℕ) : Type 0 where
-  pub count : ℕ
-  pub there : r ≡ from + 2 * count
-  pub inside : r ≤ length bytes
-  pub letters : (k : ℕ) → k < count → is_letter (u16 bytes (from + 2 * k)) ≡ true
 
 -- the low bytes of units
 unfoldable pub lows : List ℕ → List ℕ

@@ -2,17 +2,16 @@
 // counted: what it takes is taken off a room, and nothing is left where it has none.
 #![tactic(auto)]
 
-ghost use Rattle.std.specs.Prelude.{◌≡◌, ◌-◌, ◌≤◌, ◌<◌, true, cond, length, drop};
+ghost use Rattle.std.specs.Prelude.{◌≡◌, ◌-◌, ◌<◌, true, cond, length};
 ghost use Rattle.rules.specs.Lists.{all};
 ghost use Rattle.rules.specs.Utf16.{is_high};
 ghost use Rattle.rules.specs.Scalars.{scalar};
 ghost use Rattle.rules.specs.Utf8.{utf8_of, utf8};
 ghost use Rattle.rules.specs.Csv.{is_data, doubled, field_text, hex_text};
 ghost use Rattle.text.specs.Writer.{Wrote};
-ghost use Rattle.csvtext.specs.Units.{unit_text, unit_data, waiting, is_letter, Past, lows};
+ghost use Rattle.csvtext.specs.Units.{unit_text, unit_data, waiting, is_letter, lows};
 
-use numbers::{u16_at, u16_inside};
-use text::{put_byte, put_four, put_hex_byte};
+use text::{put_byte, put_bytes, put_hex_byte};
 use utf16::is_high;
 
 const QUOTE: u8 = b'"';
@@ -42,20 +41,6 @@ const PAIRS: u32 = 0x10000;
 // What the second half of a pair tells.
 const HALF: u32 = 0x400;
 
-// What is left of a room once `n` are taken off.
-pub fn less(left: usize, n: usize) -> usize
-    ensures { result ≡ left - n }
-{
-    if left < n { 0 } else { left - n }
-}
-
-fn over(u: u16, base: u32) -> u32
-    ensures { result ≡ u - base }
-{
-    let n = u as u32;
-    if n < base { 0 } else { n - base }
-}
-
 // The character that ends with the unit `u`, after the first half `high`, or 0 where none waits.
 pub fn scalar(high: u16, u: u16) -> u32
     ensures { result ≡ scalar high u }
@@ -63,7 +48,7 @@ pub fn scalar(high: u16, u: u16) -> u32
     if high == 0 {
         return u as u32;
     }
-    PAIRS + over(high, HIGH) * HALF + over(u, LOW)
+    PAIRS + (high as u32).saturating_sub(HIGH) * HALF + (u as u32).saturating_sub(LOW)
 }
 
 // The first half that waits after the unit `u`.
@@ -81,19 +66,16 @@ pub fn put_character(out: &mut [u8], at: usize, c: u32) -> usize
     if c < 0x80 {
         return put_byte(out, at, c as u8);
     }
+    let last = (0x80 + c % 64) as u8;
     if c < 0x800 {
-        let p = put_byte(out, at, (0xC0 + c / 64) as u8);
-        return put_byte(out, p, (0x80 + c % 64) as u8);
+        return put_bytes(out, at, [(0xC0 + c / 64) as u8, last]);
     }
+    let third = (0x80 + c / 64 % 64) as u8;
     if c < 0x10000 {
-        let p = put_byte(out, at, (0xE0 + c / 4096) as u8);
-        let p = put_byte(out, p, (0x80 + c / 64 % 64) as u8);
-        return put_byte(out, p, (0x80 + c % 64) as u8);
+        return put_bytes(out, at, [(0xE0 + c / 4096) as u8, third, last]);
     }
-    let p = put_byte(out, at, (0xF0 + c / 262144) as u8);
-    let p = put_byte(out, p, (0x80 + c / 4096 % 64) as u8);
-    let p = put_byte(out, p, (0x80 + c / 64 % 64) as u8);
-    put_byte(out, p, (0x80 + c % 64) as u8)
+    let second = (0x80 + c / 4096 % 64) as u8;
+    put_bytes(out, at, [(0xF0 + c / 262144) as u8, second, third, last])
 }
 
 // What the unit `u` ends, a quote doubled.
@@ -106,8 +88,7 @@ fn put_unit(out: &mut [u8], at: usize, high: u16, u: u16) -> usize
     }
     let c = scalar(high, u);
     if c == QUOTE_SIGN {
-        let p = put_byte(out, at, QUOTE);
-        return put_byte(out, p, QUOTE);
+        return put_bytes(out, at, [QUOTE, QUOTE]);
     }
     put_character(out, at, c)
 }
@@ -115,14 +96,13 @@ fn put_unit(out: &mut [u8], at: usize, high: u16, u: u16) -> usize
 fn put_doubled(out: &mut [u8], at: usize, bytes: &[u8]) -> usize
     ensures { Wrote out.old at (doubled (utf8 bytes.now)) out.new result }
 {
+    let (units, _) = bytes.as_chunks::<2>();
     let mut p = at;
-    let mut i: usize = 0;
-    let mut high: u16 = 0;
-    while 1 < bytes.len() - i {
-        let u = u16_at(bytes, i);
+    let mut high = 0;
+    for unit in units {
+        let u = u16::from_le_bytes(*unit);
         p = put_unit(out, p, high, u);
         high = waiting(u);
-        i += 2;
     }
     p
 }
@@ -156,15 +136,14 @@ fn unit_is_data(high: u16, u: u16) -> bool
 fn is_plain(bytes: &[u8]) -> bool
     ensures { result ≡ all is_data (utf8 bytes.now) }
 {
-    let mut i: usize = 0;
-    let mut high: u16 = 0;
-    while 1 < bytes.len() - i {
-        let u = u16_at(bytes, i);
+    let (units, _) = bytes.as_chunks::<2>();
+    let mut high = 0;
+    for unit in units {
+        let u = u16::from_le_bytes(*unit);
         if !unit_is_data(high, u) {
             return false;
         }
         high = waiting(u);
-        i += 2;
     }
     true
 }
@@ -173,51 +152,31 @@ fn is_plain(bytes: &[u8]) -> bool
 fn is_letter(u: u16) -> bool
     ensures { result ≡ is_letter u }
 {
-    if u < FIRST_LETTER {
-        return false;
-    }
-    u <= LAST_LETTER
-}
-
-// Skips the letters from `from` on.
-fn past_letters(bytes: &[u8], from: usize) -> usize
-    requires { from ≤ length bytes.now }
-    ensures { Past bytes.now from result }
-{
-    let mut i = from;
-    while 1 < bytes.len() - i {
-        if !is_letter(u16_inside(bytes, i)) {
-            return i;
-        }
-        i += 2;
-    }
-    i
+    FIRST_LETTER <= u && u <= LAST_LETTER
 }
 
 // Whether a text is told at a glance to be its units' low bytes: letters and spaces. Where this is false nothing is told.
 fn all_letters(bytes: &[u8]) -> bool
     ensures { result ≡ true → field_text (utf8 bytes.now) ≡ lows bytes.now }
 {
-    let mut i = past_letters(bytes, 0);
-    while 1 < bytes.len() - i {
-        if u16_inside(bytes, i) != SPACE {
+    let (units, _) = bytes.as_chunks::<2>();
+    for unit in units {
+        let u = u16::from_le_bytes(*unit);
+        if !is_letter(u) && u != SPACE {
             return false;
         }
-        i = past_letters(bytes, i + 2);
     }
     true
 }
 
-// The low bytes of the units from `from` on.
-fn put_lows_from(out: &mut [u8], at: usize, bytes: &[u8], from: usize) -> usize
-    requires { from ≤ length bytes.now }
-    ensures { Wrote out.old at (lows (drop from bytes.now)) out.new result }
+// The low bytes of the units, one at a time.
+fn put_lows_each(out: &mut [u8], at: usize, bytes: &[u8]) -> usize
+    ensures { Wrote out.old at (lows bytes.now) out.new result }
 {
+    let (units, _) = bytes.as_chunks::<2>();
     let mut p = at;
-    let mut i = from;
-    while 1 < bytes.len() - i {
-        p = put_byte(out, p, bytes[i]);
-        i += 2;
+    for unit in units {
+        p = put_byte(out, p, unit[0]);
     }
     p
 }
@@ -227,12 +186,12 @@ fn put_lows(out: &mut [u8], at: usize, bytes: &[u8]) -> usize
     ensures { Wrote out.old at (lows bytes.now) out.new result }
 {
     let mut p = at;
-    let mut i: usize = 0;
-    while 7 < bytes.len() - i {
-        p = put_four(out, p, bytes[i], bytes[i + 2], bytes[i + 4], bytes[i + 6]);
-        i += 8;
+    let mut rest = bytes;
+    while let Some((four, more)) = rest.split_first_chunk::<8>() {
+        p = put_bytes(out, p, [four[0], four[2], four[4], four[6]]);
+        rest = more;
     }
-    put_lows_from(out, p, bytes, i)
+    put_lows_each(out, p, rest)
 }
 
 // The text of these bytes as a field.
@@ -279,14 +238,13 @@ fn unit_size(high: u16, u: u16) -> usize
 fn doubled_left(room: usize, bytes: &[u8]) -> usize
     ensures { result ≡ room - length (doubled (utf8 bytes.now)) }
 {
+    let (units, _) = bytes.as_chunks::<2>();
     let mut left = room;
-    let mut i: usize = 0;
-    let mut high: u16 = 0;
-    while 1 < bytes.len() - i {
-        let u = u16_at(bytes, i);
-        left = less(left, unit_size(high, u));
+    let mut high = 0;
+    for unit in units {
+        let u = u16::from_le_bytes(*unit);
+        left = left.saturating_sub(unit_size(high, u));
         high = waiting(u);
-        i += 2;
     }
     left
 }
@@ -298,7 +256,7 @@ pub fn field_left(room: usize, bytes: &[u8]) -> usize
     if is_plain(bytes) {
         return doubled_left(room, bytes);
     }
-    doubled_left(less(room, 2), bytes)
+    doubled_left(room.saturating_sub(2), bytes)
 }
 
 // ---- hex
@@ -306,10 +264,8 @@ pub fn put_hexes(out: &mut [u8], at: usize, bytes: &[u8]) -> usize
     ensures { Wrote out.old at (hex_text bytes.now) out.new result }
 {
     let mut p = at;
-    let mut i: usize = 0;
-    while i < bytes.len() {
-        p = put_hex_byte(out, p, bytes[i]);
-        i += 1;
+    for b in bytes {
+        p = put_hex_byte(out, p, *b);
     }
     p
 }
@@ -318,5 +274,5 @@ pub fn put_hexes(out: &mut [u8], at: usize, bytes: &[u8]) -> usize
 pub fn hexes_left(room: usize, bytes: &[u8]) -> usize
     ensures { result ≡ room - length (hex_text bytes.now) }
 {
-    less(less(room, bytes.len()), bytes.len())
+    room.saturating_sub(bytes.len()).saturating_sub(bytes.len())
 }

@@ -1,7 +1,6 @@
 use borrow.Author.Rules.{rules}
 use native.Mathlib.Omega.{arith}
-use mathlib.Core.Path.{◌≡◌, sym, ap, ◌∙◌}
-use lib.ListN.{length}
+use mathlib.Core.Path.{sym, ◌∙◌}
 use Rattle.text.proofs.Arms.{past}
 use Rattle.text.proofs.Written.{guid-length}
 use Rattle.csvrecord.proofs.RecordLaws.{column_size, sixteen}

@@ -1,6 +1,6 @@
 use borrow.Author.Rules.{rules}
 use native.Mathlib.Omega.{arith}
-use mathlib.Core.Path.{◌≡◌, refl, sym, ap, ◌∙◌}
+use mathlib.Core.Path.{sym, ap}
 use lib.ListN.{length}
 use Rattle.csvrecord.specs.Parts.{owner_text}
 use Rattle.csvrecord.specs.declared.Owner.{Owner}

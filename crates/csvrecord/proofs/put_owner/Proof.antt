@@ -1,5 +1,5 @@
 use borrow.Author.Rules.{rules}
-use mathlib.Core.Path.{◌≡◌, sym, ap}
+use mathlib.Core.Path.{sym, ap}
 use Rattle.text.proofs.Chain.{◌⨟◌, wrote_as}
 use Rattle.csvrecord.specs.Parts.{owner_text}
 use Rattle.csvrecord.proofs.put_owner.Statement.{statement}

@@ -1,7 +1,7 @@
 use borrow.Author.Rules.{rules}
 use native.Mathlib.Omega.{arith}
-use mathlib.Core.Path.{◌≡◌, sym, ap, ◌∙◌}
-use lib.ListN.{length, length-append}
+use mathlib.Core.Path.{ap}
+use lib.ListN.{length}
 use Rattle.values.proofs.Marks.{low_half, high_half}
 use Rattle.csvrecord.proofs.signed_size.Statement.{statement}
 use Rattle.csvrecord.proofs.signed_size.Tie as tie

@@ -1,6 +1,5 @@
-use native.Mathlib.Omega.{arith}
-use mathlib.Core.Path.{◌≡◌, sym, ap}
-use lib.ListN.{length, get_or, get_or-eq_default}
+use mathlib.Core.Path.{sym, ap}
+use lib.ListN.{length, get_or-eq_default}
 use Rattle.rules.specs.Lists.{text}
 use Rattle.rules.specs.Listing.{mark_words, mark_word}
 use Rattle.text.proofs.Arms.{past}

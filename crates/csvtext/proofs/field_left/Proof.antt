@@ -1,7 +1,7 @@
 use borrow.Author.Rules.{rules}
 use native.Mathlib.Omega.{arith}
-use mathlib.Core.Path.{◌≡◌, refl, sym, ap, ◌∙◌}
-use mathlib.Core.List.{List, [], ◌∷◌, ◌++◌}
+use mathlib.Core.Path.{sym, ap, ◌∙◌}
+use mathlib.Core.List.{[], ◌∷◌}
 use lib.ListN.{length, length-append}
 use Rattle.rules.specs.Utf8.{utf8}
 use Rattle.rules.specs.Csv.{quote, doubled}
@@ -17,7 +17,7 @@ returns c =
 returns-2 : tie.Need-returns
 returns-2 c =
     let f = utf8 c.args.bytes.now in
-    omega (arith, c.doubled_left-2.ensures, c.less.ensures, ap length (field-quoted f (sym c.is_plain.ensures ∙ c.if-is_plain.false)), length-append (doubled f) (quote ∷ []))
+    omega (arith, c.doubled_left-2.ensures, c.saturating_sub.ensures, ap length (field-quoted f (sym c.is_plain.ensures ∙ c.if-is_plain.false)), length-append (doubled f) (quote ∷ []))
 
 pub field_left_spec : {M : Type 1} → statement M
 field_left_spec =

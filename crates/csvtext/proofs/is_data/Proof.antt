@@ -1,5 +1,4 @@
 use native.Mathlib.Omega.{arith}
-use mathlib.Core.Path.{◌≡◌}
 use Rattle.rules.specs.Csv.{is_data}
 use Rattle.csvtext.proofs.UnitLaws.{data_last}
 use Rattle.csvtext.proofs.is_data.Statement.{statement}

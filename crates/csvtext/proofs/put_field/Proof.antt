@@ -1,5 +1,5 @@
 use borrow.Author.Rules.{rules}
-use mathlib.Core.Path.{◌≡◌, sym, ◌∙◌}
+use mathlib.Core.Path.{sym, ◌∙◌}
 use Rattle.rules.specs.Utf8.{utf8}
 use Rattle.text.proofs.Chain.{◌⨟◌, wrote_as}
 use Rattle.csvtext.proofs.UnitLaws.{field_plain, field-quoted}

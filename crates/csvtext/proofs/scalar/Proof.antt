@@ -1,6 +1,6 @@
 use borrow.Author.Rules.{rules}
 use native.Mathlib.Omega.{arith}
-use mathlib.Core.Path.{◌≡◌, sym, ◌∙◌}
+use mathlib.Core.Path.{sym}
 use Rattle.csvtext.proofs.UnitLaws.{scalar-alone, scalar-pair}
 use Rattle.csvtext.proofs.scalar.Statement.{statement}
 use Rattle.csvtext.proofs.scalar.Tie as tie

@@ -1,7 +1,5 @@
 use borrow.Author.Rules.{rules}
-use mathlib.Core.Path.{◌≡◌, sym, ap, ◌∙◌}
-use mathlib.Core.Bool.{true, false}
-use Rattle.rules.specs.Utf16.{is_high}
+use mathlib.Core.Path.{sym, ap, ◌∙◌}
 use Rattle.rules.specs.Csv.{is_data}
 use Rattle.csvtext.proofs.UnitLaws.{first-half_data, ends_data}
 use Rattle.csvtext.proofs.unit_is_data.Statement.{statement}
