@@ -1,4 +1,4 @@
--- `lo` and `hi` bracket the place of x in an ascending list: what is before `lo` is below x, and what is from `hi` on is above it.
+-- The place of a number in an ascending list, as it is searched.
 use mathlib.Core.Path.{◌≡◌, refl, ap, subst}
 use mathlib.Core.Bool.{Bool, true, false}
 use mathlib.Core.List.{List, [], ◌∷◌}
@@ -8,6 +8,11 @@ use native.Mathlib.Omega.{arith}
 use borrow.Author.Tests.{ltb-true, ltb-false, eq-eqb, ne_eqb}
 use lib.Dec.{T, leb, ltb, leb→le}
 use lib.ListN.{length, get_or}
+use Rattle.std.specs.Prelude.{Result, Ok, Err, MatchResult}
+use Rattle.std.specs.Result.{result_unwrap_or}
+use Rattle.std.specs.Ordering.{nat_cmp}
+use Rattle.std.specs.List.Sorted.{IsBinarySearchResult}
+use Rattle.std.proofs.lemmas.List.Sorted.{searched}
 use Rattle.rules.specs.Lists.{ascends}
 use Rattle.names.specs.Lookup.{place_in}
 use Rattle.names.proofs.Both.{left, right}
@@ -29,15 +34,6 @@ rising n (x ∷ s) t zero (suc q) l h = omega (arith, least (x + 1) s (right (le
 rising n (x ∷ s) t (suc p) (suc q) l h =
     rising (x + 1) s (right (leb n x) (ascends (x + 1) s) t) p q (le_of_suc-le-suc l) (le_of_suc-le-suc h)
 
-pub record Bracket (s : List ℕ) (x lo hi : ℕ) : Type 0 where
-  pub ordered : lo ≤ hi
-  pub inside : hi ≤ length s
-  pub below : (k : ℕ) → k < lo → get_or s k 0 < x
-  pub above : (k : ℕ) → hi ≤ k → k < length s → x < get_or s k 0
-
-pub start : (s : List ℕ) (x : ℕ) → Bracket s x 0 (length s)
-start s x = record { ordered = omega arith; inside = omega arith; below = λ k h. absurd (omega arith); above = λ k h l. absurd (omega arith) }
-
 placed-from : (s : List ℕ) (x i : ℕ) → i < length s → get_or s i 0 ≡ x → ((j : ℕ) → j < i → get_or s j 0 ≡ x → ⊥) → i ≡ place_in s x
 unfolding place_in
 placed-from [] x i h e n = absurd (not-suc-le-zero h)
@@ -50,35 +46,28 @@ unfolding place_in
 unplaced [] x n = refl
 unplaced (a ∷ s) x n = rw (ne_eqb a x (n 0 (zero-lt-suc _))) (ap suc (unplaced s x (λ j l. n (suc j) (suc-le-suc l))))
 
-module _ (s : List ℕ) (x mid : ℕ) (asc : T (ascends 0 s)) (inside : mid < length s) where
-  up_by : get_or s mid 0 < x → (k : ℕ) → k < mid + 1 → (b : Bool) → ltb k mid ≡ b → get_or s k 0 < x
-  up_by h k l true e = omega (arith, rising 0 s asc k mid (ltb-true k mid e) inside)
-  up_by h k l false e =
-      let g : mid ≤ k = ltb-false k mid e in
-      let i : mid ≡ k = omega arith in
-      subst (λ (n : ℕ). get_or s n 0 < x) i h
+-- nothing before `mid` is x
+pub placed : (s : List ℕ) (x mid : ℕ) → T (ascends 0 s) → mid < length s → get_or s mid 0 ≡ x → mid ≡ place_in s x
+placed s x mid asc inside e = placed-from s x mid inside e (λ j l f. omega (arith, rising 0 s asc j mid l inside))
 
-  pub up : {lo hi : ℕ} → mid < hi → Bracket s x lo hi → get_or s mid 0 < x → Bracket s x (mid + 1) hi
-  up l b h = record { ordered = omega arith; inside = b.inside; below = λ k g. up_by h k g (ltb k mid) refl; above = b.above }
+-- what the library's search says of a list that ascends
+module _ (s : List ℕ) (x : ℕ) (asc : T (ascends 0 s)) where
+  in_order : (i j : ℕ) → i ≤ j → j < length s → get_or s i 0 ≤ get_or s j 0
+  in_order i j l h = go (ltb i j) refl
+    where
+      go : (t : Bool) → ltb i j ≡ t → get_or s i 0 ≤ get_or s j 0
+      go true e = let g = rising 0 s asc i j (ltb-true i j e) h in omega arith
+      go false e = let g = ltb-false i j e in let q : i ≡ j = omega arith in subst (λ (n : ℕ). get_or s i 0 ≤ get_or s n 0) q (omega arith)
 
-  down_by : x < get_or s mid 0 → (k : ℕ) → mid ≤ k → k < length s → (b : Bool) → ltb mid k ≡ b → x < get_or s k 0
-  down_by h k l m true e = omega (arith, rising 0 s asc mid k (ltb-true mid k e) m)
-  down_by h k l m false e =
-      let g : k ≤ mid = ltb-false mid k e in
-      let i : mid ≡ k = omega arith in
-      subst (λ (n : ℕ). x < get_or s n 0) i h
+  found : (r : Result ℕ ℕ)
+      → MatchResult r (λ i. (i < length s) × (get_or s i 0 ≡ x)) (λ i. (i ≤ length s) × ((k : ℕ) → k < i → get_or s k 0 < x) × ((k : ℕ) → i ≤ k → k < length s → x < get_or s k 0))
+      → result_unwrap_or r (length s) ≡ place_in s x
+  found (Ok i) m = placed s x i asc m.0 m.1
+  found (Err i) m = unplaced s x (λ j l e. nowhere j l e (ltb j i) refl)
+    where
+      nowhere : (j : ℕ) → j < length s → get_or s j 0 ≡ x → (t : Bool) → ltb j i ≡ t → ⊥
+      nowhere j l e true f = omega (arith, m.1 j (ltb-true j i f))
+      nowhere j l e false f = omega (arith, m.2 j (ltb-false j i f) l)
 
-  pub down : {lo hi : ℕ} → lo ≤ mid → Bracket s x lo hi → x < get_or s mid 0 → Bracket s x lo mid
-  down l b h = record { ordered = l; inside = omega arith; below = b.below; above = λ k m n. down_by h k m n (ltb mid k) refl }
-
-  -- nothing before `mid` is x
-  pub placed : get_or s mid 0 ≡ x → mid ≡ place_in s x
-  placed e = placed-from s x mid inside e (λ j l f. omega (arith, rising 0 s asc j mid l inside))
-
--- the ends have met: x has no place
-pub nowhere : (s : List ℕ) (x lo hi : ℕ) → Bracket s x lo hi → hi ≤ lo → length s ≡ place_in s x
-nowhere s x lo hi b h = unplaced s x (λ j l e. nowhere_by j l e (ltb j lo) refl)
-  where
-    nowhere_by : (j : ℕ) → j < length s → get_or s j 0 ≡ x → (t : Bool) → ltb j lo ≡ t → ⊥
-    nowhere_by j l e true f = omega (arith, b.below j (ltb-true j lo f))
-    nowhere_by j l e false f = let g : lo ≤ j = ltb-false j lo f in omega (arith, b.above j (omega arith) l)
+  pub sought : (r : Result ℕ ℕ) → IsBinarySearchResult (λ y. nat_cmp y x) s r → result_unwrap_or r (length s) ≡ place_in s x
+  sought r p = found r (searched s x r p in_order)

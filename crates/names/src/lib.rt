@@ -20,21 +20,7 @@ pub fn place_in(ids: &[u32], id: u32) -> usize
     requires { T (ascends 0 ids.now) }
     ensures { result ≡ place_in ids.now id }
 {
-    let mut lo = 0;
-    let mut hi = ids.len();
-    while lo < hi {
-        let mid = lo + (hi - lo) / 2;
-        let at = ids[mid];
-        if at == id {
-            return mid;
-        }
-        if at < id {
-            lo = mid + 1;
-        } else {
-            hi = mid;
-        }
-    }
-    ids.len()
+    ids.binary_search(&id).unwrap_or(ids.len())
 }
 
 // The name of a row. The starts come after the ids, and are one more.
@@ -54,14 +40,21 @@ fn nothing_of(letters: &[u8]) -> &[u8]
     &letters[..0]
 }
 
-// The name of `id` in the rows from `from` to `to`; empty where there is none.
-fn name_in<'a>(index: &[u32], letters: &'a [u8], from: usize, to: usize, id: u16) -> &'a [u8]
-    requires { LentRows index.now letters.now from to }
-    ensures { result.now ≡ name_in_lem (rows_in_lem from to) id }
+// Rows of the directory, from one up to another.
+#[derive(Clone, Copy)]
+struct Span {
+    from: usize,
+    to: usize,
+}
+
+// The name of `id` in these rows; empty where there is none.
+fn name_in<'a>(index: &[u32], letters: &'a [u8], rows: Span, id: u16) -> &'a [u8]
+    requires { LentRows index.now letters.now rows.from rows.to }
+    ensures { result.now ≡ name_in_lem (rows_in_lem rows.from rows.to) id }
 {
-    let i = place_in(&index[from..to], id as u32);
-    if i < to - from {
-        return row_name(index, letters, from + i);
+    let i = place_in(&index[rows.from..rows.to], id as u32);
+    if i < rows.to - rows.from {
+        return row_name(index, letters, rows.from + i);
     }
     nothing_of(letters)
 }
@@ -71,20 +64,11 @@ pub fn type_name_in<'a>(index: &[u32], letters: &'a [u8], id: u16) -> &'a [u8]
     requires { Lent index.now letters.now }
     ensures { result.now ≡ name_in_lem control_type_names id }
 {
-    name_in(
-        index,
-        letters,
-        nametables::CONTROL_TYPE,
-        nametables::END,
-        id,
-    )
-}
-
-// Rows of the directory, from one up to another.
-#[derive(Clone, Copy)]
-struct Span {
-    from: usize,
-    to: usize,
+    let rows = Span {
+        from: nametables::CONTROL_TYPE,
+        to: nametables::END,
+    };
+    name_in(index, letters, rows, id)
 }
 
 // The rows that name the values of a mark: none where there is no such mark.
@@ -116,8 +100,7 @@ pub fn value_name_in<'a>(index: &[u32], letters: &'a [u8], mark: u32, id: u16) -
     requires { Lent index.now letters.now }
     ensures { result.now ≡ name_in_lem (names_for mark) id }
 {
-    let rows = rows_for(mark);
-    name_in(index, letters, rows.from, rows.to, id)
+    name_in(index, letters, rows_for(mark), id)
 }
 
 // ---- names looked for first where the last search for the same ended
@@ -139,10 +122,7 @@ fn is_at(ids: &[u32], near: usize, id: u32) -> bool
     requires { T (ascends 0 ids.now) }
     ensures { result ≡ true → near ≡ place_in ids.now id }
 {
-    if ids.len() <= near {
-        return false;
-    }
-    ids[near] == id
+    near < ids.len() && ids[near] == id
 }
 
 // The place of `id` in `ids`, or their number where it has none.
@@ -157,24 +137,23 @@ fn place_near(ids: &[u32], hint: u8, id: u32) -> usize
     place_in(ids, id)
 }
 
-// The name of `id` in the rows from `from` to `to`; where its row is found is noted.
+// The name of `id` in these rows; where its row is found is noted.
 fn name_near<'a>(
     index: &[u32],
     letters: &'a [u8],
     hints: &mut [u8; HINTS],
     at: usize,
-    from: usize,
-    to: usize,
+    rows: Span,
     id: u16,
 ) -> &'a [u8]
-    requires { LentRows index.now letters.now from to × (at < slots) }
-    ensures { result.now ≡ name_in_lem (rows_in_lem from to) id }
+    requires { LentRows index.now letters.now rows.from rows.to × (at < slots) }
+    ensures { result.now ≡ name_in_lem (rows_in_lem rows.from rows.to) id }
 {
     let hint = hints[at];
-    let i = place_near(&index[from..to], hint, id as u32);
+    let i = place_near(&index[rows.from..rows.to], hint, id as u32);
     hints[at] = low_byte(i);
-    if i < to - from {
-        return row_name(index, letters, from + i);
+    if i < rows.to - rows.from {
+        return row_name(index, letters, rows.from + i);
     }
     nothing_of(letters)
 }
@@ -190,16 +169,7 @@ pub fn value_name_near<'a>(
     requires { Lent index.now letters.now }
     ensures { result.now ≡ name_in_lem (names_for mark) id }
 {
-    let rows = rows_for(mark);
-    name_near(
-        index,
-        letters,
-        hints,
-        slot(mark, id),
-        rows.from,
-        rows.to,
-        id,
-    )
+    name_near(index, letters, hints, slot(mark, id), rows_for(mark), id)
 }
 
 // ---- names written into a lent buffer
