@@ -19,8 +19,8 @@ use Rattle.rules.specs.declared.Step.TheVariants.{Pass, Put, Close, Refuse}
 use Rattle.csvlaws.proofs.CsvLaws.{read-end}
 use Rattle.csvlaws.proofs.CsvReaderLaws.{Counts, counted, more, more-more, tally, count-step}
 use Rattle.csvread.specs.declared.Place.{Place}
-use Rattle.csvread.specs.declared.Next.{Next}
-use Rattle.csvread.specs.declared.Next.TheVariants.{Refused, At}
+use Rattle.std.specs.Prelude as rust
+use Rattle.std.specs.Prelude.{Some, None}
 use Rattle.csvread.specs.Places.{begin, place_after, end_of, last_of}
 
 -- the two counts
@@ -36,9 +36,9 @@ fields-are e = ap (λ o. (both o).1) e
 
 -- ---- a step
 -- all counts, where what is left after a place counts `rest`
-abbrev left : Next → (Mode → ℕ → Counts) → Counts
-left Refused rest = none
-left (At p) rest = more p.bytes p.fields (rest p.mode p.field)
+abbrev left : rust.Option Place → (Mode → ℕ → Counts) → Counts
+left None rest = none
+left (Some p) rest = more p.bytes p.fields (rest p.mode p.field)
 
 step_left : (p : Place) (t : Step) (rest : Mode → ℕ → Counts) → more p.bytes p.fields (tally t rest) ≡ left (place_after p t) rest
 step_left p (Pass m k) rest = refl
@@ -77,7 +77,7 @@ record Few (i : ℕ) (p : Place) : Type 0 where
   bytes : p.bytes ≤ i
   fields : p.fields ≤ i
 
-few_on : (p : Place) (t : Step) (i : ℕ) (q : Place) → p.bytes ≤ i → p.fields ≤ i → place_after p t ≡ At q → Few (i + 1) q
+few_on : (p : Place) (t : Step) (i : ℕ) (q : Place) → p.bytes ≤ i → p.fields ≤ i → place_after p t ≡ Some q → Few (i + 1) q
 few_on p (Pass m k) i q h l e =
     let x : p.bytes ≡ q.bytes = cc in
     let y : p.fields ≡ q.fields = cc in
@@ -98,7 +98,7 @@ module _ {s : List ℕ} {i : ℕ} {p : Place} (w : Counting s i p) where
       w.so_far ∙ ap (more p.bytes p.fields) (by_byte p.mode p.field s i h)
       ∙ step_left p (step_at s i p) (λ q j. counted (read_from q j (drop (i + 1) s)))
 
-  pub count-on : (q : Place) → i < length s → place_after p (step_at s i p) ≡ At q → Counting s (i + 1) q
+  pub count-on : (q : Place) → i < length s → place_after p (step_at s i p) ≡ Some q → Counting s (i + 1) q
   count-on q h e =
       let few = few_on p (step_at s i p) i q w.few_bytes w.few-fields e in
       record {
@@ -108,7 +108,7 @@ module _ {s : List ℕ} {i : ℕ} {p : Place} (w : Counting s i p) where
         so_far = all_left h ∙ ap (λ n. left n (λ q j. counted (read_from q j (drop (i + 1) s)))) e;
       }
 
-  pub count-refused : i < length s → place_after p (step_at s i p) ≡ Refused → counted (read_from Start 0 s) ≡ none
+  pub count-refused : i < length s → place_after p (step_at s i p) ≡ None → counted (read_from Start 0 s) ≡ none
   count-refused h e = all_left h ∙ ap (λ n. left n (λ q j. counted (read_from q j (drop (i + 1) s)))) e
 
   pub count-end : length s ≤ i → counted (read_from Start 0 s) ≡ end_of p

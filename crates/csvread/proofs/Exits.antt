@@ -20,7 +20,9 @@ use Rattle.rules.specs.declared.Mode.TheVariants.{Start}
 use Rattle.rules.proofs.ListLaws.{none_some}
 use Rattle.csvlaws.proofs.CsvLaws.{countable-room}
 use Rattle.csvlaws.proofs.CsvReaderLaws.{counted}
-use Rattle.csvread.specs.declared.Counted.TheVariants.{Bad, Of}
+use Rattle.std.specs.Prelude as rust
+use Rattle.std.specs.Prelude.{Some, None}
+use Rattle.csvread.specs.declared.Size.{Size}
 use Rattle.csvread.specs.Places.{counted_as, rows_of, out_of}
 use Rattle.csvread.proofs.CountLaws.{bytes-are, fields-are}
 
@@ -35,16 +37,18 @@ unfolding fields_of
 fields_read [] n = absurd (n refl)
 fields_read (b ∷ s) n = refl
 
-pub uncounted : (o : Option Fields) → counted_as (counted o) ≡ Bad → o ≡ none
+pub uncounted : (o : Option Fields) → counted_as (counted o) ≡ None → o ≡ none
 uncounted none e = refl
 uncounted (some fs) e = absurd (let z : ◌≡◌ {A = ℕ} 0 1 = cc in omega arith)
 
-pub is-counted : (o : Option Fields) (b n : ℕ) → counted_as (counted o) ≡ Of b n → counted o ≡ some (b, n)
+size_of : rust.Option Size → Size
+size_of None = record { bytes = 0; fields = 0 }
+size_of (Some s) = s
+
+pub is-counted : (o : Option Fields) (b n : ℕ) → counted_as (counted o) ≡ Some (record { bytes = b; fields = n }) → counted o ≡ some (b, n)
+unfolding size_of
 is-counted none b n e = absurd (let z : ◌≡◌ {A = ℕ} 0 1 = cc in omega arith)
-is-counted (some fs) b n e =
-    let x : length (concat fs) ≡ b = cc in
-    let y : length fs ≡ n = cc in
-    λ i. some (x i, y i)
+is-counted (some fs) b n e = λ i. some ((size_of (e i)).bytes, (size_of (e i)).fields)
 
 -- ---- the exit
 module _ (rows out : List ℕ) where

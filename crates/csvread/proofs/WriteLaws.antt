@@ -23,8 +23,8 @@ use Rattle.rows.proofs.PutLaws.{put-length, put-none, put-append, written-put}
 use Rattle.csvlaws.proofs.CsvLaws.{countable-room, countable-most, read_byte, read-end}
 use Rattle.csvlaws.proofs.CsvReaderLaws.{counted, more, Full, full, Puts, puts, spans_in, spans_begin, spans_put, spans_close, bytes-put, bytes_close}
 use Rattle.csvread.specs.declared.Place.{Place}
-use Rattle.csvread.specs.declared.Next.{Next}
-use Rattle.csvread.specs.declared.Next.TheVariants.{Refused, At}
+use Rattle.std.specs.Prelude as rust
+use Rattle.std.specs.Prelude.{Some, None}
 use Rattle.csvread.specs.Places.{begin, place_after, Room, Fits, step_rows, step_out, step_start, Wrote, rows_of, out_of}
 use Rattle.csvread.proofs.CountLaws.{bytes-are, fields-are, Counting, count-begin, step_at, count-on}
 
@@ -38,13 +38,13 @@ set_out out at none = out
 set_out out at (some fs) = sets out at (concat fs)
 
 -- the same, from the place that a step leads to
-abbrev rows_left : List ℕ → ℕ → Next → (Mode → ℕ → Option Fields) → List ℕ
-rows_left rows start Refused rest = rows
-rows_left rows start (At p) rest = set_rows rows p.fields start p.bytes (rest p.mode p.field)
+abbrev rows_left : List ℕ → ℕ → rust.Option Place → (Mode → ℕ → Option Fields) → List ℕ
+rows_left rows start None rest = rows
+rows_left rows start (Some p) rest = set_rows rows p.fields start p.bytes (rest p.mode p.field)
 
-abbrev out_left : List ℕ → Next → (Mode → ℕ → Option Fields) → List ℕ
-out_left out Refused rest = out
-out_left out (At p) rest = set_out out p.bytes (rest p.mode p.field)
+abbrev out_left : List ℕ → rust.Option Place → (Mode → ℕ → Option Fields) → List ℕ
+out_left out None rest = out
+out_left out (Some p) rest = set_out out p.bytes (rest p.mode p.field)
 
 -- ---- a step
 -- what can be counted is there
@@ -108,7 +108,7 @@ out-length p (Put m k) b out = length-set out p.bytes b
 out-length p (Close m k) b out = refl
 out-length p Refuse b out = refl
 
-start-on : (p : Place) (start : ℕ) (t : Step) (q : Place) → start ≤ p.bytes → place_after p t ≡ At q → step_start p start t ≤ q.bytes
+start-on : (p : Place) (start : ℕ) (t : Step) (q : Place) → start ≤ p.bytes → place_after p t ≡ Some q → step_start p start t ≤ q.bytes
 start-on p start (Pass m k) q h e = let x : p.bytes ≡ q.bytes = cc in omega arith
 start-on p start (Put m k) q h e = let x : p.bytes + 1 ≡ q.bytes = cc in omega arith
 start-on p start (Close m k) q h e = let x : p.bytes ≡ q.bytes = cc in omega arith
@@ -194,7 +194,7 @@ module _ {s rows₀ out₀ rows out : List ℕ} {fields i start : ℕ} {p : Plac
       (omega (arith, w.given.bytes_fit, w.same_out)) (omega (arith, w.given.bytes_fit)) (omega (arith, w.given.fields_fit, w.same_rows)) w.begun
 
   pub write-on : {rows' out' : List ℕ} {start' : ℕ} (q : Place) → i < length s → Wrote rows out p start (step_at s i p) (byte s i) rows' out' start'
-      → place_after p (step_at s i p) ≡ At q → Writing s rows₀ out₀ fields (i + 1) q start' rows' out'
+      → place_after p (step_at s i p) ≡ Some q → Writing s rows₀ out₀ fields (i + 1) q start' rows' out'
   write-on q h d e = record {
     counting = count-on w.counting q h e;
     given = w.given;
@@ -214,11 +214,11 @@ module _ {s rows₀ out₀ rows out : List ℕ} {fields i start : ℕ} {p : Plac
   }
 
   -- no byte is refused
-  pub none-refused : i < length s → place_after p (step_at s i p) ≡ Refused → ⊥
+  pub none-refused : i < length s → place_after p (step_at s i p) ≡ None → ⊥
   unfolding Known
   none-refused h e = go (step_at s i p) (known_next h) e
     where
-      go : (t : Step) → more p.bytes p.fields (counted (after t (byte s i) (λ q j. read_from q j (drop (i + 1) s)))) ≡ some all → place_after p t ≡ Refused → ⊥
+      go : (t : Step) → more p.bytes p.fields (counted (after t (byte s i) (λ q j. read_from q j (drop (i + 1) s)))) ≡ some all → place_after p t ≡ None → ⊥
       go (Pass m k) h e = let z : ◌≡◌ {A = ℕ} 0 1 = cc in omega arith
       go (Put m k) h e = let z : ◌≡◌ {A = ℕ} 0 1 = cc in omega arith
       go (Close m k) h e = let z : ◌≡◌ {A = ℕ} 0 1 = cc in omega arith

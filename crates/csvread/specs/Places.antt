@@ -1,5 +1,7 @@
 -- A text read byte by byte: the place after each, what is counted, and what is written.
 use Rattle.std.specs.Prelude.{ℕ, ◌+◌, ◌-◌, ◌*◌, ◌≤◌, ◌<◌, ◌^◌, ◌≡◌, cond, List, [], ◌∷◌, eqb, length, set}
+use Rattle.std.specs.Prelude as rust
+use Rattle.std.specs.Prelude.{Some, None}
 use Rattle.std.proofs.Math.Option.{Option, none, some}
 use Rattle.std.proofs.lemmas.List.Edits.{sets}
 use Rattle.rules.specs.Lists.{concat}
@@ -11,24 +13,21 @@ use Rattle.rules.specs.declared.Step.TheVariants.{Pass, Put, Close, Refuse}
 use Rattle.rows.specs.Put.{put}
 use Rattle.csvlaws.proofs.CsvReaderLaws.{Counts, counted, more}
 use Rattle.csvread.specs.declared.Place.{Place}
-use Rattle.csvread.specs.declared.Next.{Next}
-use Rattle.csvread.specs.declared.Next.TheVariants.{Refused, At}
-use Rattle.csvread.specs.declared.Counted.{Counted}
-use Rattle.csvread.specs.declared.Counted.TheVariants.{Bad, Of}
+use Rattle.csvread.specs.declared.Size.{Size}
 
 -- ---- counting
 abbrev pub begin : Place
 begin = record { mode = Start; field = 0; bytes = 0; fields = 0 }
 
-abbrev pub place_after : Place → Step → Next
-place_after p (Pass m k) = At (record { mode = m; field = k; bytes = p.bytes; fields = p.fields })
-place_after p (Put m k) = At (record { mode = m; field = k; bytes = p.bytes + 1; fields = p.fields })
-place_after p (Close m k) = At (record { mode = m; field = k; bytes = p.bytes; fields = p.fields + 1 })
-place_after p Refuse = Refused
+abbrev pub place_after : Place → Step → rust.Option Place
+place_after p (Pass m k) = Some (record { mode = m; field = k; bytes = p.bytes; fields = p.fields })
+place_after p (Put m k) = Some (record { mode = m; field = k; bytes = p.bytes + 1; fields = p.fields })
+place_after p (Close m k) = Some (record { mode = m; field = k; bytes = p.bytes; fields = p.fields + 1 })
+place_after p Refuse = None
 
-abbrev pub counted_as : Counts → Counted
-counted_as none = Bad
-counted_as (some c) = Of c.0 c.1
+abbrev pub counted_as : Counts → rust.Option Size
+counted_as none = None
+counted_as (some c) = Some (record { bytes = c.0; fields = c.1 })
 
 -- all counts, where the text ends at p
 unfoldable pub end_of : Place → Counts

@@ -38,18 +38,11 @@ struct Place {
     fields: usize,
 }
 
-// The place after a byte, unless the byte may not stand there.
+// How many bytes and fields a text has.
 #[derive(Clone, Copy)]
-enum Next {
-    Refused,
-    At { place: Place },
-}
-
-// How many bytes and fields a text has, if it is of the grammar.
-#[derive(Clone, Copy)]
-enum Counted {
-    Bad,
-    Of { bytes: usize, fields: usize },
+struct Size {
+    bytes: usize,
+    fields: usize,
 }
 
 // ---- a byte
@@ -180,7 +173,8 @@ fn begin() -> Place
     }
 }
 
-fn place_after(p: Place, s: Step) -> Next
+// The place after a byte, unless the byte may not stand there.
+fn place_after(p: Place, s: Step) -> Option<Place>
     requires bytes_bound { p.bytes < 2 ^ 63 }
     requires fields_bound { p.fields < 2 ^ 63 }
     ensures { result ≡ place_after p s }
@@ -188,53 +182,44 @@ fn place_after(p: Place, s: Step) -> Next
     let bytes = p.bytes;
     let fields = p.fields;
     match s {
-        Step::Pass { mode, field } => {
-            let place = Place {
-                mode,
-                field,
-                bytes,
-                fields,
-            };
-            Next::At { place }
-        }
-        Step::Put { mode, field } => {
-            let place = Place {
-                mode,
-                field,
-                bytes: bytes + 1,
-                fields,
-            };
-            Next::At { place }
-        }
-        Step::Close { mode, field } => {
-            let place = Place {
-                mode,
-                field,
-                bytes,
-                fields: fields + 1,
-            };
-            Next::At { place }
-        }
-        Step::Refuse => Next::Refused,
+        Step::Pass { mode, field } => Some(Place {
+            mode,
+            field,
+            bytes,
+            fields,
+        }),
+        Step::Put { mode, field } => Some(Place {
+            mode,
+            field,
+            bytes: bytes + 1,
+            fields,
+        }),
+        Step::Close { mode, field } => Some(Place {
+            mode,
+            field,
+            bytes,
+            fields: fields + 1,
+        }),
+        Step::Refuse => None,
     }
 }
 
-// The counts where the text ends in a field, which must be the fifth.
-fn last(p: Place) -> Counted
+// The size of a text that ends in a field, which must be the fifth.
+fn last(p: Place) -> Option<Size>
     requires { p.fields < 2 ^ 63 }
     ensures { result ≡ counted_as (last_of p) }
 {
     if p.field == LAST_FIELD {
-        return Counted::Of {
+        return Some(Size {
             bytes: p.bytes,
             fields: p.fields + 1,
-        };
+        });
     }
-    Counted::Bad
+    None
 }
 
-// The counts where the text ends.
-fn end(p: Place) -> Counted
+// The size of a text that ends here, if it may.
+fn end(p: Place) -> Option<Size>
     requires { p.fields < 2 ^ 63 }
     ensures { result ≡ counted_as (end_of p) }
 {
@@ -242,33 +227,29 @@ fn end(p: Place) -> Counted
     match mode {
         Mode::Start => {
             if p.field == 0 {
-                return Counted::Of {
+                return Some(Size {
                     bytes: p.bytes,
                     fields: p.fields,
-                };
+                });
             }
             last(p)
         }
         Mode::Plain => last(p),
-        Mode::Quoted => Counted::Bad,
+        Mode::Quoted => None,
         Mode::Closing => last(p),
-        Mode::Returned => Counted::Bad,
+        Mode::Returned => None,
     }
 }
 
-fn count(text: &[u8]) -> Counted
+// The size of a text, if it is of the grammar.
+fn count(text: &[u8]) -> Option<Size>
     ensures { result ≡ counted_as (counted (read_from Start 0 text.now)) }
 {
     let mut p = begin();
-    let mut i = 0;
-    while i < text.len() {
+    for b in text {
         let mode = p.mode;
-        let s = step(mode, p.field, text[i]);
-        let Next::At { place } = place_after(p, s) else {
-            return Counted::Bad;
-        };
-        p = place;
-        i += 1;
+        let s = step(mode, p.field, *b);
+        p = place_after(p, s)?;
     }
     end(p)
 }
@@ -314,17 +295,14 @@ fn write(text: &[u8], rows: &mut [u32], out: &mut [u8], fields: usize)
 {
     let mut p = begin();
     let mut start = 0;
-    let mut i = 0;
-    while i < text.len() {
-        let b = text[i];
+    for b in text {
         let mode = p.mode;
-        let s = step(mode, p.field, b);
-        start = put_step(rows, out, p, start, s, b);
-        let Next::At { place } = place_after(p, s) else {
+        let s = step(mode, p.field, *b);
+        start = put_step(rows, out, p, start, s, *b);
+        let Some(place) = place_after(p, s) else {
             return;
         };
         p = place;
-        i += 1;
     }
     if p.fields < fields {
         put_span(rows, p.fields, start, p.bytes);
@@ -335,10 +313,7 @@ fn write(text: &[u8], rows: &mut [u32], out: &mut [u8], fields: usize)
 fn countable(room: usize) -> usize
     ensures { result ≡ countable «room» }
 {
-    if room < MOST {
-        return room;
-    }
-    MOST
+    room.min(MOST)
 }
 
 // The fields of comma-separated text, five in every record, the last CR LF optional: their bytes, quotes undone, end to end in `out`, and in `fields` a start
@@ -351,7 +326,7 @@ pub fn read_csv(text: &[u8], fields: &mut [u32], out: &mut [u8]) -> Answer
     if text.len() == 0 {
         return refused(NOT_A_SHEET);
     }
-    let Counted::Of { bytes, fields: n } = count(text) else {
+    let Some(Size { bytes, fields: n }) = count(text) else {
         return refused(NOT_A_SHEET);
     };
     if countable(out.len()) < bytes {

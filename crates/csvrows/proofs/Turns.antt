@@ -1,7 +1,7 @@
 -- Rows and controls written one at a time, whatever text each of them has.
 use Prim.Native.Nat.{ℕ, suc, ◌+◌, ◌-◌, ◌<◌, ◌≤◌}
 use native.Mathlib.Omega.{arith}
-use mathlib.Core.Path.{◌≡◌, sym, ap, ◌∙◌}
+use mathlib.Core.Path.{◌≡◌, sym, ap, subst, ◌∙◌}
 use mathlib.Core.List.{List, [], ◌++◌}
 use Rattle.rules.specs.Rows.{property_width, row_at}
 use Rattle.rules.specs.Reading.{property_row}
@@ -44,6 +44,10 @@ module _ {line : List ℕ → List ℕ} {rows : List ℕ} {first count : ℕ} {o
   pub rows-done : left ≤ 0 → Wrote old at (lines_from line rows first count) now p
   rows-done h = done g.rest (lines_end line rows i left h)
 
+  -- as many said otherwise
+  pub rows_as : {many : ℕ} → left ≡ many → RowsLeft line rows first count old at now p i many
+  rows_as e = subst (λ (k : ℕ). RowsLeft line rows first count old at now p i k) e g
+
 -- ---- controls
 pub record ControlsLeft (part : ℕ → List ℕ → ℕ → List ℕ) (controls : List ℕ) (count first : ℕ) (old : List ℕ) (at : ℕ) (now : List ℕ) (p n left next : ℕ) : Type 0 where
   pub some_left : n + left ≤ most
@@ -82,6 +86,9 @@ module _ {part : ℕ → List ℕ → ℕ → List ℕ} {controls : List ℕ} {c
           (parts_step part controls n left next h ∙ ap (λ (m : ℕ). part n (control_at controls n) next ++ parts_from part controls (n + 1) (left - 1) (next + m)) (sym w.count))
           (wrote_as v same);
     }
+
+  pub controls_as : {many : ℕ} → left ≡ many → ControlsLeft part controls count first old at now p n many next
+  controls_as e = subst (λ (k : ℕ). ControlsLeft part controls count first old at now p n k next) e g
 
   pub controls-done : left ≤ 0 → Wrote old at (parts_from part controls 0 count first) now p
   controls-done h = done g.rest (parts_end part controls n left next h)

@@ -57,13 +57,10 @@ fn put_rows(
     ensures { Wrote out.old at (tails_text stream.now owner.now rows.now run.first run.count) out.new result }
 {
     let mut p = at;
-    let mut i = run.first;
-    let mut left = run.count;
-    while 0 < left {
+    let end = run.first + run.count;
+    for i in run.first..end {
         let shown = row_of(rows, i);
         p = put_record(out, p, index, letters, hints, stream, owner, shown);
-        i = i + 1;
-        left = left - 1;
     }
     p
 }
@@ -114,25 +111,20 @@ fn put_controls(
     ensures { Wrote out.old at (controls_text stream.now controls.now rows.now 0 count first) out.new result }
 {
     let mut p = at;
-    let mut n: u32 = 0;
-    let mut left = count;
     let mut next = first;
     let mut hints = [0; HINTS];
-    while 0 < left {
+    for n in 0..count {
         let control = get_control(controls, n);
         let owner = Owner::Control {
             number: n,
             type_code: control.type_code,
         };
-        let many = control.count;
         let run = Run {
             first: next,
-            count: many,
+            count: control.count,
         };
         p = put_owned(out, p, index, letters, &mut hints, stream, owner, rows, run);
-        next = next + many;
-        n = n + 1;
-        left = left - 1;
+        next += control.count;
     }
     p
 }

@@ -2,7 +2,7 @@
 use Prim.Native.Nat.{ℕ, ◌+◌, ◌*◌, ◌/◌, ◌%◌, ◌≤◌, ◌<◌}
 use native.Mathlib.Omega.{arith}
 use native.Mathlib.Nat.{min-le_left}
-use mathlib.Core.Path.{◌≡◌, refl, sym, ap, ◌∙◌}
+use mathlib.Core.Path.{◌≡◌, refl}
 use mathlib.Core.Bool.{Bool, true, false, cond}
 use mathlib.Core.List.{List, [], ◌∷◌, ◌++◌, map}
 use lib.Dec.{ltb, eqb}
@@ -10,15 +10,14 @@ use lib.ListN.{length, drop, length-append, length-take}
 use borrow.Author.Tests.{ltb-true, ltb-false, eqb-true, eqb-false}
 use Rattle.rules.specs.Lists.{all, concat}
 use Rattle.rules.specs.Bytes.{part}
-use Rattle.rules.specs.Digits.{hex}
 use Rattle.rules.specs.NameTables.{text_names, number_names, bytes_names}
 use Rattle.rules.specs.Names.{name_in_lem, names_for}
-use Rattle.rules.specs.Listing.{or_dash, mark_word}
+use Rattle.rules.specs.Listing.{or_dash}
 use Rattle.rules.specs.Utf16.{is_high}
 use Rattle.rules.specs.Scalars.{scalar, scalars_from, scalars}
 use Rattle.rules.specs.Utf8.{utf8_of, utf8}
 use Rattle.rules.specs.Reading.{Control, Reading, properties, properties_of, property_row}
-use Rattle.rules.specs.Csv.{quote, is_data, doubled, field_text, hex_text, or_id}
+use Rattle.rules.specs.Csv.{quote, is_data, doubled, field_text, or_id}
 use Rattle.rules.specs.declared.Property.{Property}
 use Rattle.csvlaws.proofs.CsvLaws.{doubled-append}
 use Rattle.csvlaws.proofs.Utf8Laws.{utf8-doubled}
@@ -27,8 +26,7 @@ use Rattle.claims.proofs.RowChecks.{row_place}
 use Rattle.listing.specs.Bound.{longest_in, longest_name}
 use Rattle.listing.proofs.Longest.{word-short, value-short, value-name-short}
 use Rattle.csvtext.proofs.UnitLaws.{field_plain, field-quoted, length-hexes}
-use Rattle.csvrecord.specs.Parts.{owner_text, value_field, tail_text}
-use Rattle.csvrecord.specs.declared.Owner.{Owner}
+use Rattle.csvrecord.specs.Parts.{value_field, tail_text}
 use Rattle.csvrecord.proofs.RecordLaws.{four_digits_lem, field-text, field_column, field-hexes, tail_size}
 use Rattle.csvrows.proofs.Steps.{control-short, object_short}
 use Rattle.csvwalk.specs.Needs.{needs, object_need, control_need, controls_need, sheet_need}

@@ -1,10 +1,10 @@
 -- What a caller sees, by how the call went.
-use Prim.Native.Nat.{ℕ, ◌+◌, ◌-◌, ◌*◌, ◌/◌, ◌≤◌, ◌<◌}
+use Prim.Native.Nat.{ℕ, ◌+◌, ◌-◌, ◌*◌, ◌/◌, ◌≤◌}
 use native.Mathlib.Omega.{arith}
-use native.Mathlib.Nat.{zero-add, min_comm, min-eq_left}
+use native.Mathlib.Nat.{zero-add}
 use mathlib.Core.Path.{◌≡◌, refl, sym, ap, subst, ◌∙◌}
 use mathlib.Core.Bool.{Bool, true, false, cond, not}
-use mathlib.Core.List.{List, [], ◌∷◌, ◌++◌}
+use mathlib.Core.List.{List, [], ◌++◌}
 use mathlib.Core.Option.{Option, none, some}
 use lib.Dec.{leb, ltb}
 use lib.ListN.{length, drop}
@@ -13,12 +13,12 @@ use Rattle.rules.specs.Lists.{concat}
 use Rattle.rules.specs.Answer.{answer, refusal, too_long_lem, bad_table, more_controls, more_properties, no_room_for_sheet, longest}
 use Rattle.rules.specs.CodeTable.{well_formed_lem}
 use Rattle.rules.specs.Rows.{control_width, property_width, room, written}
-use Rattle.rules.specs.Access2000.{Prop, stream_of}
+use Rattle.rules.specs.Access2000.{stream_of}
 use Rattle.rules.specs.Reading.{Reading, properties, control_rows, property_rows}
 use Rattle.rules.specs.Read2000.{read2000}
 use Rattle.rules.specs.ReadLater.{read_later_lem}
 use Rattle.rules.specs.Blob.{Outcome, refused, read, counted, fit, is2000, read_by, reading_of, outcome, answer_of, exit_by_lem, exit, Exit}
-use Rattle.rules.specs.Csv.{record_text, header, csv_of, countable, csv_by, csv_exit, CsvExit}
+use Rattle.rules.specs.Csv.{record_text, header, csv_of, countable, csv_by, csv_exit}
 use Rattle.rules.specs.declared.Answer.{Answer}
 use Rattle.rows.specs.Acts.{Held}
 use Rattle.names.specs.Lookup.{Lent}
@@ -45,14 +45,6 @@ no e = let z : ◌≡◌ {A = ℕ} 0 1 = cc in absurd (omega arith)
 pub needed_is : (t s nc np : List ℕ) → length nc ≡ 1 → length np ≡ 1 → {a : Answer} {x y : List ℕ} → exited a x y ≡ exit t s nc np → a ≡ answer_of (outcome t s 0 0)
 unfolding exit
 needed_is t s nc np c p e = ap (λ (z : Exit). z.answer) e ∙ (λ i. answer_of (outcome t s (c i / control_width) (p i / property_width)))
-
-pub most-is : (n : ℕ) → 0xFFFFFFFF ≤ n → 0xFFFFFFFF ≡ countable n
-unfolding countable
-most-is n h = sym (min_comm n 0xFFFFFFFF ∙ min-eq_left h)
-
-pub all-is : (n : ℕ) → n < 0xFFFFFFFF → n ≡ countable n
-unfolding countable
-all-is n h = sym (min-eq_left (omega arith))
 
 -- ---- by the layout
 module _ {t s index letters : List ℕ} (h : Readable t s index letters) {b : Bool} (be : b ≡ is2000 t s) where

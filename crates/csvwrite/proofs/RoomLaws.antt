@@ -1,5 +1,5 @@
 -- What is answered where no room is lent tells whether some room is enough.
-use Prim.Native.Nat.{ℕ, ◌+◌, ◌≤◌, ◌<◌}
+use Prim.Native.Nat.{ℕ, ◌≤◌, ◌<◌}
 use native.Mathlib.Omega.{arith}
 use mathlib.Core.Path.{◌≡◌, refl, sym, ap, ◌∙◌}
 use mathlib.Core.Bool.{Bool, true, false, cond, not, ◌&&◌}
@@ -13,8 +13,6 @@ use Rattle.rules.specs.CodeTable.{well_formed_lem}
 use Rattle.rules.specs.Reading.{Reading, properties}
 use Rattle.rules.specs.Blob.{Outcome, refused, read, counted, fit, outcome, reading_of, answer_of}
 use Rattle.rules.specs.declared.Answer.{Answer}
-use Rattle.rules.proofs.ListLaws.{and_l, and_r}
-use Rattle.rows.specs.Acts.{Held}
 use Rattle.csvwrite.specs.Sheet.{is_read_lem, is_enough}
 
 no : {X : Type 0} → false ≡ true → X

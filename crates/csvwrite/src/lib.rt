@@ -7,7 +7,6 @@ ghost use Rattle.rules.specs.Csv.{countable, csv_exit};
 ghost use Rattle.csvwrite.specs.Sheet.{is_read_lem, is_enough, csv_left, ample, Readable, Measured, Fits, Roomy};
 
 use csvrows::put_sheet;
-use csvtext::less;
 use rows::{CONTROL_WIDTH, PROPERTY_WIDTH};
 use rules::{Answer, MORE_CONTROLS, MORE_PROPERTIES, NO_ROOM_FOR_SHEET, READ};
 
@@ -50,7 +49,7 @@ fn enough(needed: Answer, control_words: usize, property_words: usize) -> bool
 fn countable(room: usize) -> usize
     ensures { result ≡ countable room }
 {
-    if room < MOST { room } else { MOST }
+    room.min(MOST)
 }
 
 // What is left of a room after the records of a Blob, the header not counted.
@@ -69,7 +68,7 @@ fn text_fits(table: &[u8], stream: &[u8], index: &[u32], letters: &[u8], room: u
     requires { Readable table.now stream.now index.now letters.now }
     ensures { Fits table.now stream.now «room» result }
 {
-    let all = less(countable(room) + 1, HEADER_SIZE);
+    let all = (countable(room) + 1).saturating_sub(HEADER_SIZE);
     0 < records_left(table, stream, index, letters, all)
 }
 
@@ -77,10 +76,7 @@ fn text_fits(table: &[u8], stream: &[u8], index: &[u32], letters: &[u8], room: u
 fn is_ample(rows: usize, length: usize, room: usize) -> bool
     ensures { result ≡ true → ample rows length ≤ countable room }
 {
-    if MOST < rows {
-        return false;
-    }
-    if MOST < length {
+    if MOST < rows || MOST < length {
         return false;
     }
     HEADER_SIZE + RECORD_MOST * rows + 2 * length <= countable(room)

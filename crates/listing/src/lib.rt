@@ -16,7 +16,7 @@ use fields::{
 };
 use rows::{get_control, get_info, get_property};
 use rules::Answer;
-use text::{put_byte, put_decimal, put_hex, put_text};
+use text::{put_byte, put_decimal, put_hex, put_text, refused};
 use values::value_bytes;
 
 // A line of a word and four numbers.
@@ -45,16 +45,7 @@ pub fn answer_line(out: &mut [u8], at: usize, a: Answer) -> usize
 pub fn refusal_line(out: &mut [u8], number: u32) -> usize
     ensures { Wrote out.old 0 (answer_line (refusal number)) out.new result }
 {
-    answer_line(
-        out,
-        0,
-        Answer {
-            number,
-            first: 0,
-            second: 0,
-            third: 0,
-        },
-    )
+    answer_line(out, 0, refused(number))
 }
 
 // The C line of control row `n`. The directory of names is lent.
@@ -133,10 +124,8 @@ fn put_name_bytes(out: &mut [u8], at: usize, s: &[u8]) -> usize
     ensures { Wrote out.old at (name_bytes s.now) out.new result }
 {
     let mut o = at;
-    let mut i = 0;
-    while i < s.len() {
-        o = put_name_byte(out, o, s[i]);
-        i += 1;
+    for b in s {
+        o = put_name_byte(out, o, *b);
     }
     o
 }
@@ -232,10 +221,8 @@ pub fn lines(
     ensures { Wrote out.old at (lines_to (line_of kind stream.now) (width_of kind) count rows.now) out.new result }
 {
     let mut p = at;
-    let mut n = 0;
-    while n < count {
+    for n in 0..count {
         p = line(kind, out, p, stream, rows, n, index, letters);
-        n += 1;
     }
     p
 }

@@ -1,14 +1,16 @@
 // Texts, bytes and values as they are shown to a person. Each is written into a lent buffer; the place after it is returned.
 #![tactic(auto)]
 
-ghost use Rattle.std.specs.Prelude.{◌≡◌, ◌<◌, min};
+ghost use Rattle.std.specs.Prelude.{◌≡◌, ◌<◌};
 ghost use Rattle.rules.specs.Reading.{property_row};
 ghost use Rattle.text.specs.Writer.{Wrote};
 ghost use Rattle.showtext.specs.Shown.{is_turning, is_hidden, written, spelled, letters, quoted, unit_text, cut_mark, first_bytes, bytes_text, loose_text, value_text};
 
 use csvtext::{put_character, put_hexes, scalar, waiting};
-use numbers::u16_at;
-use rules::Property;
+use rules::{
+    MARK_BINARY, MARK_BOOL, MARK_DOUBLE, MARK_GUID, MARK_LONG, MARK_NOT_DEFAULT, MARK_SHORT,
+    MARK_TEXT, Property,
+};
 use text::{put_byte, put_decimal, put_hex, put_text};
 use utf16::is_high;
 use values::{put_value, value_bytes};
@@ -102,14 +104,13 @@ fn put_unit(out: &mut [u8], at: usize, high: u16, u: u16) -> usize
 fn put_letters(out: &mut [u8], at: usize, bytes: &[u8]) -> usize
     ensures { Wrote out.old at (letters bytes.now) out.new result }
 {
+    let (units, _) = bytes.as_chunks::<2>();
     let mut p = at;
-    let mut i: usize = 0;
-    let mut high: u16 = 0;
-    while 1 < bytes.len() - i {
-        let u = u16_at(bytes, i);
+    let mut high = 0;
+    for unit in units {
+        let u = u16::from_le_bytes(*unit);
         p = put_unit(out, p, high, u);
         high = waiting(u);
-        i += 2;
     }
     p
 }
@@ -124,12 +125,6 @@ pub fn put_quoted(out: &mut [u8], at: usize, bytes: &[u8]) -> usize
 }
 
 // ---- bytes
-fn at_most(size: u32, most: u32) -> u32
-    ensures { result ≡ min size most }
-{
-    if size < most { size } else { most }
-}
-
 fn put_cut(out: &mut [u8], at: usize, size: u32) -> usize
     ensures { Wrote out.old at (cut_mark size) out.new result }
 {
@@ -147,11 +142,7 @@ fn put_first(out: &mut [u8], at: usize, stream: &[u8], start: u32, size: u32) ->
         return at;
     }
     let p = put_byte(out, at, b' ');
-    let p = put_hexes(
-        out,
-        p,
-        value_bytes(stream, start, at_most(size, MOST_SHOWN)),
-    );
+    let p = put_hexes(out, p, value_bytes(stream, start, size.min(MOST_SHOWN)));
     put_cut(out, p, size)
 }
 
@@ -178,17 +169,17 @@ pub fn put_shown(out: &mut [u8], at: usize, stream: &[u8], p: Property) -> usize
     let v = p.value;
     let mark = v.mark;
     match mark {
-        0 => put_value(out, at, 0, v.low, v.high, stream, p.start, p.size),
-        1 => put_text(out, at, b"set"),
-        2 => put_value(out, at, 2, v.low, v.high, stream, p.start, p.size),
-        3 => put_value(out, at, 3, v.low, v.high, stream, p.start, p.size),
-        4 => {
+        MARK_BOOL => put_value(out, at, MARK_BOOL, v.low, v.high, stream, p.start, p.size),
+        MARK_NOT_DEFAULT => put_text(out, at, b"set"),
+        MARK_SHORT => put_value(out, at, MARK_SHORT, v.low, v.high, stream, p.start, p.size),
+        MARK_LONG => put_value(out, at, MARK_LONG, v.low, v.high, stream, p.start, p.size),
+        MARK_DOUBLE => {
             let q = put_text(out, at, b"double ");
-            put_value(out, q, 4, v.low, v.high, stream, p.start, p.size)
+            put_value(out, q, MARK_DOUBLE, v.low, v.high, stream, p.start, p.size)
         }
-        5 => put_value(out, at, 5, v.low, v.high, stream, p.start, p.size),
-        6 => put_quoted(out, at, value_bytes(stream, p.start, p.size)),
-        7 => {
+        MARK_GUID => put_value(out, at, MARK_GUID, v.low, v.high, stream, p.start, p.size),
+        MARK_TEXT => put_quoted(out, at, value_bytes(stream, p.start, p.size)),
+        MARK_BINARY => {
             let q = put_text(out, at, b"binary ");
             put_bytes(out, q, stream, p.start, p.size)
         }

@@ -1,5 +1,4 @@
 use native.Mathlib.Omega.{arith}
-use mathlib.Core.Path.{◌≡◌}
 use Rattle.csvwrite.specs.Sheet.{is_read_lem}
 use Rattle.csvwrite.proofs.RoomLaws.{read-last}
 use Rattle.csvwrite.proofs.is_read.Statement.{statement}

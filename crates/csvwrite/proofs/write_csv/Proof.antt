@@ -1,11 +1,9 @@
 use borrow.Author.Rules.{rules}
-use native.Mathlib.Omega.{arith}
-use mathlib.Core.Path.{◌≡◌, refl, sym, ◌∙◌}
+use mathlib.Core.Path.{◌≡◌, refl, sym}
 use mathlib.Core.Bool.{Bool, true, false, not}
 use Prim.Native.Nat.{ℕ}
 use lib.ListN.{length-replicate}
 use Rattle.rules.specs.Blob.{outcome, answer_of}
-use Rattle.names.specs.Lookup.{Lent}
 use Rattle.csvwrite.proofs.ExitLaws.{needed_is, refused-exit, readable, no-room-exit, fits_roomy, ample_roomy}
 use Rattle.csvwrite.proofs.write_csv.Statement.{statement}
 use Rattle.csvwrite.proofs.write_csv.Tie as tie
