@@ -235,11 +235,9 @@ fn yes_size(low: u32) -> usize
 fn signed_size(low: u32) -> usize
     ensures { result ≡ length (number32 low) }
 {
-    if low < 0x8000_0000 {
-        decimal_size(low) as usize
-    } else {
-        1 + decimal_size(0xffff_ffff - low + 1) as usize
-    }
+    let n = low.cast_signed();
+    let digits = decimal_size(n.unsigned_abs()) as usize;
+    if n < 0 { 1 + digits } else { digits }
 }
 
 // A value as it is listed, of a mark below Text.

@@ -42,12 +42,12 @@ fn put_yes(out: &mut [u8], at: usize, low: u32) -> usize
 fn put_signed(out: &mut [u8], at: usize, low: u32) -> usize
     ensures { Wrote out.old at (number32 low) out.new result }
 {
-    if low < 0x8000_0000 {
-        put_decimal(out, at, low)
-    } else {
+    let n = low.cast_signed();
+    if n < 0 {
         let p = put_byte(out, at, b'-');
-        put_decimal(out, p, 0xffff_ffff - low + 1)
+        return put_decimal(out, p, n.unsigned_abs());
     }
+    put_decimal(out, at, n.unsigned_abs())
 }
 
 // The bytes of a value, as far as the stream has them.
