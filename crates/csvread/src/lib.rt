@@ -3,12 +3,13 @@
 
 ghost use Rattle.std.specs.Prelude.{◌≡◌, [], ◌∷◌, ◌+◌, ◌-◌, ◌*◌, ◌≤◌, ◌<◌, ◌^◌, length};
 ghost use Rattle.rules.specs.Rows.{field_width};
-ghost use Rattle.rules.specs.Csv.{is_data, field_end, step, read_from, countable, fields_exit};
+ghost use Rattle.rules.specs.Csv.{field_end, step, read_from, countable, fields_exit};
 ghost use Rattle.rules.specs.declared.Mode.TheVariants.{Start, Plain, Quoted, Closing, Returned};
 ghost use Rattle.rows.specs.Put.{put};
 ghost use Rattle.csvlaws.proofs.CsvReaderLaws.{counted};
 ghost use Rattle.csvread.specs.Places.{begin, place_after, counted_as, end_of, last_of, Room, Fits, Wrote, rows_of, out_of};
 
+use csvtext::is_data;
 use rules::{Answer, Mode, NO_ROOM_FOR_SHEET, NOT_A_SHEET, READ, Step};
 use text::refused;
 
@@ -46,21 +47,6 @@ struct Size {
 }
 
 // ---- a byte
-fn is_data(b: u8) -> bool
-    ensures { result ≡ is_data b }
-{
-    if b == COMMA {
-        return false;
-    }
-    if b == QUOTE {
-        return false;
-    }
-    if b == CR {
-        return false;
-    }
-    b != LF
-}
-
 // What may stand after the field: a comma, or CR after the fifth.
 fn field_end(field: u32, b: u8) -> Step
     ensures { result ≡ field_end field b }
@@ -89,7 +75,7 @@ fn field_end(field: u32, b: u8) -> Step
 fn plain_step(field: u32, b: u8) -> Step
     ensures { result ≡ step Plain field b }
 {
-    if is_data(b) {
+    if is_data(u32::from(b)) {
         return Step::Put {
             mode: Mode::Plain,
             field,

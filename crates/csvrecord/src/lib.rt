@@ -34,9 +34,6 @@ const CODE_DIGITS: u32 = 4;
 
 const CODE_SIZE: usize = 4;
 
-// No table has an id above this one.
-const LAST_NAMED: u32 = 0xffff;
-
 // ---- written
 pub fn put_header(out: &mut [u8], at: usize) -> usize
     ensures { Wrote out.old at (record_text header) out.new result }
@@ -69,7 +66,7 @@ pub fn put_name_or_id(out: &mut [u8], at: usize, name: &[u8], id: u32) -> usize
     }
 }
 
-// A property's name, or its id.
+// A property's name, or its id. No table has an id of more than 16 bits.
 fn put_property(
     out: &mut [u8],
     at: usize,
@@ -82,13 +79,13 @@ fn put_property(
     requires { Lent index.now letters.now }
     ensures { Wrote out.old at (or_id (name_in_lem (names_for mark) id) id) out.new result }
 {
-    if LAST_NAMED < id {
+    let Ok(named) = u16::try_from(id) else {
         return put_hex(out, at, CODE_DIGITS, id);
-    }
+    };
     put_name_or_id(
         out,
         at,
-        names::value_name_near(index, letters, hints, mark, id as u16),
+        names::value_name_near(index, letters, hints, mark, named),
         id,
     )
 }
@@ -203,10 +200,10 @@ fn property_size(index: &[u32], letters: &[u8], mark: u32, id: u32) -> usize
     requires { Lent index.now letters.now }
     ensures { result ≡ length (or_id (name_in_lem (names_for mark) id) id) }
 {
-    if LAST_NAMED < id {
+    let Ok(named) = u16::try_from(id) else {
         return CODE_SIZE;
-    }
-    let size = names::value_name_in(index, letters, mark, id as u16).len();
+    };
+    let size = names::value_name_in(index, letters, mark, named).len();
     if size == 0 { CODE_SIZE } else { size }
 }
 

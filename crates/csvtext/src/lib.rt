@@ -108,7 +108,8 @@ fn put_doubled(out: &mut [u8], at: usize, bytes: &[u8]) -> usize
 }
 
 // ---- quoted or not
-fn is_data(c: u32) -> bool
+// A byte of UTF-8, or a character, that can stand without quotes.
+pub fn is_data(c: u32) -> bool
     ensures { result ≡ is_data c }
 {
     if c == COMMA_SIGN {

@@ -52,10 +52,10 @@ pub fn put_type_name(out: &mut [u8], at: usize, index: &[u32], letters: &[u8], c
     requires { Lent index.now letters.now }
     ensures { Wrote out.old at (or_dash (name_in_lem control_type_names code)) out.new result }
 {
-    if 0xffff < code {
+    let Ok(code) = u16::try_from(code) else {
         return put_byte(out, at, b'-');
-    }
-    put_name(out, at, names::type_name_in(index, letters, code as u16))
+    };
+    put_name(out, at, names::type_name_in(index, letters, code))
 }
 
 pub fn put_value_name(
@@ -69,14 +69,10 @@ pub fn put_value_name(
     requires { Lent index.now letters.now }
     ensures { Wrote out.old at (or_dash (name_in_lem (names_for mark) id)) out.new result }
 {
-    if 0xffff < id {
+    let Ok(id) = u16::try_from(id) else {
         return put_byte(out, at, b'-');
-    }
-    put_name(
-        out,
-        at,
-        names::value_name_in(index, letters, mark, id as u16),
-    )
+    };
+    put_name(out, at, names::value_name_in(index, letters, mark, id))
 }
 
 // How many characters a control's name has, or bytes where these aren't UTF-16; a control without one is numbered.
