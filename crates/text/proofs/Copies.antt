@@ -1,10 +1,10 @@
 -- Bytes copied several at once, where there is room.
-use mathlib.Core.Path.{◌≡◌, sym, ap, subst, ◌∙◌}
+use mathlib.Core.Path.{◌≡◌, refl, sym, ap, subst, ◌∙◌}
 use mathlib.Core.List.{List, [], ◌∷◌, ◌++◌}
 use Prim.Native.Nat.{ℕ, ◌+◌, ◌≤◌, ◌<◌}
 use native.Mathlib.Omega.{arith}
 use borrow.Rule.Slice.PartMut.{put_mid}
-use lib.ListN.{length, take, drop, length-drop, length-take, length-append}
+use lib.ListN.{length, get_or, take, drop, length-drop, length-take, length-append}
 use lib.Seq.{drop-drop}
 use Rattle.std.proofs.Common.{take-append-drop}
 use Rattle.text.specs.Writer.{Wrote}
@@ -30,3 +30,16 @@ parts {left} k p m = sym ((λ i. p i ++ m i) ∙ take-append-drop k left)
 
 pub piece_room : {o new left piece : List ℕ} (more : List ℕ) {a b : ℕ} → left ≡ piece ++ more → a + length left ≤ length o → Wrote o a piece new b → b + length more ≤ length new
 piece_room {piece = piece} more e h w = omega (arith, ap length e, length-append piece more, same w, next w (omega (arith, ap length e, length-append piece more)))
+
+pub eight_are : (s : List ℕ) → length s ≡ 8
+    → s ≡ get_or s 0 0 ∷ get_or s 1 0 ∷ get_or s 2 0 ∷ get_or s 3 0 ∷ get_or s 4 0 ∷ get_or s 5 0 ∷ get_or s 6 0 ∷ get_or s 7 0 ∷ []
+eight_are [] e = absurd (omega arith)
+eight_are (a ∷ []) e = absurd (omega arith)
+eight_are (a ∷ b ∷ []) e = absurd (omega arith)
+eight_are (a ∷ b ∷ c ∷ []) e = absurd (omega arith)
+eight_are (a ∷ b ∷ c ∷ d ∷ []) e = absurd (omega arith)
+eight_are (a ∷ b ∷ c ∷ d ∷ f ∷ []) e = absurd (omega arith)
+eight_are (a ∷ b ∷ c ∷ d ∷ f ∷ g ∷ []) e = absurd (omega arith)
+eight_are (a ∷ b ∷ c ∷ d ∷ f ∷ g ∷ h ∷ []) e = absurd (omega arith)
+eight_are (a ∷ b ∷ c ∷ d ∷ f ∷ g ∷ h ∷ i ∷ []) e = refl
+eight_are (a ∷ b ∷ c ∷ d ∷ f ∷ g ∷ h ∷ i ∷ j ∷ s) e = absurd (omega arith)
