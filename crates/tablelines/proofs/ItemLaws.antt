@@ -1,22 +1,31 @@
 -- The item of a line's words, one test at a time.
-use Prim.Native.Nat.{ℕ, ◌≤◌, ◌<◌}
+use Prim.Native.Nat.{ℕ, ◌+◌, ◌≤◌, ◌<◌}
 use native.Mathlib.Omega.{arith}
-use mathlib.Core.Path.{◌≡◌, refl, sym, ◌∙◌}
+use mathlib.Core.Path.{◌≡◌, refl, sym, ap, ◌∙◌}
 use mathlib.Core.Bool.{Bool, true, false, cond}
-use mathlib.Core.List.{List}
-use borrow.Author.Tests.{lt-ltb, le-ltb, ltb-false, eq-eqb, ne_eqb}
-use lib.Dec.{ltb}
+use mathlib.Core.List.{List, [], ◌∷◌}
+use borrow.Author.Tests.{lt-ltb, le-ltb, ltb-true, ltb-false, eq-eqb, ne_eqb, eqb-true, eqb-false}
+use lib.Dec.{ltb, eqb}
 use lib.ListN.{length}
 use Rattle.rules.specs.Lists.{text, same}
-use Rattle.tablelines.specs.Faults.{unknown_word, four_digits, many_words, unknown_kind}
+use Rattle.tablelines.specs.Faults.{unknown_word, four_digits, many_words, unknown_kind, number_lem}
 use Rattle.tablelines.specs.Words.{two_of, four_of, row_kind_of}
-use Rattle.tablelines.specs.Items.{number_fault, unless, layout_item, header_item, entry_item, plain_scope_item, row_item, item_by}
-use Rattle.tablelines.specs.declared.Item.{Item}
-use Rattle.tablelines.specs.declared.Item.TheVariants.{Nothing, Scope, Row, Bad}
+use Rattle.tablelines.specs.Items.{Item, Nothing, Scope, Row, Bad, number_fault, unless, plain_scope_item, row_item, item_by, layout_item, header_item, entry_item, below, or_fault, lone}
+use Rattle.std.proofs.Common.{Option, None, Result, Ok, Err, ok_or}
+use Rattle.std.specs.Result.{IsErrAnd}
+use Rattle.std.proofs.lemmas.Result.{err_from_is_err_and}
+use Rattle.tablelines.specs.declared.faults.Fault.{Fault}
 
 -- what a test was told of its answer
 pub told : {answer wanted known : Bool} → answer ≡ wanted → answer ≡ known → wanted ≡ known
 told e q = sym e ∙ q
+
+-- ---- a test for what is empty
+pub no_more : (s : List ℕ) {answer : Bool} → answer ≡ eqb (length s) 0 → answer ≡ true → length s ≤ 0
+no_more s e q = let z = eqb-true (length s) 0 (sym e ∙ q) in omega arith
+
+pub some_more : (s : List ℕ) {answer : Bool} → answer ≡ eqb (length s) 0 → answer ≡ false → 0 < length s
+some_more s e q = let z = eqb-false (length s) 0 (sym e ∙ q) in omega arith
 
 -- ---- kinds
 module _ (w : List ℕ) where
@@ -72,22 +81,37 @@ module _ (number most digits : ℕ) (third : List ℕ) where
   unfolding number_fault
   number_fits d e = fits_by (ltb 0 (length third)) (ltb most number) refl d e
 
--- a line of one number as the code has it: what it read, and the fault that it found
-pub record Numbered (most digits : ℕ) (third : List ℕ) (number read fault : ℕ) : Type 0 where
-  pub is : read ≡ number
-  pub found : fault ≡ number_fault read most digits third
+-- a line of one number as the code has it
+abbrev pub as_line : (ℕ → Item) → Result ℕ Fault → Item
+as_line make (Ok n) = make n
+as_line make (Err fault) = Bad (number_lem fault)
 
-module _ {most digits : ℕ} {third : List ℕ} {number read fault : ℕ} (N : Numbered most digits third number read fault) where
-  pub number_bad : (make : ℕ → Item) → (fault ≡ 0 → ⊥) → Bad fault ≡ unless (number_fault number most digits third) (make number)
+module _ (make : ℕ → Item) (most n : ℕ) (digits : Fault) (d : number_lem digits ≡ 0 → ⊥) where
+  alone_by : (t : Bool) → ltb most n ≡ t → as_line make (or_fault (below (most + 1) n) digits) ≡ unless (cond t (number_lem digits) 0) (make n)
   unfolding unless
-  number_bad make h = rw (← N.is, ← N.found, ne_eqb fault 0 h)
+  alone_by true q = let h = ltb-true most n q in rw (le-ltb n (most + 1) (omega arith), ne_eqb (number_lem digits) 0 d)
+  alone_by false q = let h = ltb-false most n q in rw (lt-ltb n (most + 1) (omega arith))
 
-  pub number-made : (make : ℕ → Item) → fault ≡ 0 → make read ≡ unless (number_fault number most digits third) (make number)
-  unfolding unless
-  number-made make h = rw (← N.is, ← N.found, eq-eqb fault 0 h)
+  number_line : (third : List ℕ) → as_line make (lone (below (most + 1) n) third digits) ≡ unless (number_fault n most (number_lem digits) third) (make n)
+  unfolding number_fault unless
+  number_line [] = alone_by (ltb most n) refl
+  number_line (x ∷ third) = rw (lt-ltb 0 (length (x ∷ third)) (omega arith), ne_eqb (length (x ∷ third)) 0 (λ e. omega arith))
 
-  pub read_fits : (digits ≡ 0 → ⊥) → fault ≡ 0 → read ≤ most
-  read_fits d h = number_fits read most digits third d (sym N.found ∙ h)
+pub one_number : (make : ℕ → Item) (most n : ℕ) (digits : Fault) (third : List ℕ) {read : Option ℕ} {r : Result ℕ Fault} → (number_lem digits ≡ 0 → ⊥) → read ≡ below (most + 1) n → r ≡ lone read third digits
+    → as_line make r ≡ unless (number_fault n most (number_lem digits) third) (make n)
+one_number make most n digits third d e q = ap (as_line make) (q ∙ ap (λ (o : Option ℕ). lone o third digits) e) ∙ number_line make most n digits d third
+
+-- ---- what a `?` hands on
+pub raised : {A : Type 0} (r : Result A Fault) (fault : Fault) → IsErrAnd r (λ e. e ≡ fault) → r ≡ Err fault
+raised r fault h = let p = err_from_is_err_and r h in p.1 ∙ ap Err p.2
+
+abbrev fault_or : {A : Type 0} → Fault → Result A Fault → Fault
+fault_or other (Ok x) = other
+fault_or other (Err fault) = fault
+
+-- the fault of what is missing
+pub missed : {A : Type 0} (o : Option A) {fault named : Fault} → Err fault ≡ ok_or o named → o ≡ None → fault ≡ named
+missed o {fault} {named} e n = ap (fault_or named) (e ∙ ap (λ o. ok_or o named) n)
 
 -- ---- a form, a report
 pub scope-more : (kind : ℕ) (second : List ℕ) → 0 < length second → plain_scope_item kind second ≡ Bad many_words

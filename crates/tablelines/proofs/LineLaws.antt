@@ -1,17 +1,19 @@
 -- A text's lines, one at a time.
-use Prim.Native.Nat.{ℕ, ◌+◌, ◌-◌, ◌≤◌, ◌<◌}
+use Prim.Native.Nat.{ℕ, zero, suc, ◌+◌, ◌-◌, ◌<◌}
 use native.Mathlib.Omega.{arith}
 use mathlib.Core.Path.{◌≡◌, refl, sym, ap, ◌∙◌}
-use mathlib.Core.Bool.{Bool, true, false}
-use mathlib.Core.List.{List, [], ◌∷◌, map}
-use borrow.Author.Tests.{lt-ltb, le-ltb, ltb-true, ltb-false}
+use mathlib.Core.Bool.{Bool, true, false, not}
+use mathlib.Core.List.{List, [], ◌∷◌, ◌++◌, map}
+use borrow.Author.Tests.{ne_eqb, lt-ltb}
 use lib.Dec.{eqb, ltb}
-use lib.ListN.{length, take, drop, length-drop}
-use lib.Seq.{drop-drop, length-take-le}
+use lib.ListN.{length, take, drop, length-drop, length-append}
+use lib.Seq.{drop-append-add, take-length}
+use Rattle.std.proofs.lemmas.List.{drop-drop}
 use Rattle.tablelines.specs.Words.{onto, lines_of, line_end, sign, stops, before, onward, word, after_word}
-use Rattle.tablelines.specs.Items.{item_of, item_in, item_by, items_of, between, Until, WordAt, LineAt}
-use Rattle.tablelines.specs.declared.Item.{Item}
-use Rattle.tablelines.specs.declared.Word.{Word}
+use Rattle.std.proofs.Common.{Result}
+use Rattle.tablelines.specs.Items.{Item, item_of, item_in, item_by, items_of, said, LineAt}
+use Rattle.tablelines.specs.declared.faults.Fault.{Fault}
+use Rattle.tablelines.specs.declared.Item.{Item as Taken}
 
 -- ---- the first line ends in front of the first byte 10, and the second begins after that
 abbrev Begins : List ℕ → Type 0
@@ -36,37 +38,34 @@ begun [] h = absurd (omega arith)
 begun (b ∷ s) h = begins s b
 
 -- ---- the line at a place
-pub line-found : {s : List ℕ} {at end said : ℕ} {item : Item} → at < length s → Until line_end s at end → Until sign (between s at end) 0 said → item ≡ item_in (take said (between s at end))
-    → LineAt s at (record { item = item; next = end + 1 })
+pub line-found : {s : List ℕ} {at : ℕ} {line rest unsigned : List ℕ} {item : Result Taken Fault} → at < length s → take (length s - at) (drop at s) ≡ line ++ rest → before line_end (take (length s - at) (drop at s)) ≡ line
+    → onward line_end (take (length s - at) (drop at s)) ≡ rest → before sign line ≡ unsigned → said item ≡ item_in unsigned → LineAt s at (record { item = item; next = at + length line + 1 })
 unfolding items_of item_of
-line-found {s} {at} {end} {said} {item} l u v e =
-    let after-it : drop 1 (onward line_end (drop at s)) ≡ drop (end + 1) s = ap (drop 1) u.back ∙ drop-drop 1 end s in
+line-found {s} {at} {line} {rest} {unsigned} {item} l j f g u e =
     let n = length-drop at s in
-    let lines : lines_of (drop at s) ≡ between s at end ∷ lines_of (drop (end + 1) s) = begun (drop at s) (omega arith) ∙ (λ i. u.front i ∷ lines_of (after-it i)) in
-    let z : said - 0 ≡ said = omega arith in
-    let first : item_of (between s at end) ≡ item = ap item_in v.front ∙ ap (λ (n : ℕ). item_in (take n (between s at end))) z ∙ sym e in
-    let a = u.from in
-    let b = u.to in
-    record { is = ap (map item_of) lines ∙ ap (λ (x : Item). x ∷ map item_of (lines_of (drop (end + 1) s))) first; on = omega arith; within = omega arith }
+    let all : take (length s - at) (drop at s) ≡ drop at s = (let e : length s - at ≡ length (drop at s) = omega arith in ap (λ k. take k (drop at s)) e ∙ take-length (drop at s)) in
+    let j : drop at s ≡ line ++ rest = sym all ∙ j in
+    let f : before line_end (drop at s) ≡ line = ap (before line_end) (sym all) ∙ f in
+    let g : onward line_end (drop at s) ≡ rest = ap (onward line_end) (sym all) ∙ g in
+    let m = ap length j ∙ length-append line rest in
+    let behind : drop 1 rest ≡ drop (at + length line + 1) s =
+    sym (drop-append-add line rest 1) ∙ ap (drop (length line + 1)) (sym j) ∙ drop-drop (length line + 1) at s ∙ (let e : at + (length line + 1) ≡ at + length line + 1 = omega arith in ap (λ (k : ℕ). drop k s) e) in
+    let lines : lines_of (drop at s) ≡ line ∷ lines_of (drop (at + length line + 1) s) = begun (drop at s) (omega arith) ∙ (λ i. f i ∷ lines_of ((ap (drop 1) g ∙ behind) i)) in
+    let first : item_of line ≡ said item = ap item_in u ∙ sym e in
+    record { is = ap (map item_of) lines ∙ ap (λ (x : Item). x ∷ map item_of (lines_of (drop (at + length line + 1) s))) first; on = omega arith; within = omega arith }
 
 -- ---- the words of a line
--- a word has letters where it ends after its start
-long-by : (s : List ℕ) (from to : ℕ) (t : Bool) → to ≤ length s → ltb from to ≡ t → ltb 0 (length (between s from to)) ≡ t
-long-by s from to true h e = let l = ltb-true from to e in let n = length-take-le (to - from) (drop from s) (let m = length-drop from s in omega arith) in lt-ltb 0 (length (between s from to)) (omega arith)
-long-by s from to false h e = let l = ltb-false from to e in let n = length-take-le (to - from) (drop from s) (let m = length-drop from s in omega arith) in le-ltb 0 (length (between s from to)) (omega arith)
+longer : (n : ℕ) → not (eqb n 0) ≡ ltb 0 n
+longer zero = refl
+longer (suc n) = rw (ne_eqb (suc n) 0 (λ e. omega arith), lt-ltb 0 (suc n) (omega arith))
 
-module _ {s : List ℕ} {a b c d : Word} (wa : WordAt s 0 a) (wb : WordAt s a.to b) (wc : WordAt s b.to c) (wd : WordAt s c.to d) where
-  rest_b : after_word (after_word s) ≡ drop b.to s
-  rest_b = ap after_word wa.rest ∙ wb.rest
-
-  rest_c : after_word (after_word (after_word s)) ≡ drop c.to s
-  rest_c = ap after_word rest_b ∙ wc.rest
-
-  pub words_in : item_by (between s a.from a.to) (between s b.from b.to) (between s c.from c.to) (ltb d.from d.to) ≡ item_in s
-  unfolding item_in
-  words_in =
-      let second : word (after_word s) ≡ between s b.from b.to = ap word wa.rest ∙ wb.is in
-      let third : word (after_word (after_word s)) ≡ between s c.from c.to = ap word rest_b ∙ wc.is in
-      let fourth : word (after_word (after_word (after_word s))) ≡ between s d.from d.to = ap word rest_c ∙ wd.is in
-      let more : ltb 0 (length (word (after_word (after_word (after_word s))))) ≡ ltb d.from d.to = ap (λ (w : List ℕ). ltb 0 (length w)) fourth ∙ long-by s d.from d.to (ltb d.from d.to) wd.inside refl in
-      λ i. item_by (sym wa.is i) (sym second i) (sym third i) (sym more i)
+pub words_in : (s : List ℕ) {first second third fourth rest rest2 rest3 : List ℕ} {empty : Bool} → first ≡ word s → rest ≡ after_word s → second ≡ word rest → rest2 ≡ after_word rest → third ≡ word rest2 → rest3 ≡ after_word rest2
+    → fourth ≡ word rest3 → empty ≡ eqb (length fourth) 0 → item_by first second third (not empty) ≡ item_in s
+unfolding item_in
+words_in s {first} {second} {third} {fourth} {rest} {rest2} {rest3} {empty} a ra b rb d rd f e =
+    let two : second ≡ word (after_word s) = b ∙ ap word ra in
+    let after-two : rest2 ≡ after_word (after_word s) = rb ∙ ap after_word ra in
+    let three : third ≡ word (after_word (after_word s)) = d ∙ ap word after-two in
+    let four : fourth ≡ word (after_word (after_word (after_word s))) = f ∙ ap word (rd ∙ ap after_word after-two) in
+    let more : not empty ≡ ltb 0 (length (word (after_word (after_word (after_word s))))) = ap not e ∙ longer (length fourth) ∙ ap (λ (w : List ℕ). ltb 0 (length w)) four in
+    λ i. item_by (a i) (two i) (three i) (more i)

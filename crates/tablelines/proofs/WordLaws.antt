@@ -1,107 +1,52 @@
 -- Searches, words and numbers, as the code meets them: one byte at a time, one test at a time.
-use Prim.Native.Nat.{ℕ, zero, suc, ◌+◌, ◌*◌, ◌-◌, ◌≤◌, ◌<◌}
+use Prim.Native.Nat.{ℕ, suc, ◌+◌, ◌*◌, ◌-◌, ◌≤◌, ◌<◌}
 use native.Mathlib.Omega.{arith}
-use native.Mathlib.Numerals.{add-one}
-use mathlib.Core.Path.{◌≡◌, refl, sym, ap, ◌∙◌}
-use mathlib.Core.Bool.{Bool, true, false, not, and-false}
-use mathlib.Core.List.{List, [], ◌∷◌}
-use borrow.Author.Tests.{lt-ltb, le-ltb, le-leb, lt-leb, eq-eqb, ne_eqb, eqb-true, eqb-false, ltb-true, ltb-false}
+use mathlib.Core.Path.{◌≡◌, refl, sym, ap, subst, ◌∙◌}
+use mathlib.Core.Bool.{Bool, true, false, cond, and-false}
+use mathlib.Core.List.{List, [], ◌∷◌, ◌++◌}
+use Rattle.std.proofs.Common.{Option, Some, None, nat_eq}
+use Rattle.std.specs.Option.{SomeIff}
+use Rattle.std.proofs.lemmas.Bool.Decides.{nat_tests}
+use Rattle.std.specs.Char.{digit_value}
+use borrow.Author.Tests.{lt-ltb, le-ltb, le-leb, lt-leb, eq-eqb, ne_eqb, ltb-true, ltb-false}
 use lib.Dec.{ltb, eqb}
-use lib.ListN.{length, get_or, drop, drop_of_length-le}
-use lib.Seq.{drop-cons}
+use lib.Pointwise.{pointwise}
+use lib.ListN.{length, get_or, take, drop, length-drop}
+use lib.Seq.{length-take-le}
+use Rattle.std.proofs.lemmas.List.{get_or-take, get_or-drop, take-append-drop}
 use Rattle.rules.specs.Lists.{same}
-use Rattle.tablelines.specs.Words.{line_end, sign, letter, blank, is_blank, stops, before, onward, word, after_word, digit_of, byte_of, code_of, two_of, four_of}
-use Rattle.tablelines.specs.Items.{between, Digit, Until, WordAt}
+use Rattle.tablelines.specs.Words.{stops, before, onward, digit_of, byte_of, code_of, two_of, four_of}
+use Rattle.tablelines.specs.Items.{Cut, below}
 
--- ---- what a byte stops
-pub space_blank : (b : ℕ) → b ≡ 32 → is_blank b ≡ eqb b 32
-unfolding is_blank
-space_blank b e = rw (eq-eqb b 32 e)
+-- ---- what is cut off
+cut_by : (search : ℕ) (f g : List ℕ) → ((k : ℕ) → k < length f → stops search (get_or f k 0) ≡ false) → (0 < length g → stops search (get_or g 0 0) ≡ true) → (before search (f ++ g) ≡ f) × (onward search (f ++ g) ≡ g)
+unfolding before onward
+cut_by search [] [] p e = (refl, refl)
+cut_by search [] (y ∷ g) p e = let z = e (omega arith) in (rw z, rw z)
+cut_by search (x ∷ f) g p e =
+    let z = p 0 (omega arith) in
+    let k = cut_by search f g (λ i l. p (suc i) (omega arith)) e in
+    (rw z (ap (λ (l : List ℕ). x ∷ l) k.0), rw z k.1)
 
-pub tab_blank : (b : ℕ) → (b ≡ 32 → ⊥) → b ≡ 9 → is_blank b ≡ eqb b 9
-unfolding is_blank
-tab_blank b n e = rw (ne_eqb b 32 n, eq-eqb b 9 e)
+pub cut_at : {Test : ℕ → Bool → Type 0} {s front back : List ℕ} {p : ℕ} → front ≡ take p s → back ≡ drop p s → p ≤ length s → ((k : ℕ) → k < p → Test (get_or s k 0) false) → (p < length s → Test (get_or s p 0) true) → Cut Test s front back
+cut_at {Test} {s} {front} {back} {p} f g h passed stopped =
+    let n = length-take-le p s h in
+    let m = length-drop p s in
+    let q : p + 0 ≡ p = omega arith in
+    let here : (k : ℕ) → k < length (take p s) → Test (get_or (take p s) k 0) false = λ k l. subst (λ (b : ℕ). Test b false) (sym (get_or-take p s k 0 (omega arith))) (passed k (omega arith)) in
+    let there : 0 < length (drop p s) → Test (get_or (drop p s) 0 0) true = λ l. subst (λ (b : ℕ). Test b true) (sym (get_or-drop p s 0 0 ∙ ap (λ (i : ℕ). get_or s i 0) q)) (stopped (omega arith)) in
+    rw (f, g) (record { joined = sym (take-append-drop p s); passed = here; stopped = there })
 
-pub return_blank : (b : ℕ) → (b ≡ 32 → ⊥) → (b ≡ 9 → ⊥) → is_blank b ≡ eqb b 13
-unfolding is_blank
-return_blank b n m = rw (ne_eqb b 32 n, ne_eqb b 9 m)
+-- where the test is that of a search
+module _ (search : ℕ) {Test : ℕ → Bool → Type 0} (is : (b : ℕ) (r : Bool) → Test b r → stops search b ≡ r) {s f g : List ℕ} (C : Cut Test s f g) where
+  both : (before search s ≡ f) × (onward search s ≡ g)
+  both = rw C.joined (cut_by search f g (λ k l. is _ _ (C.passed k l)) (λ l. is _ _ (C.stopped l)))
 
-module _ (search b : ℕ) where
-  pub at-end : search ≡ line_end → stops search b ≡ eqb b 10
-  unfolding stops
-  at-end e = rw (eq-eqb search 0 e)
+  pub in_front : before search s ≡ f
+  in_front = both.0
 
-  pub at_sign : (search ≡ line_end → ⊥) → search ≡ sign → stops search b ≡ eqb b 35
-  unfolding stops
-  at_sign n e = rw (ne_eqb search 0 n, eq-eqb search 1 e)
-
-  pub at-letter : (search ≡ line_end → ⊥) → (search ≡ sign → ⊥) → search ≡ letter → stops search b ≡ not (is_blank b)
-  unfolding stops
-  at-letter n m e = rw (ne_eqb search 0 n, ne_eqb search 1 m, eq-eqb search 2 e)
-
-  pub at-blank : (search ≡ line_end → ⊥) → (search ≡ sign → ⊥) → (search ≡ letter → ⊥) → stops search b ≡ is_blank b
-  unfolding stops
-  at-blank n m k = rw (ne_eqb search 0 n, ne_eqb search 1 m, ne_eqb search 2 k)
-
--- ---- the bytes between two places
-pub between-empty : (s : List ℕ) (r : ℕ) → between s r r ≡ []
-between-empty s r = let e : r - r ≡ 0 = omega arith in rw e
-
-pub between_cons : (s : List ℕ) (at r : ℕ) → at < r → r ≤ length s → between s at r ≡ get_or s at 0 ∷ between s (suc at) r
-between_cons s at r l h = let e : r - at ≡ suc (r - suc at) = omega arith in rw (e, drop-cons s at 0 (omega arith))
-
--- ---- a search
--- no byte from `at` up to p stops it
-abbrev pub Skipped : ℕ → List ℕ → ℕ → ℕ → Type 0
-Skipped search s at p = (i : ℕ) → at ≤ i → i < p → stops search (get_or s i 0) ≡ false
-
-pub none_skipped : (search : ℕ) (s : List ℕ) (at : ℕ) → Skipped search s at at
-none_skipped search s at i h l = absurd (omega arith)
-
-skipped_by : (search : ℕ) (s : List ℕ) (at p i : ℕ) (t : Bool) → eqb i p ≡ t → Skipped search s at p → stops search (get_or s p 0) ≡ false → at ≤ i → i < p + 1 → stops search (get_or s i 0) ≡ false
-skipped_by search s at p i true e h z a l = ap (λ (k : ℕ). stops search (get_or s k 0)) (eqb-true i p e) ∙ z
-skipped_by search s at p i false e h z a l = let n = eqb-false i p e in h i a (omega arith)
-
-pub one_skipped : (search : ℕ) (s : List ℕ) (at p : ℕ) → Skipped search s at p → stops search (get_or s p 0) ≡ false → Skipped search s at (p + 1)
-one_skipped search s at p h z i a l = skipped_by search s at p i (eqb i p) refl h z a l
-
-module _ (search : ℕ) (s : List ℕ) (r : ℕ) (inside : r ≤ length s) (stop : r < length s → stops search (get_or s r 0) ≡ true) where
-  -- what the search finds from r on
-  here-by : (t : Bool) → ltb r (length s) ≡ t → (before search (drop r s) ≡ []) × (onward search (drop r s) ≡ drop r s)
-  unfolding before onward
-  here-by true e = let l : r < length s = ltb-true r (length s) e in let d = drop-cons s r 0 l in let z = stop l in (rw (d, z), rw (d, z))
-  here-by false e = let d : drop r s ≡ [] = drop_of_length-le s (ltb-false r (length s) e) in (rw d, rw d)
-
-  found-by : (n at : ℕ) → at + n ≡ r → Skipped search s at r → (before search (drop at s) ≡ between s at r) × (onward search (drop at s) ≡ drop r s)
-  unfolding before onward
-  found-by zero at e h =
-      let q : at ≡ r = omega arith in
-      let z = here-by (ltb r (length s)) refl in
-      rw q (z.0 ∙ sym (between-empty s r), z.1)
-  found-by (suc n) at e h =
-      let l : at < r = omega arith in
-      let d = drop-cons s at 0 (omega arith) in
-      let z = h at (omega arith) l in
-      let k = found-by n (suc at) (omega arith) (λ i a b. h i (omega arith) b) in
-      let front : before search (drop at s) ≡ get_or s at 0 ∷ before search (drop (suc at) s) = rw (d, z) in
-      let back : onward search (drop at s) ≡ onward search (drop (suc at) s) = rw (d, z) in
-      (front ∙ ap (λ (x : List ℕ). get_or s at 0 ∷ x) k.0 ∙ sym (between_cons s at r l inside), back ∙ k.1)
-
-  pub found : (at : ℕ) → at ≤ r → Skipped search s at r → Until search s at r
-  found at a h =
-      let n : at + (r - at) ≡ r = omega arith in
-      let k = found-by (r - at) at n h in
-      record { from = a; to = inside; front = k.0; back = k.1 }
-
--- ---- a word
-pub word-found : {s : List ℕ} {at from to : ℕ} → Until letter s at from → Until blank s from to → WordAt s at (record { from = from; to = to })
-unfolding word after_word
-word-found a b = record {
-  order = b.from;
-  inside = b.to;
-  is = ap (before blank) a.back ∙ b.front;
-  rest = ap (onward blank) a.back ∙ b.back;
-}
+  pub from_it_on : onward search s ≡ g
+  from_it_on = both.1
 
 -- ---- the same word
 pub other_length : (a b : List ℕ) → (length a ≡ length b → ⊥) → same a b ≡ false
@@ -111,62 +56,113 @@ other_length [] (y ∷ b) n = refl
 other_length (x ∷ a) [] n = refl
 other_length (x ∷ a) (y ∷ b) n = rw (other_length a b (λ e. n (ap suc e))) (and-false (eqb x y))
 
-module _ (a b : List ℕ) (p : ℕ) (la : p < length a) (lb : p < length b) where
-  pub other_byte : (get_or a p 0 ≡ get_or b p 0 → ⊥) → same (drop p a) (drop p b) ≡ false
-  unfolding same
-  other_byte n = rw (drop-cons a p 0 la, drop-cons b p 0 lb, ne_eqb (get_or a p 0) (get_or b p 0) n)
-
-  pub same_byte : get_or a p 0 ≡ get_or b p 0 → same (drop p a) (drop p b) ≡ same (drop (p + 1) a) (drop (p + 1) b)
-  unfolding same
-  same_byte e = rw (drop-cons a p 0 la, drop-cons b p 0 lb, eq-eqb (get_or a p 0) (get_or b p 0) e, add-one p)
-
-pub same_end : (a b : List ℕ) (p : ℕ) → length a ≤ p → length b ≤ p → same (drop p a) (drop p b) ≡ true
+pub same_each : (a b : List ℕ) → pointwise nat_eq a b ≡ same a b
 unfolding same
-same_end a b p h g = rw (drop_of_length-le a h, drop_of_length-le b g)
+same_each [] [] = refl
+same_each [] (y ∷ b) = refl
+same_each (x ∷ a) [] = refl
+same_each (x ∷ a) (y ∷ b) = rw (same_each a b) refl
+
+-- ---- a number, or none
+abbrev is_there : Option ℕ → ℕ
+is_there (Some n) = 1
+is_there None = 0
+
+abbrev there : (x : ℕ) → Option ℕ → ℕ
+there x (Some n) = n
+there x None = x
+
+module _ {most n : ℕ} where
+  pub none_above : None ≡ below most n → most ≤ n
+  none_above e = go (ltb n most) refl e
+    where
+      go : (t : Bool) → ltb n most ≡ t → None ≡ cond t (Some n) None → most ≤ n
+      go true q e = let z : ◌≡◌ {A = ℕ} 0 1 = ap is_there e in absurd (omega arith)
+      go false q e = ltb-false n most q
+
+  pub some_below : {x : ℕ} → Some x ≡ below most n → (x ≡ n) × (n < most)
+  some_below {x} e = go (ltb n most) refl e
+    where
+      go : (t : Bool) → ltb n most ≡ t → Some x ≡ cond t (Some n) None → (x ≡ n) × (n < most)
+      go true q e = (ap (there x) e, ltb-true n most q)
+      go false q e = let z : ◌≡◌ {A = ℕ} 1 0 = ap is_there e in absurd (omega arith)
+
+  pub none_of : most ≤ n → None ≡ below most n
+  none_of h = rw (le-ltb n most h) refl
+
+  pub some_of : n < most → Some n ≡ below most n
+  some_of h = rw (lt-ltb n most h) refl
 
 -- ---- digits
 module _ (b : ℕ) where
-  pub before_digits : b < 48 → digit_of b ≡ 16
+  before_digits : b < 48 → digit_of b ≡ 16
   unfolding digit_of
   before_digits h = rw (lt-leb 48 b h, lt-leb 65 b (omega arith), lt-leb 97 b (omega arith))
 
-  pub a_digit : 48 ≤ b → b ≤ 57 → digit_of b ≡ b - 48
+  a_digit : 48 ≤ b → b ≤ 57 → digit_of b ≡ b - 48
   unfolding digit_of
   a_digit h g = rw (le-leb 48 b h, le-leb b 57 g)
 
-  pub before_capitals : 57 < b → b < 65 → digit_of b ≡ 16
+  before_capitals : 57 < b → b < 65 → digit_of b ≡ 16
   unfolding digit_of
   before_capitals h g = rw (le-leb 48 b (omega arith), lt-leb b 57 h, lt-leb 65 b g, lt-leb 97 b (omega arith))
 
-  pub a_capital : 65 ≤ b → b ≤ 70 → digit_of b ≡ b - 55
+  a_capital : 65 ≤ b → b ≤ 70 → digit_of b ≡ b - 55
   unfolding digit_of
   a_capital h g = rw (le-leb 48 b (omega arith), lt-leb b 57 (omega arith), le-leb 65 b h, le-leb b 70 g)
 
-  pub before-letters : 70 < b → b < 97 → digit_of b ≡ 16
+  before-letters : 70 < b → b < 97 → digit_of b ≡ 16
   unfolding digit_of
   before-letters h g = rw (le-leb 48 b (omega arith), lt-leb b 57 (omega arith), le-leb 65 b (omega arith), lt-leb b 70 h, lt-leb 97 b g)
 
-  pub a_letter : 97 ≤ b → b ≤ 102 → digit_of b ≡ b - 87
+  a_letter : 97 ≤ b → b ≤ 102 → digit_of b ≡ b - 87
   unfolding digit_of
   a_letter h g = rw (le-leb 48 b (omega arith), lt-leb b 57 (omega arith), le-leb 65 b (omega arith), lt-leb b 70 (omega arith), le-leb 97 b h, le-leb b 102 g)
 
-  pub after_letters : 102 < b → digit_of b ≡ 16
+  after_letters : 102 < b → digit_of b ≡ 16
   unfolding digit_of
   after_letters h = rw (le-leb 48 b (omega arith), lt-leb b 57 (omega arith), le-leb 65 b (omega arith), lt-leb b 70 (omega arith), le-leb 97 b (omega arith), lt-leb b 102 h)
 
--- ---- numbers, by the numbers that were read of their digits
-module _ {a b high low : ℕ} (h : Digit a high) (l : Digit b low) where
-  pub no-high : high ≡ 16 → byte_of a b ≡ 256
-  unfolding byte_of
-  no-high e = rw (← h.is, le-ltb high 16 (omega arith))
+  -- as the library has it
+  as_value : digit_of b ≡ cond (ltb (digit_value b) 16) (digit_value b) 16
+  unfolding digit_of
+  as_value = grind (arith, nat_tests)
 
-  pub no-low : (high ≡ 16 → ⊥) → low ≡ 16 → byte_of a b ≡ 256
-  unfolding byte_of
-  no-low n e = let s = h.small in rw (← h.is, ← l.is, lt-ltb high 16 (omega arith), le-ltb low 16 (omega arith))
+not_lt : (m n : ℕ) → (m < n → ⊥) → n ≤ m
+not_lt m n h = go (ltb m n) refl
+  where
+    go : (t : Bool) → ltb m n ≡ t → n ≤ m
+    go true q = absurd (h (ltb-true m n q))
+    go false q = ltb-false m n q
 
-  pub a_byte : (high ≡ 16 → ⊥) → (low ≡ 16 → ⊥) → byte_of a b ≡ 16 * high + low
+value_read : (b : ℕ) (r : Option ℕ) → SomeIff r (digit_value b < 16) (digit_value b) → r ≡ below 16 (digit_of b)
+value_read b None h = let e = as_value b in none_of (rw (e, le-ltb (digit_value b) 16 (not_lt _ _ h)) (omega arith))
+value_read b (Some d) h = let e = as_value b in let q : digit_of b ≡ d = rw (e, lt-ltb (digit_value b) 16 h.0) (sym h.1) in rw (← q) (some_of (omega (arith, q, h.0, h.1)))
+
+pub digit_read : {b x : ℕ} {r : Option ℕ} → x ≡ b → SomeIff r (digit_value x < 16) (digit_value x) → r ≡ below 16 (digit_of b)
+digit_read {b} {x} {r} e h = value_read b r (subst (λ (n : ℕ). SomeIff r (digit_value n < 16) (digit_value n)) e h)
+
+-- ---- numbers of two digits
+-- the number of a hex digit
+pub record Digit (b r : ℕ) : Type 0 where
+  pub is : r ≡ digit_of b
+  pub small : r ≤ 16
+
+module _ (a b : ℕ) where
+  pub no-high : 16 ≤ digit_of a → byte_of a b ≡ 256
   unfolding byte_of
-  a_byte n m = let s = h.small in let t = l.small in rw (← h.is, ← l.is, lt-ltb high 16 (omega arith), lt-ltb low 16 (omega arith))
+  no-high h = rw (le-ltb (digit_of a) 16 h)
+
+  pub no-low : digit_of a < 16 → 16 ≤ digit_of b → byte_of a b ≡ 256
+  unfolding byte_of
+  no-low g h = rw (lt-ltb (digit_of a) 16 g, le-ltb (digit_of b) 16 h)
+
+  pub two_small : digit_of a < 16 → digit_of b < 16 → byte_of a b ≡ 16 * digit_of a + digit_of b
+  unfolding byte_of
+  two_small g h = rw (lt-ltb (digit_of a) 16 g, lt-ltb (digit_of b) 16 h)
+
+pub a_byte : {a b high low : ℕ} → Digit a high → Digit b low → (high ≡ 16 → ⊥) → (low ≡ 16 → ⊥) → byte_of a b ≡ 16 * high + low
+a_byte {a} {b} h l n m = let s = h.small in let t = l.small in let e = h.is in let f = l.is in omega (arith, two_small a b (omega arith) (omega arith))
 
 module _ (high low : ℕ) where
   pub no-high-byte : 256 ≤ high → code_of high low ≡ 65536

@@ -1,5 +1,7 @@
 -- Why a text makes no table, by number; 0 says that nothing is wrong.
 use Rattle.std.specs.Prelude.{ℕ}
+use Rattle.tablelines.specs.declared.faults.Fault.{Fault}
+use Rattle.tablelines.specs.declared.faults.Fault.TheVariants.{NoLayout, LayoutFirst, LayoutTwice, UnknownWord, TwoDigits, FourDigits, ManyWords, UnknownKind, HeaderLate, HeaderOrder, ManyHeaders, ScopeOrder, ManyScopes, RowEarly, IdOrder, IdHigh, TargetHigh, LongText, NoRoom}
 
 -- ---- of the lines together
 abbrev pub no_layout : ℕ
@@ -61,3 +63,25 @@ long_text = 18
 
 abbrev pub no_room_lem : ℕ
 no_room_lem = 19
+
+-- ---- the number of a fault
+abbrev pub number_lem : Fault → ℕ
+number_lem NoLayout = no_layout
+number_lem LayoutFirst = layout_first
+number_lem LayoutTwice = layout_twice
+number_lem UnknownWord = unknown_word
+number_lem TwoDigits = two_digits_lem
+number_lem FourDigits = four_digits
+number_lem ManyWords = many_words
+number_lem UnknownKind = unknown_kind
+number_lem HeaderLate = header_late
+number_lem HeaderOrder = header_order
+number_lem ManyHeaders = many_headers
+number_lem ScopeOrder = scope_order
+number_lem ManyScopes = many_scopes
+number_lem RowEarly = row_early
+number_lem IdOrder = id_order
+number_lem IdHigh = id_high
+number_lem TargetHigh = target_high
+number_lem LongText = long_text
+number_lem NoRoom = no_room_lem

@@ -1,13 +1,22 @@
 -- What a line says: nothing, the layout byte, a header code, a scope, a row, or something that can't be taken.
-use Rattle.std.specs.Prelude.{ℕ, ◌+◌, ◌-◌, ◌≤◌, ◌<◌, ◌≡◌, Bool, cond, List, ◌∷◌, map, ltb, eqb, length, drop}
+use Rattle.std.specs.Prelude.{ℕ, ◌+◌, ◌≤◌, ◌<◌, ◌≡◌, Bool, true, false, cond, Option, Some, None, Result, Ok, Err, List, ◌∷◌, ◌++◌, map, ltb, eqb, length, drop, get_or}
 use Rattle.rules.specs.Lists.{text, same}
-use Rattle.rules.specs.Bytes.{part}
-use Rattle.tablelines.specs.Faults.{unknown_word, two_digits_lem, four_digits, many_words, unknown_kind}
-use Rattle.tablelines.specs.Words.{lines_of, before, onward, sign, word, after_word, digit_of, two_of, four_of, row_kind_of}
-use Rattle.tablelines.specs.declared.Item.{Item}
-use Rattle.tablelines.specs.declared.Item.TheVariants.{Nothing, Layout, Header, Scope, Row, Bad}
-use Rattle.tablelines.specs.declared.Word.{Word}
+use Rattle.tablelines.specs.Faults.{unknown_word, two_digits_lem, four_digits, many_words, unknown_kind, number_lem}
+use Rattle.tablelines.specs.Words.{lines_of, before, sign, word, after_word, two_of, four_of, row_kind_of}
+use Rattle.tablelines.specs.declared.faults.Fault.{Fault}
+use Rattle.tablelines.specs.declared.faults.Fault.TheVariants.{ManyWords}
+use Rattle.tablelines.specs.declared.Item.{Item as Taken}
+use Rattle.tablelines.specs.declared.Item.TheVariants.{Nothing as nothing, Layout as layout, Header as header, Scope as scope, Row as row}
 use Rattle.tablelines.specs.declared.Line.{Line}
+
+-- a line's item, or the number of its fault
+pub data Item : Type 0 where
+  Nothing : Item
+  Layout : (byte : ℕ) → Item
+  Header : (code : ℕ) → Item
+  Scope : (kind code : ℕ) → Item
+  Row : (id target kind : ℕ) → Item
+  Bad : (error : ℕ) → Item
 
 -- ---- the item of a line's words
 -- why a line of one number can't be taken, 0 where it can: it has a third word, or the second isn't a number up to `most`
@@ -67,31 +76,35 @@ unfoldable pub items_of : List ℕ → List Item
 items_of s = map item_of (lines_of s)
 
 -- ---- what the code hands on
--- the bytes from one place up to another
-abbrev pub between : List ℕ → ℕ → ℕ → List ℕ
-between s from to = part s from (to - from)
+-- what it says of a line
+abbrev pub said : Result Taken Fault → Item
+said (Ok nothing) = Nothing
+said (Ok (layout byte)) = Layout byte
+said (Ok (header code)) = Header code
+said (Ok (scope kind code)) = Scope kind code
+said (Ok (row id target kind)) = Row id target kind
+said (Err fault) = Bad (number_lem fault)
 
--- the number of a hex digit
-pub record Digit (b r : ℕ) : Type 0 where
-  pub is : r ≡ digit_of b
-  pub small : r ≤ 16
+-- a number, where it isn't the one that stands for none
+abbrev pub below : ℕ → ℕ → Option ℕ
+below most n = cond (ltb n most) (Some n) None
 
--- a place from `at` on: what a search finds
-pub record Until (search : ℕ) (s : List ℕ) (at r : ℕ) : Type 0 where
-  pub from : at ≤ r
-  pub to : r ≤ length s
-  pub front : before search (drop at s) ≡ between s at r
-  pub back : onward search (drop at s) ≡ drop r s
+-- a number that stands alone in its line
+abbrev pub or_fault : {A : Type 0} → Option A → Fault → Result A Fault
+or_fault (Some n) fault = Ok n
+or_fault None fault = Err fault
 
--- the first word from a place on, and the place after it
-pub record WordAt (s : List ℕ) (at : ℕ) (r : Word) : Type 0 where
-  pub order : r.from ≤ r.to
-  pub inside : r.to ≤ length s
-  pub is : word (drop at s) ≡ between s r.from r.to
-  pub rest : after_word (drop at s) ≡ drop r.to s
+abbrev pub lone : {A : Type 0} → Option A → List ℕ → Fault → Result A Fault
+lone number third digits = cond (eqb (length third) 0) (or_fault number digits) (Err ManyWords)
+
+-- the bytes in front of the first one that passes the test, and those from it on
+pub record Cut (Test : ℕ → Bool → Type 0) (s front back : List ℕ) : Type 0 where
+  pub joined : s ≡ front ++ back
+  pub passed : (k : ℕ) → k < length front → Test (get_or front k 0) false
+  pub stopped : 0 < length back → Test (get_or back 0 0) true
 
 -- the line at a place, and the place of the next one
 pub record LineAt (s : List ℕ) (at : ℕ) (r : Line) : Type 0 where
-  pub is : items_of (drop at s) ≡ r.item ∷ items_of (drop r.next s)
+  pub is : items_of (drop at s) ≡ said r.item ∷ items_of (drop r.next s)
   pub on : at < r.next
   pub within : r.next ≤ length s + 1

@@ -13,7 +13,7 @@ use Rattle.tabletext.proofs.Told.{told}
 use Rattle.tablemaking.specs.Judged.{judged}
 use Rattle.tablelines.specs.Faults.{long_text}
 use Rattle.tablemaking.specs.Made.{table_said, longest_text, MadeExit, MadeAs, make_exit}
-use Rattle.tablemaking.specs.declared.Made.{Made}
+use Rattle.tablemaking.specs.Made.{Made}
 use Rattle.tablemaking.proofs.Formed.{said-short}
 use Rattle.tablemaking.proofs.Making.{too_long, bad_line, with-room}
 use Rattle.tablewhy.specs.Why.{size_text, why_text}

@@ -31,14 +31,15 @@ fn print_refusal(rt: &HostRuntime, text: &[u8], room: usize, line: &[u8])
 fn make(rt: &HostRuntime, text: &[u8], room: usize, out: &mut [u8], line: &mut [u8])
     requires { MakeReady out.old line.old room }
 {
-    let made = tablemaking::make_table(text, out);
-    let size = made.size;
-    if made.error == 0 {
-        let end = tablewhy::size_line(size as u32, line);
-        print_table(rt, text, room, &line[..end], &out[..size]);
-    } else {
-        let end = tablewhy::why_line(made.error, made.line, line);
-        print_refusal(rt, text, room, &line[..end]);
+    match tablemaking::make_table(text, out) {
+        Ok(size) => {
+            let end = tablewhy::size_line(size as u32, line);
+            print_table(rt, text, room, &line[..end], &out[..size]);
+        }
+        Err(refusal) => {
+            let end = tablewhy::why_line(refusal.fault.number(), refusal.line, line);
+            print_refusal(rt, text, room, &line[..end]);
+        }
     }
 }
 

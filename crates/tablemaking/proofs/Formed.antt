@@ -17,12 +17,14 @@ use Rattle.tablelines.specs.Faults.{unknown_word, two_digits_lem, four_digits, m
 use Rattle.tablelines.specs.Words.{before, sign, word, after_word, lines_of, two_of, four_of, row_kind_of}
 use Rattle.tablelines.specs.Items.{number_fault, unless, layout_item, header_item, plain_scope_item, entry_item, row_item, item_by, item_in, item_of, items_of}
 use Rattle.tablelines.proofs.ItemLaws.{number_fits}
-use Rattle.tablelines.specs.declared.Item.{Item}
-use Rattle.tablelines.specs.declared.Item.TheVariants.{Nothing, Layout, Header, Scope as ScopeLine, Row, Bad}
-use Rattle.tablemaking.specs.Judged.{unnamed, nothing_seen, with_layout, with_header, with_scope, with_row, after, header_fault, scope_fault, row_fault, below_layout, fault_of, broken, kept, judge_end, judge_from, judged}
+use Rattle.tablelines.specs.Items.{Item}
+use Rattle.tablelines.specs.Items.{Nothing, Layout, Header, Scope as ScopeLine, Row, Bad}
+use Rattle.tablemaking.specs.Judged.{on_layout, nothing_seen, with_layout, with_header, with_scope, with_row, after, header_fault, scope_fault, row_fault, below_layout, fault_of, broken, kept, judge_end, judge_from, judged}
+use Rattle.std.proofs.Common.{Option, Some, None}
+use Rattle.std.proofs.lemmas.Option.{none-some}
 use Rattle.tablemaking.specs.Made.{by_part_lem, headers_of, rows_of, scopes_of, table_said}
 use Rattle.tablemaking.specs.declared.Seen.{Seen}
-use Rattle.tablemaking.specs.declared.Judged.{Judged}
+use Rattle.tablemaking.specs.Judged.{Judged}
 
 -- ---- the numbers of a line are small
 unfoldable pub small : Item → Bool
@@ -119,7 +121,11 @@ passed false error fault n e = (refl, e)
 
 below_kept : (seen : Seen) (fault : ℕ) → below_layout seen fault ≡ 0 → fault ≡ 0
 unfolding below_layout
-below_kept seen fault e = (passed (eqb seen.layout unnamed) layout_first fault (λ z. omega arith) e).1
+below_kept seen fault = go seen.layout
+  where
+    go : (o : Option ℕ) → on_layout o layout_first (λ byte. fault) ≡ 0 → fault ≡ 0
+    go None e = absurd (omega arith)
+    go (Some byte) e = e
 
 record HeaderKept (seen : Seen) (code : ℕ) : Type 0 where
   no-scope : seen.scopes ≡ 0
@@ -191,22 +197,22 @@ pub record Kept (seen : Seen) (hs : List ℕ) (rs : List Tie) (ss : List Scope) 
   pub headers : HeadersKept seen.headers seen.least_header hs j.headers
   pub scopes : ScopesKept seen.scopes seen.least_key ss j.scopes
   pub rows : RowsKept seen.scopes seen.rows seen.least_id rs ss j.rows
-  pub layout : seen.layout ≤ 256 → j.layout < 256
+  pub layout : ((byte : ℕ) → seen.layout ≡ Some byte → byte < 256) → j.layout < 256
 
 abbrev pub KeptLines : Seen → List Item → Judged → Type 0
 KeptLines seen items j = Kept seen (headers_of items) (rows_of items) (scopes_of items) j
 
 kept-end : (seen : Seen) (lines : ℕ) → (judge_end seen lines).error ≡ 0 → KeptLines seen [] (judge_end seen lines)
 unfolding judge_end headers_of rows_of scopes_of row_count_lem ascends all
-kept-end seen lines = go (eqb seen.layout unnamed) refl
+kept-end seen lines = go seen.layout refl
   where
-    go : (b : Bool) → eqb seen.layout unnamed ≡ b → (cond b (broken no_layout (lines + 1)) (kept seen)).error ≡ 0 → KeptLines seen [] (cond b (broken no_layout (lines + 1)) (kept seen))
-    go true q e = absurd (omega arith)
-    go false q e = record {
+    go : (o : Option ℕ) → seen.layout ≡ o → (on_layout o (broken no_layout (lines + 1)) (kept seen)).error ≡ 0 → KeptLines seen [] (on_layout o (broken no_layout (lines + 1)) (kept seen))
+    go None q e = absurd (omega arith)
+    go (Some byte) q e = record {
       headers = record { counted = omega arith; few = λ h. h; ascend = refl; fit = refl };
       scopes = record { counted = omega arith; few = λ h. h; ascend = refl; ok = refl; fit = refl };
       rows = record { counted = omega arith; none = λ z. refl; ascend = refl; ok = refl };
-      layout = λ h. let n = eqb-false seen.layout unnamed q in omega arith;
+      layout = λ h. h byte q;
     }
 
 module _ (seen : Seen) (items : List Item) (j : Judged) where
@@ -270,7 +276,7 @@ module _ (seen : Seen) (items : List Item) (j : Judged) where
     headers = K.headers;
     scopes = K.scopes;
     rows = K.rows;
-    layout = λ h. K.layout (let l = ltb-true byte 256 s in omega arith);
+    layout = λ h. K.layout (λ b q. let l = ltb-true byte 256 s in let e : byte ≡ b = cc in omega arith);
   }
 
 -- one line more, of which no rule is broken
@@ -322,7 +328,7 @@ module _ (s : List ℕ) (e : (judged s).error ≡ 0) where
       let a = K.headers.counted in
       let b = K.scopes.counted in
       let c = K.rows.counted in
-      record { headers = omega arith; scopes = omega arith; rows = omega arith; layout = K.layout (omega arith) }
+      record { headers = omega arith; scopes = omega arith; rows = omega arith; layout = K.layout (λ b q. absurd (none-some b q)) }
 
   -- no row stands above the first scope
   pub no-rows-above : length (rows_of (items_of s)) ≡ 0

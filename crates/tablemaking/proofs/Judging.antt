@@ -1,17 +1,23 @@
 -- Judging, one test and one line at a time.
 use Prim.Native.Nat.{ℕ, ◌+◌, ◌≤◌, ◌<◌}
 use native.Mathlib.Omega.{arith}
-use mathlib.Core.Path.{◌≡◌, ap}
+use mathlib.Core.Path.{◌≡◌, refl, ap}
+use mathlib.Core.Bool.{Bool, true, false, cond}
 use mathlib.Core.List.{List, []}
 use borrow.Author.Tests.{lt-ltb, le-ltb, eq-eqb, ne_eqb}
 use lib.ListN.{length, drop, drop_of_length-le}
 use Rattle.tablelines.specs.Faults.{no_layout, layout_first, layout_twice, header_late, header_order, many_headers, scope_order, many_scopes, row_early, id_order, id_high, target_high}
+use Rattle.std.proofs.Common.{Option, Some, None}
+use Rattle.std.specs.Option.{is_some}
+use Rattle.tablelines.specs.Faults.{number_lem}
+use Rattle.tablelines.specs.declared.faults.Fault.{Fault}
+use Rattle.tablelines.specs.declared.faults.Fault.TheVariants.{NoLayout, LayoutFirst, LayoutTwice, UnknownWord, TwoDigits, FourDigits, ManyWords, UnknownKind, HeaderLate, HeaderOrder, ManyHeaders, ScopeOrder, ManyScopes, RowEarly, IdOrder, IdHigh, TargetHigh, LongText, NoRoom}
 use Rattle.tablelines.specs.Words.{lines_of}
-use Rattle.tablelines.specs.Items.{items_of, LineAt}
-use Rattle.tablelines.specs.declared.Item.{Item}
-use Rattle.tablelines.specs.declared.Item.TheVariants.{Nothing, Layout, Header, Scope, Row, Bad}
+use Rattle.tablelines.specs.Items.{items_of, said, LineAt}
+use Rattle.tablelines.specs.Items.{Item}
+use Rattle.tablelines.specs.Items.{Nothing, Layout, Header, Scope, Row, Bad}
 use Rattle.tablelines.specs.declared.Line.{Line}
-use Rattle.tablemaking.specs.Judged.{nothing_seen, Few, after, header_fault, scope_fault, row_fault, below_layout, layout_fault, fault_of, unnamed, broken, kept, judge_end, judge_from}
+use Rattle.tablemaking.specs.Judged.{after, header_fault, scope_fault, row_fault, below_layout, layout_fault, fault_of, on_layout, broken, kept, judge_end, judge_from}
 use Rattle.tablemaking.specs.declared.Seen.{Seen}
 
 -- ---- a header code
@@ -75,47 +81,74 @@ module _ (seen : Seen) (id target : ℕ) where
         row_kept k = rw (ne_eqb seen.scopes 0 n, le-ltb 0xFC id h, le-ltb id seen.least_id g, le-ltb 0x7FFF target k)
 
 -- ---- the layout
+unnamed_by : (o : Option ℕ) → is_some o ≡ false → o ≡ None
+unnamed_by None e = refl
+unnamed_by (Some byte) e = let z : ◌≡◌ {A = ℕ} 1 0 = ap (λ (b : Bool). cond b 1 0) e in absurd (omega arith)
+
+module _ {A : Type 0} (x : A) (f : ℕ → A) where
+  on_none : (o : Option ℕ) → is_some o ≡ false → on_layout o x f ≡ x
+  on_none o e = ap (λ (o : Option ℕ). on_layout o x f) (unnamed_by o e)
+
+on_some : {A : Type 0} (x y : A) (o : Option ℕ) → is_some o ≡ true → on_layout o x (λ byte. y) ≡ y
+on_some x y None e = let z : ◌≡◌ {A = ℕ} 0 1 = ap (λ (b : Bool). cond b 1 0) e in absurd (omega arith)
+on_some x y (Some byte) e = refl
+
 module _ (seen : Seen) where
-  pub not_named : (fault : ℕ) → seen.layout ≡ unnamed → below_layout seen fault ≡ layout_first
+  pub not_named : (fault : ℕ) → is_some seen.layout ≡ false → below_layout seen fault ≡ layout_first
   unfolding below_layout
-  not_named fault e = rw (eq-eqb seen.layout unnamed e)
+  not_named fault e = on_none _ _ seen.layout e
 
-  pub is-named : (fault : ℕ) → (seen.layout ≡ unnamed → ⊥) → below_layout seen fault ≡ fault
+  pub is-named : (fault : ℕ) → is_some seen.layout ≡ true → below_layout seen fault ≡ fault
   unfolding below_layout
-  is-named fault n = rw (ne_eqb seen.layout unnamed n)
+  is-named fault e = on_some _ _ seen.layout e
 
-  pub first-layout : seen.layout ≡ unnamed → layout_fault seen ≡ 0
+  pub first-layout : is_some seen.layout ≡ false → layout_fault seen ≡ 0
   unfolding layout_fault
-  first-layout e = rw (eq-eqb seen.layout unnamed e)
+  first-layout e = on_none _ _ seen.layout e
 
-  pub second-layout : (seen.layout ≡ unnamed → ⊥) → layout_fault seen ≡ layout_twice
+  pub second-layout : is_some seen.layout ≡ true → layout_fault seen ≡ layout_twice
   unfolding layout_fault
-  second-layout n = rw (ne_eqb seen.layout unnamed n)
+  second-layout e = on_some _ _ seen.layout e
 
-  pub no-layout : (lines : ℕ) → seen.layout ≡ unnamed → judge_end seen lines ≡ broken no_layout (lines + 1)
+  pub no-layout : (lines : ℕ) → seen.layout ≡ None → judge_end seen lines ≡ broken no_layout (lines + 1)
   unfolding judge_end
-  no-layout lines e = rw (eq-eqb seen.layout unnamed e)
+  no-layout lines e = rw e
 
-  pub all-kept : (lines : ℕ) → (seen.layout ≡ unnamed → ⊥) → judge_end seen lines ≡ kept seen
+  pub all-kept : (lines : ℕ) {byte : ℕ} → seen.layout ≡ Some byte → judge_end seen lines ≡ kept seen byte
   unfolding judge_end
-  all-kept lines n = rw (ne_eqb seen.layout unnamed n)
+  all-kept lines e = rw e
 
--- ---- counts stay below those of the lines
-pub few-none : (seen : Seen) → seen ≡ nothing_seen → Few seen 0
-few-none seen e =
-    let a : seen.headers ≡ 0 = ap (λ (x : Seen). x.headers) e in
-    let b : seen.scopes ≡ 0 = ap (λ (x : Seen). x.scopes) e in
-    let d : seen.rows ≡ 0 = ap (λ (x : Seen). x.rows) e in
-    omega arith
-
-pub few-after : (seen : Seen) (lines : ℕ) (item : Item) → Few seen lines → Few (after seen item) (lines + 1)
+-- ---- the rows are no more than the lines
+pub rows-after : (seen : Seen) (item : Item) → (after seen item).rows ≤ seen.rows + 1
 unfolding after
-few-after seen lines Nothing f = omega arith
-few-after seen lines (Layout byte) f = omega arith
-few-after seen lines (Header code) f = omega arith
-few-after seen lines (Scope kind code) f = omega arith
-few-after seen lines (Row id target kind) f = omega arith
-few-after seen lines (Bad error) f = omega arith
+rows-after seen Nothing = omega arith
+rows-after seen (Layout byte) = omega arith
+rows-after seen (Header code) = omega arith
+rows-after seen (Scope kind code) = omega arith
+rows-after seen (Row id target kind) = omega arith
+rows-after seen (Bad error) = omega arith
+
+-- ---- a fault has a number
+pub numbered : (fault : Fault) → number_lem fault ≡ 0 → ⊥
+numbered NoLayout e = omega arith
+numbered LayoutFirst e = omega arith
+numbered LayoutTwice e = omega arith
+numbered UnknownWord e = omega arith
+numbered TwoDigits e = omega arith
+numbered FourDigits e = omega arith
+numbered ManyWords e = omega arith
+numbered UnknownKind e = omega arith
+numbered HeaderLate e = omega arith
+numbered HeaderOrder e = omega arith
+numbered ManyHeaders e = omega arith
+numbered ScopeOrder e = omega arith
+numbered ManyScopes e = omega arith
+numbered RowEarly e = omega arith
+numbered IdOrder e = omega arith
+numbered IdHigh e = omega arith
+numbered TargetHigh e = omega arith
+numbered LongText e = omega arith
+numbered NoRoom e = omega arith
 
 -- ---- a line
 pub no_items : (s : List ℕ) (at : ℕ) → length s ≤ at → items_of (drop at s) ≡ []
@@ -126,11 +159,11 @@ pub judge_done : (s : List ℕ) (at : ℕ) (seen : Seen) (lines : ℕ) → lengt
 unfolding judge_from
 judge_done s at seen lines h = rw (no_items s at h)
 
-module _ {s : List ℕ} {at : ℕ} {line : Line} (seen : Seen) (lines : ℕ) (l : LineAt s at line) {fault : ℕ} (f : fault ≡ fault_of seen line.item) where
+module _ {s : List ℕ} {at : ℕ} {line : Line} (seen : Seen) (lines : ℕ) (l : LineAt s at line) {fault : ℕ} (f : fault ≡ fault_of seen (said line.item)) where
   pub fault_found : (fault ≡ 0 → ⊥) → judge_from seen lines (items_of (drop at s)) ≡ broken fault (lines + 1)
   unfolding judge_from
   fault_found n = rw (l.is, ← f, ne_eqb fault 0 n)
 
-  pub no_fault : fault ≡ 0 → judge_from seen lines (items_of (drop at s)) ≡ judge_from (after seen line.item) (lines + 1) (items_of (drop line.next s))
+  pub no_fault : fault ≡ 0 → judge_from seen lines (items_of (drop at s)) ≡ judge_from (after seen (said line.item)) (lines + 1) (items_of (drop line.next s))
   unfolding judge_from
   no_fault e = rw (l.is, ← f, eq-eqb fault 0 e)

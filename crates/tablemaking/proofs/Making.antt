@@ -7,6 +7,10 @@ use mathlib.Core.Bool.{true, false}
 use mathlib.Core.List.{List, [], ◌∷◌, ◌++◌}
 use borrow.Author.Tests.{lt-ltb, le-ltb, eq-eqb, ne_eqb}
 use lib.ListN.{length, drop}
+use Rattle.std.proofs.Common.{Result, Err}
+use Rattle.std.specs.Result.{IsErrAnd}
+use Rattle.std.proofs.lemmas.Result.{err_from_is_err_and}
+use Rattle.tablemaking.specs.declared.Refusal.{Refusal}
 use Rattle.rules.specs.Bytes.{two_bytes_lem}
 use Rattle.text.specs.Writer.{Wrote}
 use Rattle.text.proofs.Written.{all}
@@ -14,14 +18,17 @@ use Rattle.tablelines.specs.Faults.{long_text, no_room_lem}
 use Rattle.tablelines.specs.Items.{items_of}
 use Rattle.tablemaking.specs.Judged.{judged}
 use Rattle.tablemaking.specs.Made.{headers_of, scopes_of, parts_said, scopes_said, table_said, FewRows, longest_text, TakenAs, MadeExit, MadeAs, refused, written, make_exit}
-use Rattle.tablemaking.specs.declared.Judged.{Judged}
-use Rattle.tablemaking.specs.declared.Made.{Made}
+use Rattle.tablemaking.specs.Judged.{Judged}
+use Rattle.tablemaking.specs.Made.{Made}
 use Rattle.tablemaking.proofs.Parts.{parts_are}
 use Rattle.tablemaking.proofs.Formed.{counts, no-rows-above, few-headers, few-scopes, said_fits, said-length}
 
 -- ---- exits
 pub exits : {e x : MadeExit} {r : Made} {n : List ℕ} → e ≡ x → r ≡ x.made → n ≡ x.out → MadeAs e r n
 exits e a b = record { made = a ∙ sym (ap (λ (x : MadeExit). x.made) e); out = b ∙ sym (ap (λ (x : MadeExit). x.out) e) }
+
+pub raised_line : {A : Type 0} (r : Result A Refusal) (refusal : Refusal) → IsErrAnd r (λ e. e ≡ refusal) → r ≡ Err refusal
+raised_line r refusal h = let p = err_from_is_err_and r h in p.1 ∙ ap Err p.2
 
 pub too_long : (s out : List ℕ) → longest_text < length s → make_exit s out ≡ refused long_text 0 out
 unfolding make_exit

@@ -6,8 +6,6 @@ use mathlib.Core.Bool.{Bool, true, false, cond}
 use mathlib.Core.List.Memᴰ
 use mathlib.Core.List.{List, [], ◌∷◌, ◌++◌, append_assoc}
 use lib.ListN.{length, drop}
-use types.Run.{OneOf, miss}
-use denote.Enum.Declared.{tag_of}
 use Rattle.rules.specs.Lists.{concat}
 use Rattle.rules.specs.CodeTable.{Tie}
 use Rattle.rules.specs.Bytes.{two_bytes_lem}
@@ -15,43 +13,47 @@ use Rattle.rules.specs.Join.{tie_bytes, ties_bytes, scope_bytes, table_bytes}
 use Rattle.joinlaws.proofs.TableBytesLaws.{codes_bytes, contents_bytes, bodies_bytes}
 use Rattle.text.specs.Writer.{Wrote}
 use Rattle.text.proofs.Remains.{Remains, all_remains, on, done}
-use Rattle.tablelines.specs.Items.{items_of, LineAt}
-use Rattle.tablelines.specs.contracts.Item.{the_type}
-use Rattle.tablelines.specs.declared.Item.{Item}
-use Rattle.tablelines.specs.declared.Item.TheVariants.{Nothing, Layout, Header, Scope, Row, Bad}
+use Rattle.std.proofs.Common.{Ok}
+use Rattle.tablelines.specs.Items.{items_of, said, LineAt}
+use Rattle.tablelines.specs.declared.Item.{Item as Taken}
+use Rattle.tablelines.specs.declared.Item.TheVariants.{Nothing as no_part, Layout as a_layout, Header as a_header, Scope as a_scope, Row as a_row}
+use Rattle.tablelines.specs.Items.{Item}
+use Rattle.tablelines.specs.Items.{Nothing, Layout, Header, Scope, Row, Bad}
 use Rattle.tablelines.specs.declared.Line.{Line}
 use Rattle.tablemaking.specs.Judged.{judged}
 use Rattle.tablemaking.proofs.Judging.{no_items}
 use Rattle.tablemaking.specs.Made.{by_part_lem, on_header, on_scope, on_row, tie, headers_of, rows_of, scopes_of, code_bytes, row_bytes, is_scope, rows_in_lem, scope_said, part_bytes_lem, parts_said, scopes_said, table_said, FewRows}
 
--- ---- a line that says another part, by its variant's number
+-- ---- a line that says another part
 module _ {A : Type 0} (none : A) where
-  pub no_header : (f : ℕ → A) (item : Item) → OneOf (0 ∷ 1 ∷ 3 ∷ 4 ∷ 5 ∷ []) (tag_of the_type item) → on_header none f item ≡ none
+  pub no_header : (f : ℕ → A) (item : Taken) → ((code : ℕ) → item ≡ a_header code → ⊥) → on_header none f (said (Ok item)) ≡ none
   unfolding by_part_lem
-  no_header f Nothing k = refl
-  no_header f (Layout byte) k = refl
-  no_header f (Header code) k = absurd (miss (0 ∷ 1 ∷ 3 ∷ 4 ∷ 5 ∷ []) 2 tt k)
-  no_header f (Scope kind code) k = refl
-  no_header f (Row id target kind) k = refl
-  no_header f (Bad error) k = refl
+  no_header f no_part n = refl
+  no_header f (a_layout byte) n = refl
+  no_header f (a_header code) n = absurd (n code refl)
+  no_header f (a_scope kind code) n = refl
+  no_header f (a_row id target kind) n = refl
 
-  pub no-scope : (f : ℕ → ℕ → A) (item : Item) → OneOf (0 ∷ 1 ∷ 2 ∷ 4 ∷ 5 ∷ []) (tag_of the_type item) → on_scope none f item ≡ none
+  pub no-scope : (f : ℕ → ℕ → A) (item : Taken) → ((kind code : ℕ) → item ≡ a_scope kind code → ⊥) → on_scope none f (said (Ok item)) ≡ none
   unfolding by_part_lem
-  no-scope f Nothing k = refl
-  no-scope f (Layout byte) k = refl
-  no-scope f (Header code) k = refl
-  no-scope f (Scope kind code) k = absurd (miss (0 ∷ 1 ∷ 2 ∷ 4 ∷ 5 ∷ []) 3 tt k)
-  no-scope f (Row id target kind) k = refl
-  no-scope f (Bad error) k = refl
+  no-scope f no_part n = refl
+  no-scope f (a_layout byte) n = refl
+  no-scope f (a_header code) n = refl
+  no-scope f (a_scope kind code) n = absurd (n kind code refl)
+  no-scope f (a_row id target kind) n = refl
 
-  pub no_row : (f : ℕ → ℕ → ℕ → A) (item : Item) → OneOf (0 ∷ 1 ∷ 2 ∷ 3 ∷ 5 ∷ []) (tag_of the_type item) → on_row none f item ≡ none
+  pub no_row : (f : ℕ → ℕ → ℕ → A) (item : Taken) → ((id target kind : ℕ) → item ≡ a_row id target kind → ⊥) → on_row none f (said (Ok item)) ≡ none
   unfolding by_part_lem
-  no_row f Nothing k = refl
-  no_row f (Layout byte) k = refl
-  no_row f (Header code) k = refl
-  no_row f (Scope kind code) k = refl
-  no_row f (Row id target kind) k = absurd (miss (0 ∷ 1 ∷ 2 ∷ 3 ∷ 5 ∷ []) 4 tt k)
-  no_row f (Bad error) k = refl
+  no_row f no_part n = refl
+  no_row f (a_layout byte) n = refl
+  no_row f (a_header code) n = refl
+  no_row f (a_scope kind code) n = refl
+  no_row f (a_row id target kind) n = absurd (n id target kind refl)
+
+pub no_part-said : (bodies : Bool) (error : ℕ) → part_bytes_lem bodies (Bad error) ≡ []
+unfolding by_part_lem part_bytes_lem row_bytes code_bytes
+no_part-said true error = refl
+no_part-said false error = refl
 
 -- ---- a line more
 module _ (item : Item) (items : List Item) where
@@ -72,20 +74,20 @@ unfolding scopes_said
 no-scopes = refl
 
 -- ---- what is said of each line, written line by line
-pub record Left (said : List Item → List ℕ) (s old : List ℕ) (at : ℕ) (now : List ℕ) (p place : ℕ) : Type 0 where
-  pub rest : Remains old at (said (items_of s)) now p (said (items_of (drop place s)))
+pub record Left (part : List Item → List ℕ) (s old : List ℕ) (at : ℕ) (now : List ℕ) (p place : ℕ) : Type 0 where
+  pub rest : Remains old at (part (items_of s)) now p (part (items_of (drop place s)))
   pub within : place ≤ length s + 1
 
-pub all_left : {said : List Item → List ℕ} {s old : List ℕ} {at : ℕ} → Left said s old at old at 0
+pub all_left : {part : List Item → List ℕ} {s old : List ℕ} {at : ℕ} → Left part s old at old at 0
 all_left = record { rest = all_remains; within = omega arith }
 
-module _ {said : List Item → List ℕ} {s old now : List ℕ} {at p place : ℕ} (L : Left said s old at now p place) where
-  pub line-put : {line : Line} {x later : List ℕ} {next : ℕ} → LineAt s place line → said (line.item ∷ items_of (drop line.next s)) ≡ x ++ said (items_of (drop line.next s))
-      → Wrote now p x later next → Left said s old at later next line.next
-  line-put l e w = record { rest = on L.rest (ap said l.is ∙ e) w; within = l.within }
+module _ {part : List Item → List ℕ} {s old now : List ℕ} {at p place : ℕ} (L : Left part s old at now p place) where
+  pub line-put : {line : Line} {x later : List ℕ} {next : ℕ} → LineAt s place line → part (said line.item ∷ items_of (drop line.next s)) ≡ x ++ part (items_of (drop line.next s))
+      → Wrote now p x later next → Left part s old at later next line.next
+  line-put l e w = record { rest = on L.rest (ap part l.is ∙ e) w; within = l.within }
 
-  pub no-line-left : length s ≤ place → said [] ≡ [] → Wrote old at (said (items_of s)) now p
-  no-line-left h e = done L.rest (ap said (no_items s place h) ∙ e)
+  pub no-line-left : length s ≤ place → part [] ≡ [] → Wrote old at (part (items_of s)) now p
+  no-line-left h e = done L.rest (ap part (no_items s place h) ∙ e)
 
 -- ---- rows above the next scope
 not_both : {A : Type 0} → false ≡ true → A

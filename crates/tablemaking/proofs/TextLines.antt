@@ -18,10 +18,10 @@ use Rattle.rules.specs.CodeTable.{Tie}
 use Rattle.rules.proofs.ListLaws.{and_l, and_r, all_there, found-there}
 use Rattle.tabletext.specs.Text.{remark, kind_word, kind_mark, row_line, scope_name, type_remark, scope_line, header_line}
 use Rattle.tablelines.specs.Words.{onto, lines_of, line_end, sign, letter, blank, is_blank, stops, before, onward, word, after_word, digit_of, byte_of, two_of, four_of, row_kind_of}
-use Rattle.tablelines.proofs.WordLaws.{other_length, a_byte, a_code}
-use Rattle.tablelines.specs.Items.{Digit, item_of, item_in, item_by, items_of, number_fault, unless, layout_item, header_item, plain_scope_item, entry_item, row_item}
-use Rattle.tablelines.specs.declared.Item.{Item}
-use Rattle.tablelines.specs.declared.Item.TheVariants.{Nothing, Layout, Header, Scope as ScopeLine, Row}
+use Rattle.tablelines.proofs.WordLaws.{Digit, other_length, a_byte, a_code}
+use Rattle.tablelines.specs.Items.{item_of, item_in, item_by, items_of, number_fault, unless, layout_item, header_item, plain_scope_item, entry_item, row_item}
+use Rattle.tablelines.specs.Items.{Item}
+use Rattle.tablelines.specs.Items.{Nothing, Layout, Header, Scope as ScopeLine, Row}
 
 -- ---- what a search skips
 abbrev pub passes : ℕ → List ℕ → Bool

@@ -20,13 +20,14 @@ use Rattle.tabletext.proofs.Longest.{longest-table}
 use Rattle.tablelines.specs.Faults.{long_text, no_room_lem}
 use Rattle.tablelines.specs.Words.{lines_of}
 use Rattle.tablelines.specs.Items.{items_of}
-use Rattle.tablelines.specs.declared.Item.{Item}
-use Rattle.tablelines.specs.declared.Item.TheVariants.{Nothing, Layout, Header, Scope as ScopeLine, Row}
-use Rattle.tablemaking.specs.Judged.{unnamed, nothing_seen, with_layout, with_header, with_scope, with_row, after, header_fault, scope_fault, row_fault, below_layout, layout_fault, fault_of, judge_end, judge_from, judged}
+use Rattle.tablelines.specs.Items.{Item}
+use Rattle.tablelines.specs.Items.{Nothing, Layout, Header, Scope as ScopeLine, Row}
+use Rattle.std.proofs.Common.{Some}
+use Rattle.tablemaking.specs.Judged.{nothing_seen, with_layout, with_header, with_scope, with_row, after, header_fault, scope_fault, row_fault, below_layout, layout_fault, fault_of, judge_end, judge_from, judged}
 use Rattle.tablemaking.specs.Made.{by_part_lem, headers_of, rows_of, scopes_of, table_said, longest_text, MadeExit, refused, written, make_exit}
 use Rattle.tablemaking.specs.Undone.{Taken, TableBack, MadeOf, Undone}
 use Rattle.tablemaking.specs.declared.Seen.{Seen}
-use Rattle.tablemaking.specs.declared.Judged.{Judged}
+use Rattle.tablemaking.specs.Judged.{Judged}
 use Rattle.tablemaking.proofs.Formed.{said-formed, said-short}
 use Rattle.tablemaking.proofs.SaidBytes.{said-bytes}
 use Rattle.tablemaking.proofs.TextLines.{layout-said, header-said, row-said, scope-said}
@@ -140,24 +141,24 @@ keeps_line x seen lines item items e k = rw (eq-eqb (fault_of seen item) 0 e) k
 
 -- the layout is named, n scopes stand above, and the next one's key is k at least
 record Amid (x n k : ℕ) (seen : Seen) : Type 0 where
-  layout : seen.layout ≡ x
+  layout : seen.layout ≡ Some x
   scopes : seen.scopes ≡ n
   least : seen.least_key ≡ k
 
 module _ (x : ℕ) (named : x < 256) where
-  below : (seen : Seen) (fault : ℕ) → seen.layout ≡ x → fault ≡ 0 → below_layout seen fault ≡ 0
+  below : (seen : Seen) (fault : ℕ) → seen.layout ≡ Some x → fault ≡ 0 → below_layout seen fault ≡ 0
   unfolding below_layout
-  below seen fault l e = rw (ne_eqb seen.layout unnamed (λ z. omega arith)) e
+  below seen fault l e = rw l e
 
-  header-kept : (seen : Seen) (c : ℕ) → seen.layout ≡ x → seen.scopes ≡ 0 → seen.least_header ≤ c → seen.headers ≤ 3 → fault_of seen (Header c) ≡ 0
+  header-kept : (seen : Seen) (c : ℕ) → seen.layout ≡ Some x → seen.scopes ≡ 0 → seen.least_header ≤ c → seen.headers ≤ 3 → fault_of seen (Header c) ≡ 0
   unfolding fault_of header_fault
   header-kept seen c l n h f = below seen (header_fault seen c) l (rw (le-ltb 0 seen.scopes (omega arith), le-ltb c seen.least_header h, le-ltb 3 seen.headers f))
 
-  scope_kept : (seen : Seen) (kind code : ℕ) → seen.layout ≡ x → seen.least_key ≤ key_of kind code → seen.scopes ≤ 63 → fault_of seen (ScopeLine kind code) ≡ 0
+  scope_kept : (seen : Seen) (kind code : ℕ) → seen.layout ≡ Some x → seen.least_key ≤ key_of kind code → seen.scopes ≤ 63 → fault_of seen (ScopeLine kind code) ≡ 0
   unfolding fault_of scope_fault
   scope_kept seen kind code l h f = below seen (scope_fault seen (key_of kind code)) l (rw (le-ltb (key_of kind code) seen.least_key h, le-ltb 63 seen.scopes f))
 
-  row_kept : (seen : Seen) (r : Tie) → seen.layout ≡ x → 0 < seen.scopes → seen.least_id ≤ r.id → RowOk r → fault_of seen (row_item r) ≡ 0
+  row_kept : (seen : Seen) (r : Tie) → seen.layout ≡ Some x → 0 < seen.scopes → seen.least_id ≤ r.id → RowOk r → fault_of seen (row_item r) ≡ 0
   unfolding fault_of row_fault
   row_kept seen r l n h o =
       let t : r.target ≤ 0x7FFF = let a = o.low-target in omega arith in
@@ -175,9 +176,9 @@ module _ (x : ℕ) (named : x < 256) where
       (keeps_rows n k rs items (with_row seen r.id) (lines + 1) p (record { layout = A.layout; scopes = A.scopes; least = A.least })
       (and_r (leb seen.least_id r.id) (ascends (r.id + 1) (map id_of rs)) a) (and_r (tie_ok r) (all tie_ok rs) o) K)
 
-  keeps_end : (seen : Seen) (lines : ℕ) → seen.layout ≡ x → Keeps x (judge_from seen lines [])
+  keeps_end : (seen : Seen) (lines : ℕ) → seen.layout ≡ Some x → Keeps x (judge_from seen lines [])
   unfolding judge_from judge_end
-  keeps_end seen lines l = rw (ne_eqb seen.layout unnamed (λ z. omega arith)) (record { none = refl; layout = l })
+  keeps_end seen lines l = rw l (record { none = refl; layout = refl })
 
   keeps_scopes : (n k : ℕ) (ss : List Scope) (seen : Seen) (lines : ℕ) → Amid x n k seen → n + length ss ≤ 64 → ascends k (map key ss) ≡ true → all scope_ok ss ≡ true
       → Keeps x (judge_from seen lines (scope_items ss))

@@ -1,17 +1,14 @@
 -- The code table that a text says, and what a caller has when it is made.
-use Rattle.std.specs.Prelude.{ℕ, ◌≤◌, ◌<◌, ◌≡◌, Bool, true, false, cond, ltb, eqb, length, drop}
+use Rattle.std.specs.Prelude.{ℕ, ◌≤◌, ◌<◌, ◌≡◌, Result, Ok, Err, Bool, true, false, cond, ltb, eqb, length, drop}
 use mathlib.Core.List.{List, [], ◌∷◌, ◌++◌, map, Memᴰ}
 use Rattle.rules.specs.CodeTable as table
 use Rattle.rules.specs.Lists.{concat}
 use Rattle.rules.specs.Bytes.{two_bytes_lem}
 use Rattle.rules.specs.Join.{tie_bytes, scope_bytes, table_bytes}
-use Rattle.tablelines.specs.Faults.{long_text, no_room_lem}
-use Rattle.tablelines.specs.Items.{items_of}
-use Rattle.tablelines.specs.declared.Item.{Item}
-use Rattle.tablelines.specs.declared.Item.TheVariants.{Nothing, Layout, Header, Scope, Row, Bad}
-use Rattle.tablemaking.specs.Judged.{judged}
-use Rattle.tablemaking.specs.declared.Judged.{Judged}
-use Rattle.tablemaking.specs.declared.Made.{Made}
+use Rattle.tablelines.specs.Faults.{long_text, no_room_lem, number_lem}
+use Rattle.tablelines.specs.Items.{Item, Nothing, Layout, Header, Scope, Row, Bad, items_of}
+use Rattle.tablemaking.specs.Judged.{Judged, judged}
+use Rattle.tablemaking.specs.declared.Refusal.{Refusal}
 
 -- ---- what a line adds to the table
 -- a header code, a scope, a row, or none of these
@@ -59,6 +56,12 @@ table_said s = table_bytes (judged s).layout (headers_of (items_of s)) (scopes_o
 -- a longer text isn't read
 abbrev pub longest_text : ℕ
 longest_text = 2097152
+
+-- the size of the table, or the line that is refused and why; `error` is 0 where nothing is wrong
+pub record Made : Type 0 where
+  pub error : ℕ
+  pub line : ℕ
+  pub size : ℕ
 
 pub record MadeExit : Type 0 where
   pub made : Made
@@ -120,6 +123,10 @@ abbrev pub FewRows : List Item → Type 0
 FewRows items = (s : table.Scope) → Memᴰ s (scopes_of items) → length s.rows < 65536
 
 -- ---- what the code hands on
+abbrev pub made_lem : Result ℕ Refusal → Made
+made_lem (Ok size) = record { error = 0; line = 0; size = size }
+made_lem (Err refusal) = refused_with (number_lem refusal.fault) refusal.line
+
 -- the rows that a line is
 pub record CountsRows (item : Item) (r : ℕ) : Type 0 where
   pub is : r ≡ rows_in_lem item

@@ -1,24 +1,19 @@
 // The code table that a text says, or the first line that breaks a rule: lines are judged first (specs/Judged.antt), then written (specs/Made.antt).
 #![tactic(auto)]
 
-ghost use Rattle.std.specs.Prelude.{◌≡◌, ◌∷◌, ◌+◌, ◌≤◌, ◌<◌, ◌^◌, length, drop};
+ghost use Rattle.std.specs.Prelude.{◌≡◌, ◌∷◌, ◌+◌, ◌≤◌, ◌<◌, ◌^◌, Ok, length, drop};
 ghost use Rattle.rules.specs.CodeTable.{key_of};
 ghost use Rattle.text.specs.Writer.{Wrote};
-ghost use Rattle.tablelines.specs.Items.{items_of};
+ghost use Rattle.tablelines.specs.Items as i;
 ghost use Rattle.tablemaking.specs.Judged as j;
 ghost use Rattle.tablemaking.specs.Made as m;
 
-use codetable::{CODE_SIZE, ROW_SIZE, SCOPE_SIZE};
+use codetable::{CODE_SIZE, LAST_TARGET, ROW_SIZE, SCOPE_SIZE};
+use rules::LAST_ID;
 use tablebytes::{put_row, put_scope, put_two};
-use tablelines::faults::{
-    HEADER_LATE, HEADER_ORDER, ID_HIGH, ID_ORDER, LAYOUT_FIRST, LAYOUT_TWICE, LONG_TEXT,
-    MANY_HEADERS, MANY_SCOPES, NO_LAYOUT, NO_ROOM, ROW_EARLY, SCOPE_ORDER, TARGET_HIGH,
-};
+use tablelines::faults::Fault;
 use tablelines::{Item, line_at};
 use text::put_byte;
-
-// The layout byte where none is named yet.
-const UNNAMED: u32 = 256;
 
 const LONGEST_TEXT: usize = 2097152;
 
@@ -27,128 +22,35 @@ const MOST_HEADERS: u32 = codetable::MOST_HEADERS as u32;
 
 const MOST_SCOPES: u32 = codetable::MOST_SCOPES as u32;
 
-const LAST_ID: u32 = rules::LAST_ID as u32;
-
-const LAST_TARGET: u32 = codetable::LAST_TARGET as u32;
-
-// How many bytes the counts have, a header code, a scope of the contents, a row.
+// How many bytes the counts have.
 const HEAD_SIZE: usize = 4;
 
 // What the lines so far say: the layout byte, how many header codes, scopes and rows, and the least code, key and id that may follow.
 #[derive(Clone, Copy)]
-pub struct Seen {
-    pub layout: u32,
-    pub headers: u32,
-    pub least_header: u32,
-    pub scopes: u32,
-    pub least_key: u32,
-    pub rows: u32,
-    pub least_id: u32,
+struct Seen {
+    layout: Option<u8>,
+    headers: u32,
+    least_header: u32,
+    scopes: u32,
+    least_key: u32,
+    rows: u32,
+    least_id: u32,
 }
 
-// A text that was judged: what its table has, or the line that breaks a rule and which.
+// What the table of a text has.
 #[derive(Clone, Copy)]
-pub struct Judged {
-    pub error: u32,
+struct Counts {
+    layout: u8,
+    headers: u32,
+    scopes: u32,
+    rows: u32,
+}
+
+// The line that is refused, 0 for the text as a whole, and why.
+#[derive(Clone, Copy, PartialEq, Eq)]
+pub struct Refusal {
+    pub fault: Fault,
     pub line: u32,
-    pub layout: u32,
-    pub headers: u32,
-    pub scopes: u32,
-    pub rows: u32,
-}
-
-// The size of the table, or the line that is refused and why: `error` is 0 where nothing is wrong.
-#[derive(Clone, Copy)]
-pub struct Made {
-    pub error: u32,
-    pub line: u32,
-    pub size: usize,
-}
-
-// ---- the rules
-fn header_fault(seen: Seen, code: u32) -> u32
-    ensures { result ≡ j.header_fault seen code }
-{
-    if 0 < seen.scopes {
-        return HEADER_LATE;
-    }
-    if code < seen.least_header {
-        return HEADER_ORDER;
-    }
-    if MOST_HEADERS <= seen.headers {
-        return MANY_HEADERS;
-    }
-    0
-}
-
-fn key_of(kind: u8, code: u16) -> u32
-    ensures { result ≡ key_of kind code }
-{
-    (kind as u32) * 65536 + (code as u32)
-}
-
-fn scope_fault(seen: Seen, key: u32) -> u32
-    ensures { result ≡ j.scope_fault seen key }
-{
-    if key < seen.least_key {
-        return SCOPE_ORDER;
-    }
-    if MOST_SCOPES <= seen.scopes {
-        return MANY_SCOPES;
-    }
-    0
-}
-
-fn row_fault(seen: Seen, id: u32, target: u32) -> u32
-    ensures { result ≡ j.row_fault seen id target }
-{
-    if seen.scopes == 0 {
-        return ROW_EARLY;
-    }
-    if LAST_ID < id {
-        return ID_HIGH;
-    }
-    if id < seen.least_id {
-        return ID_ORDER;
-    }
-    if LAST_TARGET < target {
-        return TARGET_HIGH;
-    }
-    0
-}
-
-fn below_layout(seen: Seen, fault: u32) -> u32
-    ensures { result ≡ j.below_layout seen fault }
-{
-    if seen.layout == UNNAMED {
-        return LAYOUT_FIRST;
-    }
-    fault
-}
-
-fn layout_fault(seen: Seen) -> u32
-    ensures { result ≡ j.layout_fault seen }
-{
-    if seen.layout == UNNAMED {
-        return 0;
-    }
-    LAYOUT_TWICE
-}
-
-fn fault_of(seen: Seen, item: Item) -> u32
-    ensures { result ≡ j.fault_of seen item }
-{
-    match item {
-        Item::Nothing => 0,
-        Item::Layout { byte } => layout_fault(seen),
-        Item::Header { code } => below_layout(seen, header_fault(seen, code as u32)),
-        Item::Scope { kind, code } => below_layout(seen, scope_fault(seen, key_of(kind, code))),
-        Item::Row { id, target, kind } => below_layout(
-            seen,
-            row_fault(seen, id as u32, target as u32),
-        ),
-        Item::Bad { error } => error,
-    }
 }
 
 // ---- what the lines say so far
@@ -156,7 +58,7 @@ fn nothing_seen() -> Seen
     ensures { result ≡ j.nothing_seen }
 {
     Seen {
-        layout: UNNAMED,
+        layout: None,
         headers: 0,
         least_header: 0,
         scopes: 0,
@@ -166,103 +68,132 @@ fn nothing_seen() -> Seen
     }
 }
 
-fn with_layout(mut seen: Seen, byte: u8) -> Seen
-    ensures { result ≡ j.with_layout seen byte }
+// What they say with one line more, or the rule that it breaks.
+fn with_layout(mut seen: Seen, byte: u8) -> Result<Seen, Fault>
+    ensures { j.Follows seen (i.Layout byte) result }
 {
-    seen.layout = byte as u32;
-    seen
+    if seen.layout.is_some() {
+        return Err(Fault::LayoutTwice);
+    }
+    seen.layout = Some(byte);
+    Ok(seen)
 }
 
-fn with_header(mut seen: Seen, code: u16) -> Seen
-    requires { seen.headers + 1 < 2 ^ 32 }
-    ensures { result ≡ j.with_header seen code }
+fn with_header(mut seen: Seen, code: u16) -> Result<Seen, Fault>
+    ensures { j.Follows seen (i.Header code) result }
 {
-    seen.headers = seen.headers + 1;
-    seen.least_header = (code as u32) + 1;
-    seen
+    if seen.layout.is_none() {
+        return Err(Fault::LayoutFirst);
+    }
+    if 0 < seen.scopes {
+        return Err(Fault::HeaderLate);
+    }
+    if (code as u32) < seen.least_header {
+        return Err(Fault::HeaderOrder);
+    }
+    if MOST_HEADERS <= seen.headers {
+        return Err(Fault::ManyHeaders);
+    }
+    seen.headers += 1;
+    seen.least_header = code as u32 + 1;
+    Ok(seen)
 }
 
-fn with_scope(mut seen: Seen, key: u32) -> Seen
-    requires { (seen.scopes + 1 < 2 ^ 32) × (key + 1 < 2 ^ 32) }
-    ensures { result ≡ j.with_scope seen key }
+fn key_of(kind: u8, code: u16) -> u32
+    ensures { result ≡ key_of kind code }
 {
-    seen.scopes = seen.scopes + 1;
+    (kind as u32) * 65536 + (code as u32)
+}
+
+fn with_scope(mut seen: Seen, kind: u8, code: u16) -> Result<Seen, Fault>
+    ensures { j.Follows seen (i.Scope kind code) result }
+{
+    let key = key_of(kind, code);
+    if seen.layout.is_none() {
+        return Err(Fault::LayoutFirst);
+    }
+    if key < seen.least_key {
+        return Err(Fault::ScopeOrder);
+    }
+    if MOST_SCOPES <= seen.scopes {
+        return Err(Fault::ManyScopes);
+    }
+    seen.scopes += 1;
     seen.least_key = key + 1;
     seen.least_id = 0;
-    seen
+    Ok(seen)
 }
 
-fn with_row(mut seen: Seen, id: u8) -> Seen
+fn with_row(mut seen: Seen, id: u8, target: u16, kind: u8) -> Result<Seen, Fault>
     requires { seen.rows + 1 < 2 ^ 32 }
-    ensures { result ≡ j.with_row seen id }
+    ensures { j.Follows seen (i.Row id target kind) result }
 {
-    seen.rows = seen.rows + 1;
-    seen.least_id = (id as u32) + 1;
-    seen
+    if seen.layout.is_none() {
+        return Err(Fault::LayoutFirst);
+    }
+    if seen.scopes == 0 {
+        return Err(Fault::RowEarly);
+    }
+    if LAST_ID < id {
+        return Err(Fault::IdHigh);
+    }
+    if (id as u32) < seen.least_id {
+        return Err(Fault::IdOrder);
+    }
+    if LAST_TARGET < target {
+        return Err(Fault::TargetHigh);
+    }
+    seen.rows += 1;
+    seen.least_id = id as u32 + 1;
+    Ok(seen)
 }
 
-// What the lines say with one more; so far there are so many.
-fn after(seen: Seen, item: Item, lines: u32) -> Seen
-    requires { j.OneMore seen lines }
-    ensures { result ≡ j.after seen item }
+fn with_line(seen: Seen, item: Result<Item, Fault>) -> Result<Seen, Fault>
+    requires { seen.rows + 1 < 2 ^ 32 }
+    ensures { j.Follows seen (i.said item) result }
 {
-    match item {
-        Item::Nothing => seen,
+    match item? {
+        Item::Nothing => Ok(seen),
         Item::Layout { byte } => with_layout(seen, byte),
         Item::Header { code } => with_header(seen, code),
-        Item::Scope { kind, code } => with_scope(seen, key_of(kind, code)),
-        Item::Row { id, target, kind } => with_row(seen, id),
-        Item::Bad { error } => seen,
+        Item::Scope { kind, code } => with_scope(seen, kind, code),
+        Item::Row { id, target, kind } => with_row(seen, id, target, kind),
     }
 }
 
 // ---- the first line that breaks a rule
-fn broken(error: u32, line: u32) -> Judged
-    ensures { result ≡ j.broken error line }
-{
-    Judged {
-        error,
-        line,
-        layout: 0,
-        headers: 0,
-        scopes: 0,
-        rows: 0,
-    }
-}
-
-fn judge_end(seen: Seen, lines: u32) -> Judged
+fn judge_end(seen: Seen, lines: u32) -> Result<Counts, Refusal>
     requires { lines + 1 < 2 ^ 32 }
-    ensures { result ≡ j.judge_end seen lines }
+    ensures { j.judged_lem result ≡ j.judge_end seen lines }
 {
-    if seen.layout == UNNAMED {
-        return broken(NO_LAYOUT, lines + 1);
-    }
-    Judged {
-        error: 0,
-        line: 0,
-        layout: seen.layout,
-        headers: seen.headers,
-        scopes: seen.scopes,
-        rows: seen.rows,
+    match seen.layout {
+        Some(layout) => Ok(Counts {
+            layout,
+            headers: seen.headers,
+            scopes: seen.scopes,
+            rows: seen.rows,
+        }),
+        None => Err(Refusal {
+            fault: Fault::NoLayout,
+            line: lines + 1,
+        }),
     }
 }
 
-fn judge(text: &[u8]) -> Judged
+fn judge(text: &[u8]) -> Result<Counts, Refusal>
     requires { length text.now ≤ m.longest_text }
-    ensures { result ≡ j.judged text.now }
+    ensures { j.judged_lem result ≡ j.judged text.now }
 {
     let mut seen = nothing_seen();
     let mut lines = 0;
     let mut at = 0;
     while at < text.len() {
         let line = line_at(text, at);
-        let item = line.item;
-        let fault = fault_of(seen, item);
-        if fault != 0 {
-            return broken(fault, lines + 1);
-        }
-        seen = after(seen, item, lines);
         lines += 1;
+        seen = match with_line(seen, line.item) {
+            Ok(more) => more,
+            Err(fault) => return Err(Refusal { fault, line: lines }),
+        };
         at = line.next;
     }
     judge_end(seen, lines)
@@ -271,7 +202,7 @@ fn judge(text: &[u8]) -> Judged
 // ---- the table's parts
 // The header code of a line that says one.
 fn put_if_header(out: &mut [u8], at: usize, item: Item) -> usize
-    ensures { Wrote out.old at (m.code_bytes item) out.new result }
+    ensures { Wrote out.old at (m.code_bytes (i.said (Ok item))) out.new result }
 {
     match item {
         Item::Header { code } => put_two(out, at, code),
@@ -280,7 +211,7 @@ fn put_if_header(out: &mut [u8], at: usize, item: Item) -> usize
 }
 
 fn put_if_row(out: &mut [u8], at: usize, item: Item) -> usize
-    ensures { Wrote out.old at (m.row_bytes item) out.new result }
+    ensures { Wrote out.old at (m.row_bytes (i.said (Ok item))) out.new result }
 {
     match item {
         Item::Row { id, target, kind } => put_row(out, at, id, target, kind),
@@ -289,9 +220,12 @@ fn put_if_row(out: &mut [u8], at: usize, item: Item) -> usize
 }
 
 // A line's part of the bodies, or of the header codes.
-fn put_part(out: &mut [u8], at: usize, item: Item, bodies: bool) -> usize
-    ensures { Wrote out.old at (m.part_bytes_lem bodies item) out.new result }
+fn put_part(out: &mut [u8], at: usize, item: Result<Item, Fault>, bodies: bool) -> usize
+    ensures { Wrote out.old at (m.part_bytes_lem bodies (i.said item)) out.new result }
 {
+    let Ok(item) = item else {
+        return at;
+    };
     if bodies {
         return put_if_row(out, at, item);
     }
@@ -301,7 +235,7 @@ fn put_part(out: &mut [u8], at: usize, item: Item, bodies: bool) -> usize
 // The rows of all lines, or their header codes.
 fn put_parts(text: &[u8], bodies: bool, out: &mut [u8], at: usize) -> usize
     requires { length text.now ≤ m.longest_text }
-    ensures { Wrote out.old at (m.parts_said bodies (items_of text.now)) out.new result }
+    ensures { Wrote out.old at (m.parts_said bodies (i.items_of text.now)) out.new result }
 {
     let mut p = at;
     let mut place = 0;
@@ -314,18 +248,21 @@ fn put_parts(text: &[u8], bodies: bool, out: &mut [u8], at: usize) -> usize
     p
 }
 
-fn is_scope(item: Item) -> bool
-    ensures { result ≡ m.is_scope item }
+fn is_scope(item: Result<Item, Fault>) -> bool
+    ensures { result ≡ m.is_scope (i.said item) }
 {
-    match item {
-        Item::Scope { kind, code } => true,
-        _ => false,
-    }
+    let Ok(item) = item else {
+        return false;
+    };
+    matches!(item, Item::Scope { .. })
 }
 
-fn rows_in(item: Item) -> u32
-    ensures { m.CountsRows item result }
+fn rows_in(item: Result<Item, Fault>) -> u32
+    ensures { m.CountsRows (i.said item) result }
 {
+    let Ok(item) = item else {
+        return 0;
+    };
     match item {
         Item::Row { id, target, kind } => 1,
         _ => 0,
@@ -335,7 +272,7 @@ fn rows_in(item: Item) -> u32
 // How many rows stand from a place on above the next scope.
 fn rows_from(text: &[u8], from: usize) -> u32
     requires { length text.now ≤ m.longest_text }
-    ensures { result ≡ length (m.rows_of (items_of (drop from text.now))) }
+    ensures { result ≡ length (m.rows_of (i.items_of (drop from text.now))) }
 {
     let mut rows = 0;
     let mut place = from;
@@ -352,22 +289,29 @@ fn rows_from(text: &[u8], from: usize) -> u32
 }
 
 // A scope's place in the contents, of a line that says one; its rows begin at the next line.
-fn put_if_scope(text: &[u8], next: usize, item: Item, out: &mut [u8], at: usize) -> usize
-    requires { m.ScopesReady text.now (item ∷ items_of (drop next text.now)) }
-    ensures { Wrote out.old at (m.scope_said item (items_of (drop next text.now))) out.new result }
+fn put_if_scope(
+    text: &[u8],
+    next: usize,
+    item: Result<Item, Fault>,
+    out: &mut [u8],
+    at: usize,
+) -> usize
+    requires { m.ScopesReady text.now (i.said item ∷ i.items_of (drop next text.now)) }
+    ensures { Wrote out.old at (m.scope_said (i.said item) (i.items_of (drop next text.now))) out.new result }
 {
+    let Ok(item) = item else {
+        return at;
+    };
     match item {
-        Item::Scope { kind, code } => {
-            put_scope(out, at, kind, code, rows_from(text, next) as u16)
-        }
+        Item::Scope { kind, code } => put_scope(out, at, kind, code, rows_from(text, next) as u16),
         _ => at,
     }
 }
 
 // The scopes.
 fn put_scopes(text: &[u8], out: &mut [u8], at: usize) -> usize
-    requires { m.ScopesReady text.now (items_of text.now) }
-    ensures { Wrote out.old at (m.scopes_said (items_of text.now)) out.new result }
+    requires { m.ScopesReady text.now (i.items_of text.now) }
+    ensures { Wrote out.old at (m.scopes_said (i.items_of text.now)) out.new result }
 {
     let mut p = at;
     let mut place = 0;
@@ -382,51 +326,40 @@ fn put_scopes(text: &[u8], out: &mut [u8], at: usize) -> usize
 }
 
 // ---- the table
-fn refused(error: u32, line: u32) -> Made
-    ensures { result ≡ m.refused_with error line }
-{
-    Made {
-        error,
-        line,
-        size: 0,
-    }
-}
-
 // The table of a text that was judged, from the buffer's start on.
-fn put_table(text: &[u8], judged: Judged, out: &mut [u8]) -> usize
-    requires { m.TakenAs text.now judged }
+fn put_table(text: &[u8], counts: Counts, out: &mut [u8]) -> usize
+    requires { m.TakenAs text.now (j.kept_lem counts) }
     ensures { Wrote out.old 0 (m.table_said text.now) out.new result }
 {
-    let p = put_byte(out, 0, judged.layout as u8);
-    let p = put_byte(out, p, judged.headers as u8);
-    let p = put_two(out, p, judged.scopes as u16);
+    let p = put_byte(out, 0, counts.layout);
+    let p = put_byte(out, p, counts.headers as u8);
+    let p = put_two(out, p, counts.scopes as u16);
     let p = put_parts(text, false, out, p);
     let p = put_scopes(text, out, p);
     put_parts(text, true, out, p)
 }
 
-// The table of a text, or the first line that can't be taken and why.
-pub fn make_table(text: &[u8], out: &mut [u8]) -> Made
-    ensures { m.MadeAs (m.make_exit text.now out.old) result out.new }
+// The table of a text, whose size is returned, or the first line that can't be taken and why.
+pub fn make_table(text: &[u8], out: &mut [u8]) -> Result<usize, Refusal>
+    ensures { m.MadeAs (m.make_exit text.now out.old) (m.made_lem result) out.new }
 {
     if LONGEST_TEXT < text.len() {
-        return refused(LONG_TEXT, 0);
+        return Err(Refusal {
+            fault: Fault::LongText,
+            line: 0,
+        });
     }
-    let judged = judge(text);
-    if judged.error != 0 {
-        return refused(judged.error, judged.line);
-    }
+    let counts = judge(text)?;
     let size = HEAD_SIZE
-        + CODE_SIZE * (judged.headers as usize)
-        + SCOPE_SIZE * (judged.scopes as usize)
-        + ROW_SIZE * (judged.rows as usize);
+        + CODE_SIZE * (counts.headers as usize)
+        + SCOPE_SIZE * (counts.scopes as usize)
+        + ROW_SIZE * (counts.rows as usize);
     if out.len() < size {
-        return refused(NO_ROOM, 0);
+        return Err(Refusal {
+            fault: Fault::NoRoom,
+            line: 0,
+        });
     }
-    put_table(text, judged, out);
-    Made {
-        error: 0,
-        line: 0,
-        size,
-    }
+    put_table(text, counts, out);
+    Ok(size)
 }

@@ -1,4 +1,4 @@
-// The words for a text that makes no table: the line, what is wrong there and what to write. `tablelines::faults` has the numbers.
+// The words for a text that makes no table: the line, what is wrong there and what to write. `tablelines::Fault` has the numbers.
 // Beside them the line that stands before the bytes of a table that was made.
 #![tactic(auto)]
 
@@ -6,12 +6,43 @@ ghost use Rattle.std.specs.Prelude.{◌≤◌};
 ghost use Rattle.text.specs.Writer.{Wrote};
 ghost use Rattle.tablewhy.specs.Why as w;
 
-use tablelines::faults::{
-    FOUR_DIGITS, HEADER_ORDER, ID_HIGH, ID_ORDER, LAYOUT_FIRST, LAYOUT_TWICE, LONG_TEXT,
-    MANY_HEADERS, MANY_SCOPES, MANY_WORDS, NO_LAYOUT, ROW_EARLY, SCOPE_ORDER, TARGET_HIGH,
-    TWO_DIGITS, UNKNOWN_KIND, UNKNOWN_WORD,
-};
+use tablelines::faults::Fault;
 use text::{put_byte, put_decimal, put_text};
+
+// Kept: `why_line` takes any number, 0 and those of no fault too, so its words go by the numbers of the faults.
+const NO_LAYOUT: u32 = Fault::NoLayout as u32;
+
+const LAYOUT_FIRST: u32 = Fault::LayoutFirst as u32;
+
+const LAYOUT_TWICE: u32 = Fault::LayoutTwice as u32;
+
+const UNKNOWN_WORD: u32 = Fault::UnknownWord as u32;
+
+const TWO_DIGITS: u32 = Fault::TwoDigits as u32;
+
+const FOUR_DIGITS: u32 = Fault::FourDigits as u32;
+
+const MANY_WORDS: u32 = Fault::ManyWords as u32;
+
+const HEADER_ORDER: u32 = Fault::HeaderOrder as u32;
+
+const MANY_HEADERS: u32 = Fault::ManyHeaders as u32;
+
+const SCOPE_ORDER: u32 = Fault::ScopeOrder as u32;
+
+const MANY_SCOPES: u32 = Fault::ManyScopes as u32;
+
+const ROW_EARLY: u32 = Fault::RowEarly as u32;
+
+const ID_ORDER: u32 = Fault::IdOrder as u32;
+
+const ID_HIGH: u32 = Fault::IdHigh as u32;
+
+const TARGET_HIGH: u32 = Fault::TargetHigh as u32;
+
+const UNKNOWN_KIND: u32 = Fault::UnknownKind as u32;
+
+const LONG_TEXT: u32 = Fault::LongText as u32;
 
 // From this number on an error is told in the words of `put_rules_why`.
 const FIRST_RULE: u32 = HEADER_ORDER;
