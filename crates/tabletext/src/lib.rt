@@ -112,13 +112,9 @@ fn put_rows(out: &mut [u8], at: usize, table: &[u8], start: usize, n: usize) -> 
     ensures { Wrote out.old at (t.row_lines (ties_at table.now start n)) out.new result }
 {
     let mut p = at;
-    let mut place = start;
-    let mut left = n;
-    while 0 < left {
-        let r = read_row(table, place);
+    for i in 0..n {
+        let r = read_row(table, start + ROW_SIZE * i);
         p = put_row(out, p, r.id, r.target, r.kind);
-        place += ROW_SIZE;
-        left -= 1;
     }
     p
 }
@@ -169,18 +165,15 @@ fn put_scopes(
     ensures { Wrote out.old at (t.scope_lines (scopes_at table.now start bodies n)) out.new result }
 {
     let mut p = at;
-    let mut place = start;
     let mut body = bodies;
-    let mut left = n;
-    while 0 < left {
+    for i in 0..n {
+        let place = start + SCOPE_SIZE * i;
         let kind = byte_number(table, place);
         let code = u16_number(table, place + CODE_AT);
         let count = u16_number(table, place + ROW_COUNT_AT);
         let q = put_scope(out, p, kind, code);
         p = put_rows(out, q, table, body, count);
-        place += SCOPE_SIZE;
         body += ROW_SIZE * count;
-        left -= 1;
     }
     p
 }
@@ -201,12 +194,8 @@ fn put_headers(out: &mut [u8], at: usize, table: &[u8], start: usize, n: usize) 
     ensures { Wrote out.old at (t.header_lines (codes_at table.now start n)) out.new result }
 {
     let mut p = at;
-    let mut place = start;
-    let mut left = n;
-    while 0 < left {
-        p = put_header(out, p, u16_number(table, place));
-        place += CODE_SIZE;
-        left -= 1;
+    for i in 0..n {
+        p = put_header(out, p, u16_number(table, start + CODE_SIZE * i));
     }
     p
 }
