@@ -18,7 +18,6 @@ use Rattle.rules.proofs.CodeTableLaws.{found-held, held_found}
 use Rattle.joinlaws.proofs.MergeLaws.{failed}
 use Rattle.joinlaws.proofs.JoinLaws.{one-row}
 use Rattle.joinlaws.proofs.ClashLaws.{apart_rows, agreed_rows}
-use Rattle.coderows.specs.Look as look
 use Rattle.tabletext.specs.Text.{row_line, scope_name, type_remark}
 use Rattle.succession.specs.Lacks.{Lack, Lacks, passes, scopes_other}
 use Rattle.succession.specs.Found.{as_lack}
@@ -47,7 +46,7 @@ found_clashes t t' c e = go (well_formed_lem t && well_formed_lem t') e
 -- what is said of it: its scope, and the two rows
 pub clash_said : {t t' : List ℕ} {c : Lack} (k : Clashes t t' c)
     → lack_text (as_lack (some c)) ≡ scope_name c.kind c.code ++ (type_remark c.kind c.code ++ (text "\n" ++ (row_line c.row ++ row_line k.another)))
-unfolding lack_text other_line as_lack look.as_row
+unfolding lack_text other_line as_lack
 clash_said {c = c} k =
     let r = k.another in
     rw k.is-other

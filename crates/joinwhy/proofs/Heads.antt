@@ -12,12 +12,9 @@ use Rattle.rules.specs.CodeTable.{codes_at, scopes, well_formed_lem}
 use borrow.Author.Tests.{ne_eqb}
 use Rattle.joinlaws.proofs.TableBytesLaws.{no_codes}
 use Rattle.codetable.proofs.Steps.{codes_next}
-use Rattle.tablebytes.specs.Rows.{tie_of}
 use Rattle.succession.specs.Lacks.{scopes_other}
 use Rattle.succession.specs.Found.{as_lack}
-use Rattle.succession.specs.declared.Lack.{Lack}
-use Rattle.tabletext.specs.Text.{row_line, scope_name, type_remark}
-use Rattle.joinwhy.specs.Why.{code_words, head_line, first_clash, other_line, lack_text, why}
+use Rattle.joinwhy.specs.Why.{code_words, head_line, first_clash, lack_text, why}
 
 pub words-next : (t : List ℕ) (place left : ℕ) {c : ℕ} → 0 < left → c ≡ u16 t place
     → code_words (codes_at t place left) ≡ (text " " ++ hex 4 c) ++ code_words (codes_at t (place + 2) (left - 1))
@@ -34,15 +31,6 @@ unfolding head_line
 head-words t ex en = rw (ex, en)
 
 -- ---- two rows
-pub lack_none : (l : Lack) → l.found ≡ false → lack_text l ≡ []
-unfolding lack_text
-lack_none l e = rw e
-
-pub lack_some : (l : Lack) → l.found ≡ true
-    → lack_text l ≡ scope_name l.kind l.code ++ (type_remark l.kind l.code ++ (text "\n" ++ (row_line (tie_of l.row) ++ other_line l.row.id l.other)))
-unfolding lack_text
-lack_some l e = rw e
-
 pub one_bad : (t t' : List ℕ) → well_formed_lem t ≡ false → lack_text (as_lack (first_clash t t')) ≡ []
 unfolding first_clash as_lack lack_text
 one_bad t t' a = rw a

@@ -7,18 +7,16 @@ use mathlib.Core.List.{List, [], ◌∷◌, ◌++◌}
 use borrow.Author.Tests.{eqb-true}
 use lib.Dec.{ltb, eqb}
 use lib.ListN.{length, length-append}
-use Rattle.rules.specs.Lists.{text}
 use Rattle.rules.specs.Answer.{other_head, two_rows}
 use Rattle.rules.specs.CodeTable.{layout, header, header_count, well_formed_lem}
 use Rattle.rules.proofs.CodeTableLaws.{formed}
 use Rattle.joinlaws.proofs.TableBytesLaws.{length-codes_at}
-use Rattle.coderows.specs.declared.Row as sought
-use Rattle.coderows.specs.declared.Row.TheVariants.{Tied, Untied}
+use Rattle.coderows.specs.declared.Tie as sought
+use Rattle.std.proofs.Common.{Option, Some, None}
 use Rattle.tablebytes.specs.Rows.{tie_of}
 use Rattle.succession.specs.Found.{as_lack}
 use Rattle.succession.specs.declared.Lack.{Lack}
 use Rattle.listing.proofs.Longest.{hex-length}
-use Rattle.tabletext.specs.Text.{row_line, scope_name, type_remark}
 use Rattle.tabletext.proofs.Longest.{scope-name-short, type-short, row-short}
 use Rattle.joinwhy.specs.Why.{tie, code_words, head_line, first_clash, other_line, lack_text, why}
 
@@ -33,21 +31,17 @@ head-short t w =
     let few : header_count t ≤ 4 = (formed t w).few-headers in
     simp length-append (omega (arith, hex-length 2 (layout t), codes_short (header t), length-codes_at t 4 (header_count t)))
 
-other-short : (id : ℕ) (o : sought.Row) → length (other_line id o) ≤ 45
+other-short : (id : ℕ) (o : Option sought.Tie) → length (other_line id o) ≤ 45
 unfolding other_line
-other-short id Untied = omega arith
-other-short id (Tied target kind) = row-short (tie id target kind)
+other-short id None = omega arith
+other-short id (Some o) = row-short (tie id o.target o.kind)
 
-pub lack_short : (l : Lack) → length (lack_text l) ≤ 131
+pub lack_short : (l : Option Lack) → length (lack_text l) ≤ 131
 unfolding lack_text
-lack_short l = go l.found
-  where
-    go : (b : Bool)
-        → length (cond b (scope_name l.kind l.code ++ (type_remark l.kind l.code ++ (text "\n" ++ (row_line (tie_of l.row) ++ other_line l.row.id l.other)))) []) ≤ 131
-    go true =
-        simp length-append
-        (omega (arith, scope-name-short l.kind l.code, type-short l.kind l.code (ltb l.kind 2) refl, row-short (tie_of l.row), other-short l.row.id l.other))
-    go false = omega arith
+lack_short None = omega arith
+lack_short (Some l) =
+    simp length-append
+    (omega (arith, scope-name-short l.kind l.code, type-short l.kind l.code (ltb l.kind 2) refl, row-short (tie_of l.row), other-short l.row.id l.other))
 
 -- answer 16 is of two well-formed tables
 pub why-short : (n : ℕ) (t t' : List ℕ) → (n ≡ other_head → (well_formed_lem t ≡ true) × (well_formed_lem t' ≡ true)) → length (why n t t') ≤ 131

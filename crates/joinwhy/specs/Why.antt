@@ -10,14 +10,14 @@
 --     entry 0064  # Label
 --     60 0036 number  # Left
 --     60 0037 number  # Top
-use Rattle.std.specs.Prelude.{ℕ, ◌≡◌, false, cond, ◌&&◌, List, [], ◌∷◌, ◌++◌, eqb}
-use Rattle.std.proofs.Math.Option.{Option, none, some}
+use Rattle.std.specs.Prelude.{ℕ, ◌≡◌, false, cond, ◌&&◌, List, [], ◌∷◌, ◌++◌, Option, Some, None, eqb}
+use Rattle.std.proofs.Math.Option as maybe
+use Rattle.std.proofs.Math.Option.{none, some}
 use Rattle.rules.specs.Lists.{text}
 use Rattle.rules.specs.Answer.{other_head, two_rows}
 use Rattle.rules.specs.Digits.{hex}
 use Rattle.rules.specs.CodeTable.{Tie, layout, header, scopes, well_formed_lem, Holds}
-use Rattle.coderows.specs.declared.Row as sought
-use Rattle.coderows.specs.declared.Row.TheVariants.{Tied, Untied}
+use Rattle.coderows.specs.declared.Tie as sought
 use Rattle.tablebytes.specs.Rows.{tie_of}
 use Rattle.succession.specs.Lacks.{Lack, scopes_other}
 use Rattle.succession.specs.Found.{as_lack}
@@ -34,7 +34,7 @@ head_line t = text "layout " ++ (hex 2 (layout t) ++ (text " header" ++ (code_wo
 
 -- ---- 17
 -- of two well-formed tables the first row of t for whose scope and id t' has another
-unfoldable pub first_clash : List ℕ → List ℕ → Option Lack
+unfoldable pub first_clash : List ℕ → List ℕ → maybe.Option Lack
 first_clash t t' = cond (well_formed_lem t && well_formed_lem t') (scopes_other false t' (scopes t)) none
 
 -- what is found is that "one scope and id has two different rows"
@@ -50,16 +50,14 @@ abbrev pub tie : ℕ → ℕ → ℕ → Tie
 tie id target kind = record { id = id; target = target; kind = kind }
 
 -- what the other table has for an id: of a clash never none
-unfoldable pub other_line : ℕ → sought.Row → List ℕ
-other_line id Untied = text "none\n"
-other_line id (Tied target kind) = row_line (tie id target kind)
+unfoldable pub other_line : ℕ → Option sought.Tie → List ℕ
+other_line id None = text "none\n"
+other_line id (Some o) = row_line (tie id o.target o.kind)
 
 -- the scope, the one table's row, the other's
-unfoldable pub lack_text : told.Lack → List ℕ
-lack_text l =
-    cond l.found
-    (scope_name l.kind l.code ++ (type_remark l.kind l.code ++ (text "\n" ++ (row_line (tie_of l.row) ++ other_line l.row.id l.other))))
-    []
+unfoldable pub lack_text : Option told.Lack → List ℕ
+lack_text None = []
+lack_text (Some l) = scope_name l.kind l.code ++ (type_remark l.kind l.code ++ (text "\n" ++ (row_line (tie_of l.row) ++ other_line l.row.id l.other)))
 
 -- ---- what is said where joining t and t' gives this answer
 unfoldable pub why : ℕ → List ℕ → List ℕ → List ℕ

@@ -7,6 +7,7 @@ ghost use Rattle.text.specs.Writer.{Wrote};
 ghost use Rattle.succession.specs.Found.{as_lack};
 ghost use Rattle.joinwhy.specs.Why as w;
 
+use coderows::Tie;
 use codetable::{CODE_SIZE, HEADER_AT, HEADER_COUNT_AT, well_formed};
 use numbers::{byte_number, u16_number};
 use rules::{OTHER_HEAD, TWO_ROWS};
@@ -16,27 +17,26 @@ use text::{put_byte, put_hex, put_text};
 
 // ---- two different rows
 // What the other table has for an id.
-fn put_other(out: &mut [u8], at: usize, id: u8, other: coderows::Row) -> usize
+fn put_other(out: &mut [u8], at: usize, id: u8, other: Option<Tie>) -> usize
     ensures { Wrote out.old at (w.other_line id other) out.new result }
 {
-    let coderows::Row::Tied { target, kind } = other else {
-        return put_text(out, at, b"none\n");
-    };
-    put_row(out, at, id as usize, target as usize, kind as usize)
+    match other {
+        Some(tie) => put_row(out, at, id as usize, tie.target as usize, tie.kind as usize),
+        None => put_text(out, at, b"none\n"),
+    }
 }
 
 // A scope, the one table's row, and what the other has for its id.
-pub fn put_lack(out: &mut [u8], at: usize, lack: Lack) -> usize
+pub fn put_lack(out: &mut [u8], at: usize, lack: Option<Lack>) -> usize
     ensures { Wrote out.old at (w.lack_text lack) out.new result }
 {
-    if !lack.found {
+    let Some(lack) = lack else {
         return at;
-    }
+    };
     let p = put_scope_name(out, at, lack.kind as u32, lack.code as u32);
     let p = put_type_remark(out, p, lack.kind as u32, lack.code);
     let p = put_byte(out, p, b'\n');
     let row = lack.row;
-    let other = lack.other;
     let p = put_row(
         out,
         p,
@@ -44,7 +44,7 @@ pub fn put_lack(out: &mut [u8], at: usize, lack: Lack) -> usize
         row.target as usize,
         row.kind as usize,
     );
-    put_other(out, p, row.id, other)
+    put_other(out, p, row.id, lack.other)
 }
 
 fn put_clash(out: &mut [u8], at: usize, one: &[u8], other: &[u8]) -> usize
@@ -67,13 +67,9 @@ fn put_codes(out: &mut [u8], at: usize, table: &[u8], start: usize, n: usize) ->
     ensures { Wrote out.old at (w.code_words (t.codes_at table.now start n)) out.new result }
 {
     let mut p = at;
-    let mut place = start;
-    let mut left = n;
-    while 0 < left {
+    for i in 0..n {
         let q = put_byte(out, p, b' ');
-        p = put_hex(out, q, 4, u16_number(table, place) as u32);
-        place += CODE_SIZE;
-        left -= 1;
+        p = put_hex(out, q, 4, u16_number(table, start + CODE_SIZE * i) as u32);
     }
     p
 }

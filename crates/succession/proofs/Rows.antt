@@ -10,7 +10,9 @@ use Rattle.rules.specs.CodeTable.{Tie, tie_at, ties_at, is_tied}
 use Rattle.joinlaws.proofs.TableBytesLaws.{no_ties}
 use Rattle.codetable.proofs.Steps.{ties_next}
 use Rattle.coderows.specs.Look as look
-use Rattle.coderows.specs.declared.Row as sought
+use Rattle.coderows.specs.declared.Tie as sought
+use Rattle.std.proofs.Common.{Some}
+use Rattle.std.proofs.Common as std
 use Rattle.tablebytes.specs.declared.Row.{Row}
 use Rattle.tablebytes.specs.Rows.{tie_of}
 use Rattle.succession.specs.declared.Lack as told
@@ -19,7 +21,7 @@ use Rattle.succession.specs.Found.{is_held, as_lack}
 
 -- what the code compares is what the definition does
 pub held_same : (missing : Bool) (row : Row) (o : Option Tie) → is_held missing row (look.as_row o) ≡ passes missing (tie_of row) o
-unfolding is_held look.as_row
+unfolding is_held
 held_same true row none = refl
 held_same true row (some q) = refl
 held_same false row none = refl
@@ -39,7 +41,7 @@ module _ {missing : Bool} {kind code : ℕ} {rs : List Tie} {t : List ℕ} {star
   unfolding rows_other
   all-rows_tried h = K.rest ∙ rw (no_ties t place left h)
 
-  module _ (row : Row) {other : sought.Row} (more : 0 < left) (here : tie_of row ≡ tie_at t place) (e : other ≡ look.as_row (find (is_tied row.id) rs)) where
+  module _ (row : Row) {other : std.Option sought.Tie} (more : 0 < left) (here : tie_of row ≡ tie_at t place) (e : other ≡ look.as_row (find (is_tied row.id) rs)) where
     -- what is told of this row
     abbrev this : Lack
     this = record { kind = kind; code = code; row = tie_of row; other = find (is_tied row.id) rs }
@@ -51,9 +53,9 @@ module _ {missing : Bool} {kind code : ℕ} {rs : List Tie} {t : List ℕ} {star
         ∙ ap (λ (r : Tie). rows_other missing kind code rs (r ∷ ties_at t (place + 4) (left - 1))) (sym here)
         ∙ ap (λ (b : Bool). cond b (rows_other missing kind code rs (ties_at t (place + 4) (left - 1))) (some this)) (sym (held_same missing row (find (is_tied row.id) rs)) ∙ ap (is_held missing row) (sym e))
 
-    pub row_told : is_held missing row other ≡ false → record { found = true; kind = kind; code = code; row = row; other = other } ≡ as_lack (rows_other missing kind code rs (ties_at t start n))
+    pub row_told : is_held missing row other ≡ false → Some (record { kind = kind; code = code; row = row; other = other }) ≡ as_lack (rows_other missing kind code rs (ties_at t start n))
     unfolding as_lack
-    row_told f = rw (next, f) (ap (λ (z : sought.Row). let p : told.Lack = record { found = true; kind = kind; code = code; row = row; other = z } in p) e)
+    row_told f = rw (next, f) (ap (λ (z : std.Option sought.Tie). let p : told.Lack = record { kind = kind; code = code; row = row; other = z } in Some p) e)
 
     pub row-passes : is_held missing row other ≡ true → RowsTo missing kind code rs t start n (place + 4) (left - 1)
     row-passes f = let l = K.ends in record { ends = omega arith; rest = next ∙ rw f refl }

@@ -14,6 +14,8 @@ use Rattle.joinlaws.proofs.TableBytesLaws.{no-scopes}
 use Rattle.joinlaws.proofs.JoinLaws.{row_itself}
 use Rattle.codetable.proofs.Steps.{ScopeRead, Counts, scopes-next}
 use Rattle.succession.specs.declared.Lack as told
+use Rattle.std.proofs.Common as std
+use Rattle.std.specs.Option.{is_some}
 use Rattle.succession.specs.Lacks.{Lack, passes, or_else, rows_other, scopes_other, scopes_lack, Lacks}
 use Rattle.succession.specs.Found.{as_lack}
 
@@ -31,7 +33,7 @@ module _ {missing : Bool} {newer older : List ℕ} {place body left : ℕ} (K : 
   unfolding scopes_other
   all-scopes_tried h = K.rest ∙ rw (no-scopes older place body left h)
 
-  module _ {k c n : ℕ} {rs : List Tie} {p : told.Lack} (R : ScopeRead older place left k c n) (er : rs ≡ scope_rows newer k c) (e : p ≡ as_lack (rows_other missing k c rs (ties_at older body n))) where
+  module _ {k c n : ℕ} {rs : List Tie} {p : std.Option told.Lack} (R : ScopeRead older place left k c n) (er : rs ≡ scope_rows newer k c) (e : p ≡ as_lack (rows_other missing k c rs (ties_at older body n))) where
     abbrev later : Option Lack
     later = scopes_other missing newer (scopes_at older (place + 5) (body + 4 * n) (left - 1))
 
@@ -39,15 +41,15 @@ module _ {missing : Bool} {newer older : List ℕ} {place body left : ℕ} (K : 
     unfolding scopes_other
     next = K.rest ∙ rw (scopes-next older place body left R.more, ← R.kind-is, ← R.code_is, ← R.count-is, ← er)
 
-    pub scope-told : p.found ≡ true → p ≡ as_lack (scopes_other missing newer (scopes older))
+    pub scope-told : is_some p ≡ true → p ≡ as_lack (scopes_other missing newer (scopes older))
     unfolding as_lack
     scope-told f = rw next (go (rows_other missing k c rs (ties_at older body n)) e)
       where
         go : (o : Option Lack) → p ≡ as_lack o → p ≡ as_lack (or_else o later)
-        go none g = absurd (true≢false (sym f ∙ ap (λ (z : told.Lack). z.found) g))
+        go none g = absurd (true≢false (sym f ∙ ap (λ (z : std.Option told.Lack). is_some z) g))
         go (some x) g = g
 
-    pub scope-passes : n < 65536 → p.found ≡ false → ScopesTo missing newer older (place + 5) (body + 4 * n) (left - 1)
+    pub scope-passes : n < 65536 → is_some p ≡ false → ScopesTo missing newer older (place + 5) (body + 4 * n) (left - 1)
     unfolding as_lack
     scope-passes few f =
         let a = K.ends in
@@ -57,7 +59,7 @@ module _ {missing : Bool} {newer older : List ℕ} {place body left : ℕ} (K : 
       where
         go : (o : Option Lack) → p ≡ as_lack o → or_else o later ≡ later
         go none g = refl
-        go (some x) g = absurd (true≢false (sym (ap (λ (z : told.Lack). z.found) g) ∙ f))
+        go (some x) g = absurd (true≢false (sym (ap (λ (z : std.Option told.Lack). is_some z) g) ∙ f))
 
 -- ---- none is found where all are passed over; so a successor is one that has all
 abbrev is_none : {A : Type 0} → Option A → Bool
@@ -100,13 +102,17 @@ module _ (older newer : List ℕ) where
   unfolding succeeds
   other-head e = rw e
 
-  pub same_head : same_head_lem older newer ≡ true → {p : told.Lack} → p ≡ as_lack (scopes_lack newer (scopes older)) → not p.found ≡ succeeds older newer
+  pub same_head : same_head_lem older newer ≡ true → {p : std.Option told.Lack} {r : Bool} → p ≡ as_lack (scopes_lack newer (scopes older)) → is_some p ≡ not r → r ≡ succeeds older newer
   unfolding succeeds has_scope has_row
-  same_head e {p = p} g = rw e (go (scopes_lack newer (scopes older)) g ∙ scopes-all true newer (scopes older))
+  same_head e {p = p} {r = r} g h = rw e (turned r _ h ∙ go (scopes_lack newer (scopes older)) g ∙ scopes-all true newer (scopes older))
     where
-      go : (o : Option Lack) → p ≡ as_lack o → not p.found ≡ is_none o
-      go none q = unfold as_lack in ap (λ (z : told.Lack). not z.found) q
-      go (some x) q = unfold as_lack in ap (λ (z : told.Lack). not z.found) q
+      go : (o : Option Lack) → p ≡ as_lack o → not (is_some p) ≡ is_none o
+      go none q = unfold as_lack in ap (λ (z : std.Option told.Lack). not (is_some z)) q
+      go (some x) q = unfold as_lack in ap (λ (z : std.Option told.Lack). not (is_some z)) q
+
+      turned : (r b : Bool) → b ≡ not r → r ≡ not b
+      turned true b q = sym (ap not q)
+      turned false b q = sym (ap not q)
 
 -- ---- what is found is a row of the older table for which the newer has another or none
 record InRows (missing : Bool) (kind code : ℕ) (rs' rs : List Tie) (l : Lack) : Type 0 where

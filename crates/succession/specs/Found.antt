@@ -1,10 +1,10 @@
 -- What the functions ask, and what they find, in the terms of the definition.
-use Rattle.std.specs.Prelude.{ℕ, ◌+◌, ◌*◌, ◌<◌, ◌^◌, ◌≡◌, Bool, true, false, not, ◌&&◌, List, eqb}
-use Rattle.std.proofs.Math.Option.{Option, none, some}
+use Rattle.std.specs.Prelude.{ℕ, ◌+◌, ◌*◌, ◌<◌, ◌^◌, ◌≡◌, Bool, true, not, ◌&&◌, List, Option, Some, None, eqb}
+use Rattle.std.proofs.Math.Option as maybe
+use Rattle.rules.specs.Told.{told_as}
 use Rattle.rules.specs.CodeTable.{Tie, ties_at, well_formed_lem}
 use Rattle.coderows.specs.Look as look
-use Rattle.coderows.specs.declared.Row as sought
-use Rattle.coderows.specs.declared.Row.TheVariants.{Tied, Untied}
+use Rattle.coderows.specs.declared.Tie as sought
 use Rattle.tablebytes.specs.declared.Row.{Row}
 use Rattle.succession.specs.declared.Lack as told
 use Rattle.succession.specs.Lacks.{Lack}
@@ -27,10 +27,12 @@ abbrev pub as_row : Tie → Row
 as_row r = row_from_lem r.id r.target r.kind
 
 -- what was found for a row's id is this row; or nothing, where that doesn't count
-unfoldable pub is_held : Bool → Row → sought.Row → Bool
-is_held missing r Untied = not missing
-is_held missing r (Tied x k) = eqb x r.target && eqb k r.kind
+unfoldable pub is_held : Bool → Row → Option sought.Tie → Bool
+is_held missing r None = not missing
+is_held missing r (Some o) = eqb o.target r.target && eqb o.kind r.kind
 
-unfoldable pub as_lack : Option Lack → told.Lack
-as_lack none = record { found = false; kind = 0; code = 0; row = row_from_lem 0 0 0; other = Untied }
-as_lack (some l) = record { found = true; kind = l.kind; code = l.code; row = as_row l.row; other = look.as_row l.other }
+abbrev pub lack_of : Lack → told.Lack
+lack_of l = record { kind = l.kind; code = l.code; row = as_row l.row; other = look.as_row l.other }
+
+unfoldable pub as_lack : maybe.Option Lack → Option told.Lack
+as_lack l = told_as lack_of l

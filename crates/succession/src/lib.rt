@@ -2,13 +2,12 @@
 #![tactic(auto)]
 
 ghost use Rattle.std.specs.Prelude.{◌≡◌, true};
-ghost use Rattle.std.proofs.Math.Option.{none};
 ghost use Rattle.rules.specs.CodeTable as t;
 ghost use Rattle.rules.specs.Differences.{succeeds};
 ghost use Rattle.succession.specs.Lacks.{rows_other, scopes_other, scopes_lack};
 ghost use Rattle.succession.specs.Found.{TwoRows, ListedTable, is_held, as_lack};
 
-use coderows::{SCOPE_LIST_WORDS, list_scopes, scope_near, seek_row};
+use coderows::{SCOPE_LIST_WORDS, Tie, list_scopes, scope_near, seek_row};
 use codetable::{
     CODE_AT, CODE_SIZE, HEADER_AT, HEADER_COUNT_AT, ROW_COUNT_AT, ROW_SIZE, SCOPE_COUNT_AT,
     SCOPE_SIZE,
@@ -17,44 +16,23 @@ use join::same_head;
 use numbers::{byte_number, u16_number};
 use tablebytes::{Row, row_at};
 
-// A row of the one table, and what the other has for its scope and id; or none.
+// A row of the one table, and what the other has for its scope and id.
 #[derive(Clone, Copy)]
 pub struct Lack {
-    pub found: bool,
     pub kind: u8,
     pub code: u16,
     pub row: Row,
-    pub other: coderows::Row,
-}
-
-fn no_lack() -> Lack
-    ensures { result ≡ as_lack none }
-{
-    let row = Row {
-        id: 0,
-        target: 0,
-        kind: 0,
-    };
-    Lack {
-        found: false,
-        kind: 0,
-        code: 0,
-        row,
-        other: coderows::Row::Untied,
-    }
+    pub other: Option<Tie>,
 }
 
 // What was found for a row's id is this row; or nothing, where that doesn't count.
-fn is_held(row: Row, other: coderows::Row, missing: bool) -> bool
+fn is_held(row: Row, other: Option<Tie>, missing: bool) -> bool
     ensures { result ≡ is_held missing row other }
 {
-    let coderows::Row::Tied { target, kind } = other else {
-        return !missing;
-    };
-    if target != row.target {
-        return false;
+    match other {
+        Some(tie) => tie.target == row.target && tie.kind == row.kind,
+        None => !missing,
     }
-    kind == row.kind
 }
 
 // The first of n rows of a scope for which the other table has another there, or none where that counts.
@@ -68,42 +46,41 @@ fn rows_other(
     kind: u8,
     code: u16,
     missing: bool,
-) -> Lack
+) -> Option<Lack>
     requires { TwoRows start n other.now from rows }
     ensures { result ≡ as_lack (rows_other missing kind code (t.ties_at other.now from rows) (t.ties_at one.now start n)) }
 {
-    let mut place = start;
-    let mut left = n;
-    while 0 < left {
-        let row = row_at(one, place);
+    for i in 0..n {
+        let row = row_at(one, start + ROW_SIZE * i);
         let sought = seek_row(other, from, rows, row.id as usize);
         let there = sought.row;
         if !is_held(row, there, missing) {
-            return Lack {
-                found: true,
+            return Some(Lack {
                 kind,
                 code,
                 row,
                 other: there,
-            };
+            });
         }
-        place += ROW_SIZE;
-        left -= 1;
     }
-    no_lack()
+    None
 }
 
 // The same of a whole table, where the other's scopes are listed.
-fn scopes_other(one: &[u8], other: &[u8], listed: &[u32; SCOPE_LIST_WORDS], missing: bool) -> Lack
+fn scopes_other(
+    one: &[u8],
+    other: &[u8],
+    listed: &[u32; SCOPE_LIST_WORDS],
+    missing: bool,
+) -> Option<Lack>
     requires { ListedTable other.now listed.now }
     ensures { result ≡ as_lack (scopes_other missing other.now (t.scopes one.now)) }
 {
     let scopes = u16_number(one, SCOPE_COUNT_AT);
     let contents = HEADER_AT + CODE_SIZE * byte_number(one, HEADER_COUNT_AT);
-    let mut place = contents;
     let mut body = contents + SCOPE_SIZE * scopes;
-    let mut left = scopes;
-    while 0 < left {
+    for i in 0..scopes {
+        let place = contents + SCOPE_SIZE * i;
         let kind = byte_number(one, place) as u8;
         let code = u16_number(one, place + CODE_AT) as u16;
         let n = u16_number(one, place + ROW_COUNT_AT);
@@ -112,18 +89,16 @@ fn scopes_other(one: &[u8], other: &[u8], listed: &[u32; SCOPE_LIST_WORDS], miss
         let from = theirs.start as usize;
         let rows = theirs.count as usize;
         let lack = rows_other(one, body, n, other, from, rows, kind, code, missing);
-        if lack.found {
+        if lack.is_some() {
             return lack;
         }
-        place += SCOPE_SIZE;
         body += ROW_SIZE * n;
-        left -= 1;
     }
-    no_lack()
+    None
 }
 
 // The first row of a table for which the other, which is well formed, has another in the same scope with the same id; or none, where `missing` is true.
-pub fn first_other(one: &[u8], other: &[u8], missing: bool) -> Lack
+pub fn first_other(one: &[u8], other: &[u8], missing: bool) -> Option<Lack>
     requires { t.well_formed_lem other.now ≡ true }
     ensures { result ≡ as_lack (scopes_other missing other.now (t.scopes one.now)) }
 {
@@ -133,7 +108,7 @@ pub fn first_other(one: &[u8], other: &[u8], missing: bool) -> Lack
 }
 
 // The first row of the older table that the newer, which is well formed, hasn't.
-pub fn first_lack(older: &[u8], newer: &[u8]) -> Lack
+pub fn first_lack(older: &[u8], newer: &[u8]) -> Option<Lack>
     requires { t.well_formed_lem newer.now ≡ true }
     ensures { result ≡ as_lack (scopes_lack newer.now (t.scopes older.now)) }
 {
@@ -148,6 +123,5 @@ pub fn succeeds(older: &[u8], newer: &[u8]) -> bool
     if !same_head(older, newer) {
         return false;
     }
-    let lack = first_lack(older, newer);
-    !lack.found
+    first_lack(older, newer).is_none()
 }
