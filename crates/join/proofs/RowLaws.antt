@@ -1,7 +1,7 @@
--- Turns of a walk through the rows of two scopes, and what the loop keeps that counts them.
+-- Turns of a walk through the rows of two scopes, and what the loop keeps that if_agreed them.
 use Prim.Native.Nat.{ℕ, suc, ◌+◌, ◌≤◌, ◌<◌}
 use native.Mathlib.Omega.{arith}
-use mathlib.Core.Path.{◌≡◌, refl, ap, ap₂, ◌∙◌}
+use mathlib.Core.Path.{◌≡◌, refl, sym, ap, ap₂, ◌∙◌}
 use mathlib.Core.Bool.{Bool, true, false}
 use mathlib.Core.List.{List, []}
 use lib.Dec.{eqb}
@@ -17,12 +17,27 @@ use Rattle.codetable.proofs.Steps.{ties_next}
 use Rattle.join.specs.declared.Rows.{Rows}
 use Rattle.tablebytes.specs.declared.Row.{Row}
 use Rattle.tablebytes.specs.Rows.{tie_of}
+use Rattle.std.proofs.Common.{Option, Some, None}
+use Rattle.std.proofs.lemmas.Option.{none-some}
 use Rattle.join.specs.declared.RowTurn.{RowTurn}
-use Rattle.join.specs.Walk.{alone, Walks, rows_in_lem, RowsWalk, RowLeft, rows_after, RowsTurn, counts, counted}
+use Rattle.join.specs.Walk.{alone, Walks, rows_in_lem, RowsWalk, RowLeft, rows_after, RowsTurn, if_agreed, counted}
 use Rattle.join.proofs.Turns.{Front, Both, alone-more, first-turn, second-turn, both_turn}
 
 abbrev first : Tie → Tie → Tie
 first r r' = r
+
+-- ---- what is counted where two agree
+abbrev counted_or : {A : Type 0} → A → Option A → A
+counted_or x (Some n) = n
+counted_or x None = x
+
+pub some_agreed : {A : Type 0} (b : Bool) (n : A) {h : A} → Some h ≡ if_agreed b n → (b ≡ true) × (h ≡ n)
+some_agreed true n {h} e = (refl, ap (counted_or h) e)
+some_agreed false n {h} e = absurd (none-some h (sym e))
+
+pub none_agreed : {A : Type 0} (b : Bool) (n : A) → None ≡ if_agreed b n → b ≡ false
+none_agreed true n e = absurd (none-some n e)
+none_agreed false n e = refl
 
 -- ---- two rows
 pub row_apart : (x y : Row) → (x.target ≡ y.target → ⊥) → same_row_lem (tie_of x) (tie_of y) ≡ false
@@ -99,12 +114,12 @@ module _ {one other : List ℕ} {a₀ b₀ a b : Rows} {rows : ℕ} (C : Counted
   pub counted-few : rows ≤ 506
   counted-few = let l = few-joined one a₀ other b₀ in let m = C.many in let f = C.few in omega arith
 
-  pub counted-all : a.left + b.left ≤ 0 → counted (rows_in_lem one a₀) (rows_in_lem other b₀) ≡ record { agreed = true; rows = rows }
+  pub counted-all : a.left + b.left ≤ 0 → counted (rows_in_lem one a₀) (rows_in_lem other b₀) ≡ Some rows
   counted-all h =
       let l : length (join_rows (rows_in_lem one a) (rows_in_lem other b)) ≡ 0 = ap length (rows_none one a other b h) in
       let m = C.many in
       let n : length (join_rows (rows_in_lem one a₀) (rows_in_lem other b₀)) ≡ rows = omega arith in
-      ap₂ counts (C.agrees ∙ rows_agreed one a other b h) n
+      ap₂ if_agreed (C.agrees ∙ rows_agreed one a other b h) n
 
   module _ {r : RowTurn} (T : RowsTurn one a other b r) where
     pub counted_next : r.agreed ≡ true → CountedTo one a₀ other b₀ r.one r.other (rows + 1)
@@ -114,7 +129,7 @@ module _ {one other : List ℕ} {a₀ b₀ a b : Rows} {rows : ℕ} (C : Counted
         let g : agree id_of same_row_lem (rows_in_lem one a) (rows_in_lem other b) ≡ agree id_of same_row_lem (rows_in_lem one r.one) (rows_in_lem other r.other) = rw e at T.turn.agreed in
         record { walks = T.walks; few = C.few; agrees = C.agrees ∙ g; many = omega arith }
 
-    pub counted_clash : r.agreed ≡ false → counted (rows_in_lem one a₀) (rows_in_lem other b₀) ≡ record { agreed = false; rows = 0 }
+    pub counted_clash : r.agreed ≡ false → counted (rows_in_lem one a₀) (rows_in_lem other b₀) ≡ None
     counted_clash e =
         let g : agree id_of same_row_lem (rows_in_lem one a) (rows_in_lem other b) ≡ false = rw e at T.turn.agreed in
-        ap (λ (t : Bool). counts t (length (join_rows (rows_in_lem one a₀) (rows_in_lem other b₀)))) (C.agrees ∙ g)
+        ap (λ (t : Bool). if_agreed t (length (join_rows (rows_in_lem one a₀) (rows_in_lem other b₀)))) (C.agrees ∙ g)

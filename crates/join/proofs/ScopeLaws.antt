@@ -21,9 +21,10 @@ use Rattle.text.specs.Writer.{Wrote}
 use Rattle.text.proofs.Chain.{wrote_as}
 use Rattle.join.specs.declared.Scopes.{Scopes}
 use Rattle.join.specs.declared.Taken.{Taken}
+use Rattle.std.proofs.Common.{Option, Some, None, unwrap_or}
+use Rattle.join.proofs.RowLaws.{some_agreed, none_agreed}
 use Rattle.join.specs.declared.ScopeTurn.{ScopeTurn}
-use Rattle.join.specs.declared.Counted.{Counted}
-use Rattle.join.specs.Walk.{alone, Walks, rows_in_lem, RowsWalk, scopes_in, scopes_of, ScopesWalk, ScopeLeft, ReadsKey, kind_of, code_of, taken, stayed, ScopesTurn, counted, sized, Formed, Agreed}
+use Rattle.join.specs.Walk.{alone, Walks, rows_in_lem, RowsWalk, scopes_in, scopes_of, ScopesWalk, ScopeLeft, ReadsKey, kind_of, code_of, taken, stayed, ScopesTurn, counted, sized, size_of, Formed, Agreed}
 use Rattle.join.proofs.Turns.{Front, Both, alone-more, first-turn, second-turn, both_turn, turn_as, merge-end, agree-end}
 use Rattle.join.proofs.Writing.{Writing, all_left, turn-written}
 use Rattle.join.proofs.RowLaws.{few-joined}
@@ -215,7 +216,7 @@ module _ {one other : List ℕ} {a b : Scopes} {n m : ℕ} (C : SizedTo one othe
   pub rows_few : m ≤ 32384
   rows_few = let q = rows-most one other C.both_formed.one-formed C.both_formed.other-formed in let j = C.many-rows in omega arith
 
-  pub sized-all : a.left + b.left ≤ 0 → sized (scopes one) (scopes other) ≡ record { agreed = true; scopes = n; rows = m }
+  pub sized-all : a.left + b.left ≤ 0 → sized (scopes one) (scopes other) ≡ Some (size_of n m)
   unfolding row_count_lem
   sized-all h =
       let l : length (join_scopes (scopes_in one a) (scopes_in other b)) ≡ 0 = ap length (scopes-none one a other b h) in
@@ -227,18 +228,15 @@ module _ {one other : List ℕ} {a b : Scopes} {n m : ℕ} (C : SizedTo one othe
       let v : row_count_lem (join_scopes (scopes one) (scopes other)) ≡ m = omega arith in
       rw (q, u, v)
 
-  module _ {r : ScopeTurn} {h : Counted} (T : ScopesTurn one a other b r) (H : h ≡ counted (rows_in_lem one r.front.rows) (rows_in_lem other r.back.rows)) where
+  module _ {r : ScopeTurn} (T : ScopesTurn one a other b r) where
     abbrev fit : Bool
     fit = agree id_of same_row_lem (rows_in_lem one r.front.rows) (rows_in_lem other r.back.rows)
 
-    told : h.agreed ≡ fit
-    told = ap (λ (x : Counted). x.agreed) H
-
-    pub sized-next : h.agreed ≡ true → SizedTo one other r.front.rest r.back.rest (n + 1) (m + h.rows)
+    pub sized-next : {h : ℕ} → Some h ≡ counted (rows_in_lem one r.front.rows) (rows_in_lem other r.back.rows) → SizedTo one other r.front.rest r.back.rest (n + 1) (m + h)
     unfolding row_count_lem
-    sized-next e =
-        let k : fit ≡ true = sym told ∙ e in
-        let c : h.rows ≡ length (join_rows (rows_in_lem one r.front.rows) (rows_in_lem other r.back.rows)) = ap (λ (x : Counted). x.rows) H ∙ rw k in
+    sized-next {h} e =
+        let k : fit ≡ true = (some_agreed fit _ e).0 in
+        let c : h ≡ length (join_rows (rows_in_lem one r.front.rows) (rows_in_lem other r.back.rows)) = (some_agreed fit _ e).1 in
         let l : length (join_scopes (scopes_in one a) (scopes_in other b)) ≡ suc (length (join_scopes (scopes_in one r.front.rest) (scopes_in other r.back.rest))) = ap length T.turn.merged in
         let q : row_count_lem (join_scopes (scopes_in one a) (scopes_in other b)) ≡ length (join_rows (rows_in_lem one r.front.rows) (rows_in_lem other r.back.rows)) + row_count_lem (join_scopes (scopes_in one r.front.rest) (scopes_in other r.back.rest)) = ap row_count_lem T.turn.merged in
         let i = C.many in
@@ -252,9 +250,9 @@ module _ {one other : List ℕ} {a b : Scopes} {n m : ℕ} (C : SizedTo one othe
           many-rows = omega arith;
         }
 
-    pub sized_clash : h.agreed ≡ false → sized (scopes one) (scopes other) ≡ record { agreed = false; scopes = 0; rows = 0 }
+    pub sized_clash : None ≡ counted (rows_in_lem one r.front.rows) (rows_in_lem other r.back.rows) → sized (scopes one) (scopes other) ≡ None
     sized_clash e =
-        let k : fit ≡ false = sym told ∙ e in
+        let k : fit ≡ false = none_agreed fit _ e in
         let g : scopes_agree (scopes_in one a) (scopes_in other b) ≡ false = rw k at T.turn.agreed in
         let q : scopes_agree (scopes one) (scopes other) ≡ false = C.agrees ∙ g in
         rw q
@@ -267,17 +265,17 @@ pub record ContentsTo (one : List ℕ) (a : Scopes) (other : List ℕ) (b : Scop
 pub contents-start : {one other old : List ℕ} {a b : Scopes} {at : ℕ} → Agreed one other → a ≡ scopes_of one → b ≡ scopes_of other → ContentsTo one a other b old at old at
 contents-start F A B = record { agrees = rw (A, B) F.agree-all; writing = writing_start F.formed A B }
 
-module _ {one other old new : List ℕ} {at next : ℕ} {a b : Scopes} {r : ScopeTurn} {h : Counted}
-    (C : ContentsTo one a other b old at new next) (T : ScopesTurn one a other b r) (H : h ≡ counted (rows_in_lem one r.front.rows) (rows_in_lem other r.back.rows)) where
+module _ {one other old new : List ℕ} {at next : ℕ} {a b : Scopes} {r : ScopeTurn} {o : Option ℕ} {h : ℕ}
+    (C : ContentsTo one a other b old at new next) (T : ScopesTurn one a other b r) (O : o ≡ counted (rows_in_lem one r.front.rows) (rows_in_lem other r.back.rows)) (H : h ≡ unwrap_or o 0) where
   abbrev both_agree : Bool
   both_agree = agree id_of same_row_lem (rows_in_lem one r.front.rows) (rows_in_lem other r.back.rows)
 
-  here-rows : h.rows ≡ length (join_rows (rows_in_lem one r.front.rows) (rows_in_lem other r.back.rows))
+  here-rows : h ≡ length (join_rows (rows_in_lem one r.front.rows) (rows_in_lem other r.back.rows))
   here-rows =
       let e : both_agree ≡ true = and_l both_agree _ (sym T.turn.agreed ∙ C.agrees) in
-      ap (λ (x : Counted). x.rows) H ∙ rw e
+      H ∙ ap (λ (x : Option ℕ). unwrap_or x 0) O ∙ rw e
 
-  pub here-few : h.rows ≤ 506
+  pub here-few : h ≤ 506
   here-few =
       let e = here-rows in
       let l = few-joined one r.front.rows other r.back.rows in
@@ -285,7 +283,7 @@ module _ {one other old new : List ℕ} {at next : ℕ} {a b : Scopes} {r : Scop
       let q = T.rows.other_walk.few in
       omega arith
 
-  pub contents-next : {later : List ℕ} {then : ℕ} → Wrote new next (kind_of r.key ∷ two_bytes_lem (code_of r.key) ++ two_bytes_lem h.rows) later then
+  pub contents-next : {later : List ℕ} {then : ℕ} → Wrote new next (kind_of r.key ∷ two_bytes_lem (code_of r.key) ++ two_bytes_lem h) later then
       → ContentsTo one r.front.rest other r.back.rest old at later then
   contents-next w = record {
     agrees = and_r both_agree _ (sym T.turn.agreed ∙ C.agrees);

@@ -1,5 +1,5 @@
 -- Two walks at once, through the rows of two scopes and through the scopes of two tables: what is left, what a turn takes, and what is counted and written.
-use Rattle.std.specs.Prelude.{ℕ, ◌+◌, ◌-◌, ◌*◌, ◌/◌, ◌%◌, ◌^◌, ◌≤◌, ◌<◌, ◌≡◌, Bool, true, cond, ◌&&◌, ◌||◌, List, ◌∷◌, ◌++◌, map, ltb, eqb, length}
+use Rattle.std.specs.Prelude.{ℕ, ◌+◌, ◌-◌, ◌*◌, ◌/◌, ◌%◌, ◌^◌, ◌≤◌, ◌<◌, ◌≡◌, Bool, true, cond, ◌&&◌, ◌||◌, Option, Some, None, List, ◌∷◌, ◌++◌, map, ltb, eqb, length}
 use Rattle.rules.specs.Lists.{all, ascends, agree}
 use Rattle.rules.specs.Bytes.{byte, u16, two_bytes_lem}
 use Rattle.rules.specs.CodeTable.{Tie, Scope, id_of, key_of, key, ties_at, scopes_at, layout, header, scopes, scope_count, contents_at, bodies_at, scope_ok, row_count_lem, well_formed_lem}
@@ -12,8 +12,7 @@ use Rattle.join.specs.declared.Scopes.{Scopes}
 use Rattle.join.specs.declared.RowTurn.{RowTurn}
 use Rattle.join.specs.declared.Taken.{Taken}
 use Rattle.join.specs.declared.ScopeTurn.{ScopeTurn}
-use Rattle.join.specs.declared.Counted.{Counted}
-use Rattle.join.specs.declared.Sized.{Sized}
+use Rattle.join.specs.declared.Size.{Size}
 
 -- a walk goes on by itself: its number is less than the other's, or the other is at its end
 unfoldable pub alone : ℕ → ℕ → ℕ → ℕ → Bool
@@ -54,11 +53,12 @@ pub record RowsTurn (one : List ℕ) (a : Rows) (other : List ℕ) (b : Rows) (r
   pub walks : Walks RowsWalk one r.one other r.other
   pub fewer : r.one.left + r.other.left < a.left + b.left
 
-abbrev pub counts : Bool → ℕ → Counted
-counts agreed n = record { agreed = agreed; rows = cond agreed n 0 }
+-- what is counted where the two agree
+abbrev pub if_agreed : {A : Type 0} → Bool → A → Option A
+if_agreed agreed n = cond agreed (Some n) None
 
-abbrev pub counted : List Tie → List Tie → Counted
-counted rs rs' = counts (agree id_of same_row_lem rs rs') (length (join_rows rs rs'))
+abbrev pub counted : List Tie → List Tie → Option ℕ
+counted rs rs' = if_agreed (agree id_of same_row_lem rs rs') (length (join_rows rs rs'))
 
 -- ---- scopes
 abbrev pub scopes_in : List ℕ → Scopes → List Scope
@@ -116,11 +116,11 @@ pub record ScopesTurn (one : List ℕ) (a : Scopes) (other : List ℕ) (b : Scop
   pub rest : Walks ScopesWalk one r.front.rest other r.back.rest
   pub fewer : r.front.rest.left + r.back.rest.left < a.left + b.left
 
-abbrev pub sizes : Bool → ℕ → ℕ → Sized
-sizes agreed n m = record { agreed = agreed; scopes = cond agreed n 0; rows = cond agreed m 0 }
+abbrev pub size_of : ℕ → ℕ → Size
+size_of n m = record { scopes = n; rows = m }
 
-abbrev pub sized : List Scope → List Scope → Sized
-sized ss ss' = sizes (scopes_agree ss ss') (length (join_scopes ss ss')) (row_count_lem (join_scopes ss ss'))
+abbrev pub sized : List Scope → List Scope → Option Size
+sized ss ss' = if_agreed (scopes_agree ss ss') (size_of (length (join_scopes ss ss')) (row_count_lem (join_scopes ss ss')))
 
 -- two well-formed tables
 pub record Formed (one other : List ℕ) : Type 0 where

@@ -37,6 +37,7 @@ struct Scopes {
 }
 
 // The next row of two scopes, whether it is the only one with its id, and what is left.
+// Kept: `agreed` tells of the row and not whether there is one; `put_rows` writes it either way.
 #[derive(Clone, Copy)]
 struct RowTurn {
     row: Row,
@@ -60,17 +61,9 @@ struct ScopeTurn {
     back: Taken,
 }
 
-// How many rows two scopes have together, if no id has two different ones.
+// How many scopes and rows two tables have together.
 #[derive(Clone, Copy)]
-struct Counted {
-    agreed: bool,
-    rows: usize,
-}
-
-// The same of two tables, with the number of scopes.
-#[derive(Clone, Copy)]
-struct Sized {
-    agreed: bool,
+struct Size {
     scopes: usize,
     rows: usize,
 }
@@ -92,10 +85,7 @@ fn alone(left: usize, number: usize, others: usize, other: usize) -> bool
 fn same_row(x: Row, y: Row) -> bool
     ensures { result ≡ same_row_lem (tie_of x) (tie_of y) }
 {
-    if x.target != y.target {
-        return false;
-    }
-    x.kind == y.kind
+    x.target == y.target && x.kind == y.kind
 }
 
 // The rows after the next one.
@@ -144,7 +134,8 @@ fn row_turn(one: &[u8], a: Rows, other: &[u8], b: Rows) -> RowTurn
     }
 }
 
-fn count_rows(one: &[u8], front: Rows, other: &[u8], back: Rows) -> Counted
+// How many rows two scopes have together, if no id has two different ones.
+fn count_rows(one: &[u8], front: Rows, other: &[u8], back: Rows) -> Option<usize>
     requires { Walks RowsWalk one.now front other.now back }
     ensures { result ≡ counted (rows_in_lem one.now front) (rows_in_lem other.now back) }
 {
@@ -154,16 +145,13 @@ fn count_rows(one: &[u8], front: Rows, other: &[u8], back: Rows) -> Counted
     while 0 < a.left + b.left {
         let turn = row_turn(one, a, other, b);
         if !turn.agreed {
-            return Counted {
-                agreed: false,
-                rows: 0,
-            };
+            return None;
         }
         rows += 1;
         a = turn.one;
         b = turn.other;
     }
-    Counted { agreed: true, rows }
+    Some(rows)
 }
 
 // ---- scopes
@@ -244,7 +232,8 @@ fn scopes_of(table: &[u8]) -> Scopes
     }
 }
 
-fn count_scopes(one: &[u8], other: &[u8]) -> Sized
+// The same of two tables, with the number of scopes.
+fn count_scopes(one: &[u8], other: &[u8]) -> Option<Size>
     requires { Formed one.now other.now }
     ensures { result ≡ sized (t.scopes one.now) (t.scopes other.now) }
 {
@@ -254,24 +243,13 @@ fn count_scopes(one: &[u8], other: &[u8]) -> Sized
     let mut rows = 0;
     while 0 < a.left + b.left {
         let turn = scope_turn(one, a, other, b);
-        let here = count_rows(one, turn.front.rows, other, turn.back.rows);
-        if !here.agreed {
-            return Sized {
-                agreed: false,
-                scopes: 0,
-                rows: 0,
-            };
-        }
+        let here = count_rows(one, turn.front.rows, other, turn.back.rows)?;
         scopes += 1;
-        rows += here.rows;
+        rows += here;
         a = turn.front.rest;
         b = turn.back.rest;
     }
-    Sized {
-        agreed: true,
-        scopes,
-        rows,
-    }
+    Some(Size { scopes, rows })
 }
 
 // ---- heads
@@ -280,14 +258,11 @@ fn same_codes(one: &[u8], other: &[u8], n: usize) -> bool
     requires { n < 256 }
     ensures { result ≡ same (t.codes_at one.now 4 n) (t.codes_at other.now 4 n) }
 {
-    let mut at = HEADER_AT;
-    let mut left = n;
-    while 0 < left {
+    for i in 0..n {
+        let at = HEADER_AT + CODE_SIZE * i;
         if u16_number(one, at) != u16_number(other, at) {
             return false;
         }
-        at += CODE_SIZE;
-        left -= 1;
     }
     true
 }
@@ -309,13 +284,10 @@ pub fn same_head(one: &[u8], other: &[u8]) -> bool
 fn put_codes(out: &mut [u8], at: usize, table: &[u8]) -> usize
     ensures { Wrote out.old at (codes_bytes (t.header table.now)) out.new result }
 {
+    let codes = byte_number(table, HEADER_COUNT_AT);
     let mut o = at;
-    let mut from = HEADER_AT;
-    let mut left = byte_number(table, HEADER_COUNT_AT);
-    while 0 < left {
-        o = put_two(out, o, u16_number(table, from) as u16);
-        from += CODE_SIZE;
-        left -= 1;
+    for i in 0..codes {
+        o = put_two(out, o, u16_number(table, HEADER_AT + CODE_SIZE * i) as u16);
     }
     o
 }
@@ -346,8 +318,9 @@ fn put_contents(out: &mut [u8], at: usize, one: &[u8], other: &[u8]) -> usize
     let mut o = at;
     while 0 < a.left + b.left {
         let turn = scope_turn(one, a, other, b);
-        let here = count_rows(one, turn.front.rows, other, turn.back.rows);
-        o = put_key(out, o, turn.key, here.rows as u16);
+        // The tables agree, so the rows are counted.
+        let here = count_rows(one, turn.front.rows, other, turn.back.rows).unwrap_or(0);
+        o = put_key(out, o, turn.key, here as u16);
         a = turn.front.rest;
         b = turn.back.rest;
     }
@@ -401,10 +374,9 @@ pub fn join(one: &[u8], other: &[u8], out: &mut [u8]) -> Answer
     if !same_head(one, other) {
         return refused(OTHER_HEAD);
     }
-    let sized = count_scopes(one, other);
-    if !sized.agreed {
+    let Some(sized) = count_scopes(one, other) else {
         return refused(TWO_ROWS);
-    }
+    };
     if MOST_SCOPES < sized.scopes {
         return refused(MORE_SCOPES);
     }
