@@ -117,17 +117,14 @@ fn header_break(table: &[u8], n: usize) -> Break
     requires { 4 + 2 * n < 2 ^ 32 }
     ensures { result ≡ law.header_break table.now 4 0 n }
 {
-    let mut at = HEADER_AT;
-    let mut left = n;
     let mut least = 0;
-    while 0 < left {
+    for i in 0..n {
+        let at = HEADER_AT + CODE_SIZE * i;
         let code = u16_number(table, at);
         if code < least {
             return broken(HEADER_ORDER, at, code, least - 1);
         }
         least = code + 1;
-        at += CODE_SIZE;
-        left -= 1;
     }
     unbroken()
 }
@@ -166,21 +163,16 @@ fn scope_break(table: &[u8], start: usize, n: usize) -> Break
     requires { start + 5 * n + 2 < 2 ^ 32 }
     ensures { result ≡ law.scope_break table.now start 0 1 n }
 {
-    let mut at = start;
-    let mut left = n;
-    let mut number = 1;
     let mut least = 0;
-    while 0 < left {
+    for i in 0..n {
+        let at = start + SCOPE_SIZE * i;
         let kind = byte_number(table, at);
         let code = u16_number(table, at + CODE_AT);
         let found = scope_rule(at, kind, code, least);
         if found.rule != 0 {
-            return placed(found, number, kind, code, 0);
+            return placed(found, i + 1, kind, code, 0);
         }
         least = kind * CODES + code + 1;
-        at += SCOPE_SIZE;
-        number += 1;
-        left -= 1;
     }
     unbroken()
 }
@@ -190,13 +182,9 @@ fn bodies_end(table: &[u8], start: usize, bodies: usize, n: usize) -> usize
     requires { law.ScopesReady start bodies n }
     ensures { law.BodiesEnd table.now start bodies n result }
 {
-    let mut at = start;
     let mut end = bodies;
-    let mut left = n;
-    while 0 < left {
-        end += ROW_SIZE * u16_number(table, at + ROW_COUNT_AT);
-        at += SCOPE_SIZE;
-        left -= 1;
+    for i in 0..n {
+        end += ROW_SIZE * u16_number(table, start + SCOPE_SIZE * i + ROW_COUNT_AT);
     }
     end
 }
@@ -226,20 +214,15 @@ fn row_break(table: &[u8], start: usize, n: usize, scope: usize, kind: usize, co
     requires { law.RowsReady start n scope kind code }
     ensures { result ≡ law.row_break table.now start 0 scope kind code 1 n }
 {
-    let mut at = start;
-    let mut left = n;
-    let mut number = 1;
     let mut least = 0;
-    while 0 < left {
+    for i in 0..n {
+        let at = start + ROW_SIZE * i;
         let r = read_row(table, at);
         let found = row_rule(at, r.id, r.target, r.kind, least);
         if found.rule != 0 {
-            return placed(found, scope, kind, code, number);
+            return placed(found, scope, kind, code, i + 1);
         }
         least = r.id + 1;
-        at += ROW_SIZE;
-        number += 1;
-        left -= 1;
     }
     unbroken()
 }
@@ -249,22 +232,17 @@ fn rows_break(table: &[u8], start: usize, bodies: usize, n: usize) -> Break
     requires { law.ScopesReady start bodies n }
     ensures { result ≡ law.rows_break table.now start bodies 1 n }
 {
-    let mut at = start;
     let mut body = bodies;
-    let mut left = n;
-    let mut number = 1;
-    while 0 < left {
+    for i in 0..n {
+        let at = start + SCOPE_SIZE * i;
         let kind = byte_number(table, at);
         let code = u16_number(table, at + CODE_AT);
         let count = u16_number(table, at + ROW_COUNT_AT);
-        let found = row_break(table, body, count, number, kind, code);
+        let found = row_break(table, body, count, i + 1, kind, code);
         if found.rule != 0 {
             return found;
         }
-        at += SCOPE_SIZE;
         body += ROW_SIZE * count;
-        number += 1;
-        left -= 1;
     }
     unbroken()
 }
