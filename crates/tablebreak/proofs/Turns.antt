@@ -1,5 +1,5 @@
 -- One turn of each search, by the numbers that the code has read.
-use mathlib.Core.Path.{◌≡◌, refl, sym, ap, ◌∙◌}
+use mathlib.Core.Path.{◌≡◌, refl, sym, ap, subst, ◌∙◌}
 use mathlib.Core.Bool.{true, false, cond}
 use mathlib.Core.List.{List}
 use Prim.Native.Nat.{ℕ, zero, suc, ◌+◌, ◌*◌, ◌-◌, ◌/◌, ◌%◌, ◌≤◌, ◌<◌}
@@ -16,7 +16,18 @@ use Rattle.codetable.specs.declared.RowRead.{RowRead}
 use Rattle.codetable.proofs.Steps.{CodeRead, ScopeRead}
 use Rattle.joinlaws.proofs.TableBytesLaws.{length-ties_at}
 use Rattle.tablebreak.specs.declared.Break.{Break}
-use Rattle.tablebreak.specs.Rules.{many_headers, many_scopes, header_order, scope_kind_lem, scope_code_lem, scope_order, id_order, id_high, target_high, row_kind, too_short_lem, too_long_lem, over_longest, longest, broken, unbroken, placed, or_else, header_break, order_rule, scope_rule, scope_break, row_rule, row_break, rows_break, end_of, body_break, searched, break_of, BodyReady}
+use Rattle.tablebreak.specs.Rules.{many_headers, many_scopes, header_order, scope_kind_lem, scope_code_lem, scope_order, id_order, id_high, target_high, row_kind, too_short_lem, too_long_lem, over_longest, longest, broken, unbroken, placed, or_else, header_break, order_rule, scope_rule, scope_break, row_rule, row_break, rows_break, end_of, body_break, searched, break_of, BodyReady, Names, Told}
+use Rattle.std.proofs.Common.{Option}
+
+-- ---- what is told of a break
+pub told_broken : {x b : Break} {rule at found before : ℕ} → (rule ≡ 0 → ⊥) → x ≡ broken rule at found before → b ≡ broken rule at found before → Names x b
+told_broken n e g = record { is = e ∙ sym g; some = λ z. n (ap (λ (x : Break). x.rule) (sym e) ∙ z) }
+
+pub told_placed : (found : Break) {x b : Break} {scope kind code row : ℕ} → (found.rule ≡ 0 → ⊥) → x ≡ placed found scope kind code row → b ≡ placed found scope kind code row → Names x b
+told_placed found n e g = record { is = e ∙ sym g; some = λ z. n (ap (λ (x : Break). x.rule) (sym e) ∙ z) }
+
+pub told_as : (o : Option Break) {b b' : Break} → b' ≡ b → Told o b → Told o b'
+told_as o e h = subst (λ (x : Break). Told o x) (sym e) h
 
 -- ---- the first of two
 pub here : (a b : Break) → (a.rule ≡ 0 → ⊥) → or_else a b ≡ a

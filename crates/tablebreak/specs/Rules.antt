@@ -1,5 +1,5 @@
 -- Where a table first breaks a rule: its counts, that its contents are there, its header codes, its scopes, its length, its rows are looked at in this order.
-use Rattle.std.specs.Prelude.{ℕ, zero, suc, ◌+◌, ◌*◌, ◌-◌, ◌/◌, ◌%◌, ◌^◌, ◌≤◌, ◌<◌, ◌≡◌, ◌&&◌, cond, List, ltb, eqb, length}
+use Rattle.std.specs.Prelude.{ℕ, zero, suc, ◌+◌, ◌*◌, ◌-◌, ◌/◌, ◌%◌, ◌^◌, ◌≤◌, ◌<◌, ◌≡◌, ◌&&◌, cond, Option, MatchOption, List, ltb, eqb, length}
 use Rattle.rules.specs.Bytes.{byte, u16}
 use Rattle.rules.specs.CodeTable.{key_of, header_count, scope_count, contents_at, bodies_at, scopes, scopes_at, row_count_lem, well_formed_lem}
 use Rattle.tablebreak.specs.declared.Break.{Break}
@@ -66,6 +66,14 @@ placed b scope kind code row = record { rule = b.rule; at = b.at; scope = scope;
 -- the first of two
 unfoldable pub or_else : Break → Break → Break
 or_else a b = cond (eqb a.rule 0) b a
+
+-- what the code finds: a break, or that there is none
+pub record Names (x b : Break) : Type 0 where
+  pub is : x ≡ b
+  pub some : x.rule ≡ 0 → ⊥
+
+abbrev pub Told : Option Break → Break → Type 0
+Told o b = MatchOption o (b ≡ unbroken) (λ x. Names x b)
 
 -- ---- header codes
 -- n of them from a place on; the one before is least - 1

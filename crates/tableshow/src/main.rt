@@ -15,11 +15,10 @@ const SHOWN_ROOM: usize = 731386;
 fn show_table(table: &[u8], out: &mut [u8]) -> usize
     ensures { ShownIn out.old table.now out.new result }
 {
-    let found = tablebreak::first_break(table);
-    if found.rule == 0 {
-        return tabletext::table_text(table, out);
+    match tablebreak::first_break(table) {
+        Some(found) => tablewords::break_line(found, out),
+        None => tabletext::table_text(table, out),
     }
-    tablewords::break_line(found, out)
 }
 
 // Prints what is shown of all that standard input has, of which `table` was read into room for `room` bytes.

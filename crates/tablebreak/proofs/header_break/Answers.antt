@@ -1,18 +1,12 @@
-use Rattle.std.proofs.Common.{◌≡◌, ◌+◌, ◌-◌, ◌*◌, ◌<◌, refl, sym, ◌∙◌, arith}
-use Rattle.tablebreak.proofs.Turns.{headers_fail, headers-step, headers-done}
+use Rattle.std.proofs.Common.{◌≡◌, ◌+◌, ◌-◌, ◌*◌, ◌<◌, ◌∙◌, arith}
+use Rattle.tablebreak.proofs.Turns.{told_broken, headers_fail, headers-step, headers-done}
 use Rattle.tablebreak.proofs.header_break.Goals as goal
-
-pub loop-i-init : goal.loop-i-init
-loop-i-init c = let f : c.args.n - 0 ≡ c.args.n = omega arith in rw f (record { decide = refl; near = omega arith; low = omega arith })
-
-pub broken-requires : goal.broken-requires
-broken-requires c = let k = c.loop-i.invariant.low in let near = c.loop-i.invariant.near in omega (arith, c.u16_number-code.ensures.small)
 
 pub returns-then-code-least : goal.returns-then-code-least
 returns-then-code-least c =
     let l = c.loop-i in
     let more : 0 < c.args.n - l.i = omega arith in
-    c.broken.ensures ∙ sym (l.invariant.decide ∙ headers_fail (record { more = more; code_is = c.u16_number-code.ensures.is }) l.least c.if-code-least.true)
+    told_broken (λ z. omega arith) c.broken.ensures (l.invariant.decide ∙ headers_fail (record { more = more; code_is = c.u16_number-code.ensures.is }) l.least c.if-code-least.true)
 
 pub loop-i-preserved : goal.loop-i-preserved
 loop-i-preserved c =
@@ -32,4 +26,4 @@ loop-i-preserved c =
 pub returns : goal.returns
 returns c =
     let l = c.loop-i in
-    c.unbroken.ensures ∙ sym (l.invariant.decide ∙ headers-done c.args.table.now (4 + 2 * l.i) l.least (c.args.n - l.i) (omega arith))
+    l.invariant.decide ∙ headers-done c.args.table.now (4 + 2 * l.i) l.least (c.args.n - l.i) (omega arith)

@@ -2,28 +2,12 @@ use Rattle.std.proofs.Common.{◌≡◌, ◌+◌, ◌-◌, ◌*◌, ◌<◌, ref
 use Rattle.tablebreak.proofs.Turns.{bodies_fail, bodies_step, bodies_done}
 use Rattle.tablebreak.proofs.rows_break.Goals as goal
 
-pub loop-i-init : goal.loop-i-init
-loop-i-init c =
-    let e : c.args.start + 0 ≡ c.args.start = omega arith in
-    let f : c.args.n - 0 ≡ c.args.n = omega arith in
-    rw (e, f) (record { decide = refl; near = omega arith; body_near = omega arith })
-
-pub row_break-found-requires : goal.row_break-found-requires
-row_break-found-requires c =
-    let k = c.loop-i.invariant.body_near in
-    record {
-      near = omega (arith, c.u16_number-count.ensures.small);
-      place = omega (arith, c.byte_number-kind.ensures.small, c.u16_number-code.ensures.small);
-    }
-
-pub returns-then-found-ne0 : goal.returns-then-found-ne0
-returns-then-found-ne0 c =
+pub returns-in-Some : goal.returns-in-Some
+returns-in-Some c =
     let l = c.loop-i in
+    let n = c.in-Some.ensures in
     let more : 0 < c.args.n - l.i = omega arith in
-    sym
-    (l.invariant.decide
-    ∙ bodies_fail (record { more = more; kind-is = c.byte_number-kind.ensures.is; code_is = c.u16_number-code.ensures.is; count-is = c.u16_number-count.ensures.is }) l.body (l.i + 1)
-    c.row_break-found.ensures c.if-found-ne0.true)
+    record { is = sym (l.invariant.decide ∙ bodies_fail (record { more = more; kind-is = c.byte_number-kind.ensures.is; code_is = c.u16_number-code.ensures.is; count-is = c.u16_number-count.ensures.is }) l.body (l.i + 1) n.is n.some); some = n.some }
 
 pub loop-i-preserved : goal.loop-i-preserved
 loop-i-preserved c =
@@ -35,10 +19,7 @@ loop-i-preserved c =
     let f : a.n - i - 1 ≡ a.n - (i + 1) = omega arith in
     rw (← e, ← f)
     (record {
-      decide =
-          l.invariant.decide
-          ∙ bodies_step (record { more = more; kind-is = c.byte_number-kind.ensures.is; code_is = c.u16_number-code.ensures.is; count-is = c.u16_number-count.ensures.is }) l.body (i + 1)
-          c.row_break-found.ensures c.if-found-ne0.false;
+      decide = l.invariant.decide ∙ bodies_step (record { more = more; kind-is = c.byte_number-kind.ensures.is; code_is = c.u16_number-code.ensures.is; count-is = c.u16_number-count.ensures.is }) l.body (i + 1) (sym c.in_default.ensures) refl;
       near = omega arith;
       body_near = omega (arith, c.u16_number-count.ensures.small);
     })
@@ -46,4 +27,4 @@ loop-i-preserved c =
 pub returns : goal.returns
 returns c =
     let l = c.loop-i in
-    c.unbroken.ensures ∙ sym (l.invariant.decide ∙ bodies_done c.args.table.now (c.args.start + 5 * l.i) l.body (l.i + 1) (c.args.n - l.i) (omega arith))
+    l.invariant.decide ∙ bodies_done c.args.table.now (c.args.start + 5 * l.i) l.body (l.i + 1) (c.args.n - l.i) (omega arith)
