@@ -21,7 +21,8 @@ use Rattle.text.specs.Writer.{Wrote}
 use Rattle.text.proofs.Chain.{wrote_as}
 use Rattle.join.specs.declared.Scopes.{Scopes}
 use Rattle.join.specs.declared.Taken.{Taken}
-use Rattle.std.proofs.Common.{Option, Some, None, unwrap_or}
+use Rattle.std.proofs.Common.{Option, Some, None}
+use Rattle.std.specs.Option.{IsSome}
 use Rattle.join.proofs.RowLaws.{some_agreed, none_agreed}
 use Rattle.join.specs.declared.ScopeTurn.{ScopeTurn}
 use Rattle.join.specs.Walk.{alone, Walks, rows_in_lem, RowsWalk, scopes_in, scopes_of, ScopesWalk, ScopeLeft, ReadsKey, kind_of, code_of, taken, stayed, ScopesTurn, counted, sized, size_of, Formed, Agreed}
@@ -265,15 +266,20 @@ pub record ContentsTo (one : List ℕ) (a : Scopes) (other : List ℕ) (b : Scop
 pub contents-start : {one other old : List ℕ} {a b : Scopes} {at : ℕ} → Agreed one other → a ≡ scopes_of one → b ≡ scopes_of other → ContentsTo one a other b old at old at
 contents-start F A B = record { agrees = rw (A, B) F.agree-all; writing = writing_start F.formed A B }
 
+pub here_there : {one other old new : List ℕ} {at next : ℕ} {a b : Scopes} {r : ScopeTurn} {o : Option ℕ} → ContentsTo one a other b old at new next → ScopesTurn one a other b r
+    → o ≡ counted (rows_in_lem one r.front.rows) (rows_in_lem other r.back.rows) → IsSome o
+here_there {one} {other} {r = r} C T O =
+    let both : Bool = agree id_of same_row_lem (rows_in_lem one r.front.rows) (rows_in_lem other r.back.rows) in
+    let e : both ≡ true = and_l both _ (sym T.turn.agreed ∙ C.agrees) in
+    rw (O, e) refl
+
 module _ {one other old new : List ℕ} {at next : ℕ} {a b : Scopes} {r : ScopeTurn} {o : Option ℕ} {h : ℕ}
-    (C : ContentsTo one a other b old at new next) (T : ScopesTurn one a other b r) (O : o ≡ counted (rows_in_lem one r.front.rows) (rows_in_lem other r.back.rows)) (H : h ≡ unwrap_or o 0) where
+    (C : ContentsTo one a other b old at new next) (T : ScopesTurn one a other b r) (O : o ≡ counted (rows_in_lem one r.front.rows) (rows_in_lem other r.back.rows)) (H : o ≡ Some h) where
   abbrev both_agree : Bool
   both_agree = agree id_of same_row_lem (rows_in_lem one r.front.rows) (rows_in_lem other r.back.rows)
 
   here-rows : h ≡ length (join_rows (rows_in_lem one r.front.rows) (rows_in_lem other r.back.rows))
-  here-rows =
-      let e : both_agree ≡ true = and_l both_agree _ (sym T.turn.agreed ∙ C.agrees) in
-      H ∙ ap (λ (x : Option ℕ). unwrap_or x 0) O ∙ rw e
+  here-rows = (some_agreed both_agree _ (sym H ∙ O)).1
 
   pub here-few : h ≤ 506
   here-few =

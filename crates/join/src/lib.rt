@@ -318,8 +318,8 @@ fn put_contents(out: &mut [u8], at: usize, one: &[u8], other: &[u8]) -> usize
     let mut o = at;
     while 0 < a.left + b.left {
         let turn = scope_turn(one, a, other, b);
-        // The tables agree, so the rows are counted.
-        let here = count_rows(one, turn.front.rows, other, turn.back.rows).unwrap_or(0);
+        // No id has two different rows where the tables agree.
+        let here = count_rows(one, turn.front.rows, other, turn.back.rows).unwrap();
         o = put_key(out, o, turn.key, here as u16);
         a = turn.front.rest;
         b = turn.back.rest;

@@ -1,16 +1,10 @@
 use Rattle.std.proofs.Common.{◌≡◌, ◌+◌, ◌-◌, ◌*◌, ap, arith}
 use Rattle.rules.specs.CodeTable.{codes_at}
 use Rattle.text.proofs.Chain.{wrote_as}
-use Rattle.text.proofs.Remains.{all_left, one_less, none_left}
+use Rattle.text.proofs.Remains.{one_less, none_left}
 use Rattle.joinlaws.proofs.TableBytesLaws.{codes_bytes}
 use Rattle.join.proofs.HeadLaws.{bytes_next, bytes-done}
 use Rattle.join.proofs.put_codes.Goals as goal
-
-pub loop-i-init : goal.loop-i-init
-loop-i-init c =
-    let n = c.byte_number-codes in
-    let f : n.result - 0 ≡ n.result = omega arith in
-    rw f (all_left (omega (arith, n.ensures.small)))
 
 pub loop-i-preserved : goal.loop-i-preserved
 loop-i-preserved c =

@@ -1,9 +1,6 @@
 use Rattle.std.proofs.Common.{◌≡◌, ◌+◌, ◌-◌, ◌*◌, sym, arith}
-use Rattle.join.proofs.HeadLaws.{none_compared, code-differs, code_same, all_compared}
+use Rattle.join.proofs.HeadLaws.{code-differs, code_same, all_compared}
 use Rattle.join.proofs.same_codes.Goals as goal
-
-pub loop-i-init : goal.loop-i-init
-loop-i-init c = let f : c.args.n - 0 ≡ c.args.n = omega arith in rw f (none_compared c.requires)
 
 pub returns-then-u16_number : goal.returns-then-u16_number
 returns-then-u16_number c =

@@ -1,14 +1,8 @@
 use Rattle.std.proofs.Common.{◌≡◌, ◌+◌, ◌-◌, ◌*◌, sym, ap, ◌∙◌, arith}
 use borrow.Author.Tests.{not-true, not-false}
 use Rattle.succession.specs.Found.{as_lack}
-use Rattle.succession.proofs.Rows.{no-row_tried, all-rows_tried, row_told, row-passes}
+use Rattle.succession.proofs.Rows.{all-rows_tried, row_told, row-passes}
 use Rattle.succession.proofs.rows_other.Goals as goal
-
-pub loop-i-init : goal.loop-i-init
-loop-i-init c =
-    let e : c.args.start + 0 ≡ c.args.start = omega arith in
-    let f : c.args.n - 0 ≡ c.args.n = omega arith in
-    rw (e, f) (no-row_tried (omega arith))
 
 pub returns-then-not-is_held : goal.returns-then-not-is_held
 returns-then-not-is_held c =

@@ -1,15 +1,8 @@
 use Rattle.std.proofs.Common.{◌≡◌, ℕ, ◌+◌, ◌-◌, ◌*◌, ◌<◌, sym, ap, ◌∙◌, arith}
 use Rattle.coderows.specs.Look.{body_rows}
 use Rattle.succession.specs.Found.{as_lack}
-use Rattle.succession.proofs.Scopes.{no-scope_tried, all-scopes_tried, scope-told, scope-passes}
+use Rattle.succession.proofs.Scopes.{all-scopes_tried, scope-told, scope-passes}
 use Rattle.succession.proofs.scopes_other.Goals as goal
-
-pub loop-i-init : goal.loop-i-init
-loop-i-init c =
-    let e : 4 + 2 * c.byte_number.result + 0 ≡ 4 + 2 * c.byte_number.result = omega arith in
-    let f : c.u16_number-scopes.result - 0 ≡ c.u16_number-scopes.result = omega arith in
-    rw (e, f)
-    (no-scope_tried _ _ (record { headers-is = c.byte_number.ensures.is; scopes-is = c.u16_number-scopes.ensures.is }) c.byte_number.ensures.small c.u16_number-scopes.ensures.small)
 
 pub rows_other-lack-requires : goal.rows_other-lack-requires
 unfolding body_rows

@@ -1,13 +1,7 @@
 use Rattle.std.proofs.Common.{◌≡◌, ◌+◌, ◌-◌, ◌*◌, arith}
-use Rattle.text.proofs.Remains.{all_left, one_less, none_left}
+use Rattle.text.proofs.Remains.{one_less, none_left}
 use Rattle.tabletext.proofs.Lines.{rows-read, rows-done}
 use Rattle.tabletext.proofs.put_rows.Goals as goal
-
-pub loop-i-init : goal.loop-i-init
-loop-i-init c =
-    let e : c.args.start + 0 ≡ c.args.start = omega arith in
-    let f : c.args.n - 0 ≡ c.args.n = omega arith in
-    rw (e, f) (all_left (omega arith))
 
 pub loop-i-preserved : goal.loop-i-preserved
 loop-i-preserved c =
