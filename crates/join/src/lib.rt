@@ -344,6 +344,7 @@ fn put_rows(out: &mut [u8], at: usize, one: &[u8], front: Rows, other: &[u8], ba
     o
 }
 
+// Kept beside `put_contents`: what a turn writes would be a closure that is lent `out`; its clause would be longer than the loop.
 fn put_bodies(out: &mut [u8], at: usize, one: &[u8], other: &[u8]) -> usize
     requires { Formed one.now other.now }
     ensures { Wrote out.old at (bodies_bytes (join_scopes (t.scopes one.now) (t.scopes other.now))) out.new result }

@@ -220,6 +220,7 @@ fn put_if_row(out: &mut [u8], at: usize, item: Item) -> usize
 }
 
 // A line's part of the bodies, or of the header codes.
+// Kept: a closure in place of `bodies` would be lent `out`; its clause would be longer than both steps.
 fn put_part(out: &mut [u8], at: usize, item: Result<Item, Fault>, bodies: bool) -> usize
     ensures { Wrote out.old at (m.part_bytes_lem bodies (i.said item)) out.new result }
 {
