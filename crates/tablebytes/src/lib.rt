@@ -34,8 +34,9 @@ pub fn row_at(table: &[u8], at: usize) -> Row
 pub fn put_two(out: &mut [u8], at: usize, n: u16) -> usize
     ensures { Wrote out.old at (two_bytes_lem n) out.new result }
 {
-    let p = put_byte(out, at, (n % 256) as u8);
-    put_byte(out, p, (n / 256) as u8)
+    let [low, high] = n.to_le_bytes();
+    let p = put_byte(out, at, low);
+    put_byte(out, p, high)
 }
 
 pub fn put_row(out: &mut [u8], at: usize, id: u8, target: u16, kind: u8) -> usize
