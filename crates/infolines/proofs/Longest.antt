@@ -117,7 +117,7 @@ module _ (s : List ℕ) (bytes : Bytes s) where
         let g : p + 8 ≤ length s = leb-true (p + 8) (length s) e in
         let i = info_at s p in
         let m : p + 8 + i.name.size ≤ next_info s p = passed s p g in
-        let q : next_info s p ≤ length s = inside s p 1 (as_entry i (next_info s p)) refl g (omega arith) in
+        let q : next_info s p ≤ length s = inside s p (as_entry i (next_info s p)) refl in
         let x : length (info_line s n (type_info_row i)) ≤ 8 * (8 + i.name.size) = line-short s n i (omega arith) (word_fits (p + 4)) (omega arith) in
         one-fits n p (next_info s p) i (keep is_reported_info (infos_at s (next_info s p) k)) (is_reported_info i) (omega arith) (omega arith) (rec n q (omega arith)) (rec (n + 1) q (omega arith))
     step_fits k n p false e h l rec = omega arith

@@ -56,18 +56,18 @@ module _ {s : List ℕ} {p type index next : ℕ} {a b : Named} (R : EntryRead s
 
   -- the entry with the name n, which is the first or the second by the size of the second
   with-name : (n : Named) (t : Bool) → eqb (second_name s p).size 0 ≡ t → n ≡ as_named (cond t (first_name s p) (second_name s p))
-      → ◌≡◌ {A = Entry} (record { type_code = type; index = index; start = n.start; size = n.size; cut = n.cut; next = next }) (as_entry (info_at s p) (next_info s p))
+      → ◌≡◌ {A = Entry} (record { type_code = type; index = index; name = n; next = next }) (as_entry (info_at s p) (next_info s p))
   unfolding info_at
   with-name n t q e =
       let is : n ≡ as_named (info_at s p).name = rw q e in
-      λ i. record { type_code = R.type-is i; index = R.index_is i; start = (is i).start; size = (is i).size; cut = (is i).cut; next = after i }
+      λ i. record { type_code = R.type-is i; index = R.index_is i; name = is i; next = after i }
 
   pub uses_first : b.size ≡ 0
-      → ◌≡◌ {A = Entry} (record { type_code = type; index = index; start = a.start; size = a.size; cut = a.cut; next = next }) (as_entry (info_at s p) (next_info s p))
+      → ◌≡◌ {A = Entry} (record { type_code = type; index = index; name = a; next = next }) (as_entry (info_at s p) (next_info s p))
   uses_first z = with-name a true (eq-eqb (second_name s p).size 0 (ap (λ (n : Named). n.size) (sym second) ∙ z)) R.first-is
 
   pub uses_second : (b.size ≡ 0 → ⊥)
-      → ◌≡◌ {A = Entry} (record { type_code = type; index = index; start = b.start; size = b.size; cut = b.cut; next = next }) (as_entry (info_at s p) (next_info s p))
+      → ◌≡◌ {A = Entry} (record { type_code = type; index = index; name = b; next = next }) (as_entry (info_at s p) (next_info s p))
   uses_second z = with-name b false (ne_eqb (second_name s p).size 0 (λ h. z (ap (λ (n : Named). n.size) second ∙ h))) second
 
 -- ---- within the stream
@@ -128,7 +128,7 @@ module _ (rows : List ℕ) (at : ℕ) (e : Entry) where
   unfolding put_if
   put-nothing h = rw (eq-eqb e.type_code 0x1EFF h) (sym (put-none type_info_width rows at))
 
-  pub put-row : (e.type_code ≡ 0x1EFF → ⊥) → put type_info_width rows at ((e.type_code ∷ e.index ∷ e.start ∷ e.size ∷ e.cut ∷ []) ∷ []) ≡ put type_info_width rows at (put_if e)
+  pub put-row : (e.type_code ≡ 0x1EFF → ⊥) → put type_info_width rows at ((e.type_code ∷ e.index ∷ e.name.start ∷ e.name.size ∷ e.name.cut ∷ []) ∷ []) ≡ put type_info_width rows at (put_if e)
   unfolding put_if
   put-row h = rw (ne_eqb e.type_code 0x1EFF h)
 
@@ -149,12 +149,9 @@ step : (s : List ℕ) (p n : ℕ) → p + 8 ≤ length s → infos_at s p (suc n
 unfolding infos_at
 step s p n h = rw (le-leb (p + 8) (length s) h)
 
-one_more : (s : List ℕ) (p n : ℕ) → p + 8 ≤ length s → 0 < n → reported_at s p n ≡ one_of (info_at s p) ++ reported_at s (next_info s p) (n - 1)
+one_more : (s : List ℕ) (p n m : ℕ) → p + 8 ≤ length s → n ≡ suc m → reported_at s p n ≡ one_of (info_at s p) ++ reported_at s (next_info s p) m
 unfolding reported_at
-one_more s p zero h k = absurd (omega arith)
-one_more s p (suc n) h k =
-    let e : suc n - 1 ≡ n = omega arith in
-    ap (keep is_reported_info) (step s p n h) ∙ kept (info_at s p) (infos_at s (next_info s p) n) ∙ rw e
+one_more s p n m h k = rw k (ap (keep is_reported_info) (step s p m h) ∙ kept (info_at s p) (infos_at s (next_info s p) m))
 
 length-one : (i : Info) (is : List Info) → length (one_of i ++ is) ≡ one_if i.type + length is
 unfolding one_if
@@ -193,24 +190,24 @@ put_both i is next rows at =
     ∙ put-append type_info_width rows at (map type_info_row (one_of i)) (map type_info_row is) (info_wide (one_of i))
     ∙ ap₂ (λ l m. put type_info_width (put type_info_width rows at l) (at + m) (map type_info_row is)) (row_of i next) (long i)
 
--- what the code's entry at p says of all from p on
-module _ (s : List ℕ) (p n : ℕ) (e : Entry) (is : e ≡ as_entry (info_at s p) (next_info s p)) (h : p + 8 ≤ length s) (k : 0 < n) where
-  pub inside : e.next ≤ length s
-  inside = rw is (next-inside s p)
+-- what the code's entry at p says of all from p on, of which m are left after it
+pub inside : (s : List ℕ) (p : ℕ) (e : Entry) → e ≡ as_entry (info_at s p) (next_info s p) → e.next ≤ length s
+inside s p e is = rw is (next-inside s p)
 
-  pub counted-more : length (reported_at s p n) ≡ one_if e.type_code + length (reported_at s e.next (n - 1))
-  counted-more = rw is (ap length (one_more s p n h k) ∙ length-one (info_at s p) (reported_at s (next_info s p) (n - 1)))
+module _ (s : List ℕ) (p n m : ℕ) (e : Entry) (is : e ≡ as_entry (info_at s p) (next_info s p)) (h : p + 8 ≤ length s) (k : n ≡ suc m) where
+  pub counted_more : length (reported_at s p n) ≡ one_if e.type_code + length (reported_at s e.next m)
+  counted_more = rw is (ap length (one_more s p n m h k) ∙ length-one (info_at s p) (reported_at s (next_info s p) m))
 
-  pub put-more : (rows : List ℕ) (at : ℕ)
+  pub put_more : (rows : List ℕ) (at : ℕ)
       → put type_info_width rows at (map type_info_row (reported_at s p n))
-      ≡ put type_info_width (put type_info_width rows at (put_if e)) (at + one_if e.type_code) (map type_info_row (reported_at s e.next (n - 1)))
-  put-more rows at =
+      ≡ put type_info_width (put type_info_width rows at (put_if e)) (at + one_if e.type_code) (map type_info_row (reported_at s e.next m))
+  put_more rows at =
       rw is
-      (ap (λ l. put type_info_width rows at (map type_info_row l)) (one_more s p n h k)
-      ∙ put_both (info_at s p) (reported_at s (next_info s p) (n - 1)) (next_info s p) rows at)
+      (ap (λ l. put type_info_width rows at (map type_info_row l)) (one_more s p n m h k)
+      ∙ put_both (info_at s p) (reported_at s (next_info s p) m) (next_info s p) rows at)
 
-  name_in : e.start + e.size ≤ length s
+  name_in : e.name.start + e.name.size ≤ length s
   name_in = rw is (name-inside s p h)
 
   pub row_room : (rows : List ℕ) (at : ℕ) → length s ≤ longest → (at + length (reported_at s p n)) * type_info_width ≤ length rows → RowRoom rows at e
-  row_room rows at l m = record { row = omega (arith, counted-more); start_fits = omega (arith, name_in); size_fits = omega (arith, name_in) }
+  row_room rows at l j = record { row = omega (arith, counted_more); start_fits = omega (arith, name_in); size_fits = omega (arith, name_in) }

@@ -1,11 +1,12 @@
 // The TypeInfo reader: entries are counted first, then written as rows. Names stay bytes of the stream.
 #![tactic(auto)]
 
-ghost use Rattle.std.specs.Prelude.{◌≡◌, map, ◌+◌, ◌≤◌, ◌<◌, ◌^◌, length, drop};
+ghost use Rattle.std.specs.Prelude.{◌≡◌, map, ◌+◌, ◌≤◌, ◌<◌, ◌^◌, length, drop, position, nat_eq, MatchOption};
+ghost use Rattle.rules.specs.Answer.{answer};
 ghost use Rattle.rules.specs.Rows.{type_info_width};
 ghost use Rattle.rules.specs.TypeInfo.{before_nul, nul_terminated, info_at, next_info, type_info_row, type_info_exit};
 ghost use Rattle.rows.specs.Put.{put};
-ghost use Rattle.typeinfo.specs.Entries.{as_named, as_entry, past_tail, header_of, fit_of_lem, reported_at, one_if, put_if, RowRoom, Room};
+ghost use Rattle.typeinfo.specs.Entries.{as_named, as_entry, past_tail, header_of, fit_of_lem, answer_to, answer_of, reported_at, one_if, put_if, RowRoom, Room};
 
 use numbers::{u16_inside, u32_at, u32_inside};
 use rows::{INFO_WIDTH, InfoRow};
@@ -34,6 +35,7 @@ const ACTIVE_X_TAIL: usize = 36;
 const UNREPORTED: u16 = 0x1EFF;
 
 // Where a name stands, and the place after its NUL. `cut` is 1 where the stream's end ended it, 0 where a NUL did.
+// Kept: `cut` is a number, the word of the rows that C lends.
 #[derive(Clone, Copy)]
 pub struct Named {
     pub start: usize,
@@ -42,29 +44,54 @@ pub struct Named {
     pub cut: u32,
 }
 
-// An entry, and where the next one starts.
+// An entry with the name that it goes by, and where the next one starts.
 #[derive(Clone, Copy)]
 pub struct Entry {
     pub type_code: u16,
     pub index: u32,
-    pub start: usize,
-    pub size: usize,
-    pub cut: u32,
+    pub name: Named,
     pub next: usize,
 }
 
-// What the header says: how many entries, or the refusal.
-#[derive(Clone, Copy)]
-pub enum Header {
-    Entries(u32),
-    Refused(u32),
+// Why no row is written. Of rows too few it says how many are asked for.
+#[derive(Clone, Copy, PartialEq, Eq)]
+pub enum Refusal {
+    TooLong,
+    TooShort,
+    OtherMagic,
+    TooManyEntries,
+    TooFewRows(u32),
 }
 
-// Whether the rows lent hold all that is reported, or how many it is.
-#[derive(Clone, Copy)]
-pub enum Fit {
-    Whole,
-    Short(u32),
+fn answer(number: u32, first: u32) -> Answer
+    ensures { result ≡ answer number first 0 0 }
+{
+    Answer {
+        number,
+        first,
+        second: 0,
+        third: 0,
+    }
+}
+
+impl Refusal {
+    fn answer(self) -> Answer
+        ensures { result ≡ answer_to self }
+    {
+        match self {
+            Refusal::TooLong => answer(TOO_LONG, 0),
+            Refusal::TooShort => answer(TOO_SHORT, 0),
+            Refusal::OtherMagic => answer(OTHER_MAGIC, 0),
+            Refusal::TooManyEntries => answer(TOO_MANY_ENTRIES, 0),
+            Refusal::TooFewRows(asked) => answer(MORE_CONTROLS, asked),
+        }
+    }
+}
+
+fn first_nul(s: &[u8]) -> Option<usize>
+    ensures { result ≡ position (λ b. nat_eq b 0) s.now }
+{
+    s.iter().position(|b| *b == 0)
 }
 
 // The first place from `start` on that holds a NUL, or the end.
@@ -72,14 +99,10 @@ fn nul_from(s: &[u8], start: usize) -> usize
     requires { start ≤ length s.now }
     ensures { result ≡ start + before_nul (drop start s.now) }
 {
-    let mut i = start;
-    while i < s.len() {
-        if s[i] == 0 {
-            return i;
-        }
-        i += 1;
+    match first_nul(&s[start..]) {
+        Some(size) => start + size,
+        None => s.len(),
     }
-    i
 }
 
 fn nul_terminated(s: &[u8], start: usize) -> Named
@@ -104,6 +127,7 @@ fn nul_terminated(s: &[u8], start: usize) -> Named
 }
 
 // The place after an entry's names, and after what an ActiveX control has more.
+#[tactic(auto, using(crate::proofs::EntryLaws::tail_cut, crate::proofs::EntryLaws::tail_whole, crate::proofs::EntryLaws::no_tail))]
 fn past_tail(len: usize, type_code: u16, next: usize) -> usize
     requires { next ≤ len }
     ensures { result ≡ past_tail len type_code next }
@@ -127,50 +151,52 @@ fn type_info_entry(s: &[u8], at: usize) -> Entry
     let first = nul_terminated(s, at + ENTRY_HEAD);
     let second = nul_terminated(s, first.next);
     let next = past_tail(s.len(), type_code, second.next);
-    if second.size == 0 {
-        return Entry {
-            type_code,
-            index,
-            start: first.start,
-            size: first.size,
-            cut: first.cut,
-            next,
-        };
-    }
+    let name = if second.size == 0 { first } else { second };
     Entry {
         type_code,
         index,
-        start: second.start,
-        size: second.size,
-        cut: second.cut,
+        name,
         next,
     }
 }
 
+// The entry at `p`, if one can stand there.
+fn entry_from(s: &[u8], p: usize) -> Option<Entry>
+    requires { p ≤ length s.now }
+    ensures { MatchOption result (length s.now < p + 8) (λ e. (p + 8 ≤ length s.now) × (e ≡ as_entry (info_at s.now p) (next_info s.now p))) }
+{
+    if s.len() - p < ENTRY_HEAD {
+        return None;
+    }
+    Some(type_info_entry(s, p))
+}
+
 // How many entries the header says there are, where nothing speaks against it.
-fn type_info_count(s: &[u8]) -> Header
+#[tactic(auto, using(crate::proofs::HeaderLaws::refusals))]
+fn type_info_count(s: &[u8]) -> Result<u32, Refusal>
     ensures { result ≡ header_of s.now }
 {
     if s.len() > LONGEST {
-        return Header::Refused(TOO_LONG);
+        return Err(Refusal::TooLong);
     }
     if s.len() < HEADER_SIZE {
-        return Header::Refused(TOO_SHORT);
+        return Err(Refusal::TooShort);
     }
     let magic = u32_at(s, 0);
     let count = u32_at(s, COUNT_AT);
     let asked = count as usize;
     let most = (s.len() - HEADER_SIZE) / ENTRY_HEAD;
     if magic != MAGIC {
-        return Header::Refused(OTHER_MAGIC);
+        return Err(Refusal::OtherMagic);
     }
     if most < asked {
-        return Header::Refused(TOO_MANY_ENTRIES);
+        return Err(Refusal::TooManyEntries);
     }
-    Header::Entries(count)
+    Ok(count)
 }
 
 // One more where an entry of this type is reported.
+#[tactic(auto, unfolding(crate::specs::Entries::one_if))]
 fn counted(found: u32, type_code: u16) -> u32
     requires { found + 1 < 2 ^ 32 }
     ensures { result ≡ found + one_if type_code }
@@ -187,33 +213,31 @@ fn count_entries(s: &[u8], count: u32) -> u32
     ensures { result ≡ length (reported_at s.now 32 count) }
 {
     let mut p = HEADER_SIZE;
-    let mut left = count;
     let mut found = 0;
-    while 0 < left {
-        if s.len() - p < ENTRY_HEAD {
+    for _ in 0..count {
+        let Some(e) = entry_from(s, p) else {
             return found;
-        }
-        let e = type_info_entry(s, p);
+        };
         found = counted(found, e.type_code);
         p = e.next;
-        left -= 1;
     }
     found
 }
 
 // Entries are counted only where the header's count of them, which is never passed, is above the room.
-fn room_for(s: &[u8], count: u32, room: usize) -> Fit
+#[tactic(auto, using(crate::proofs::EntryLaws::at_most, crate::proofs::ExitLaws::whole, crate::proofs::ExitLaws::short))]
+fn room_for(s: &[u8], count: u32, room: usize) -> Result<(), Refusal>
     requires { 32 ≤ length s.now }
     ensures { result ≡ fit_of_lem room (length (reported_at s.now 32 count)) }
 {
     if count as usize <= room {
-        return Fit::Whole;
+        return Ok(());
     }
     let found = count_entries(s, count);
     if room < found as usize {
-        return Fit::Short(found);
+        return Err(Refusal::TooFewRows(found));
     }
-    Fit::Whole
+    Ok(())
 }
 
 // Writes the entry as row `at` where it is reported, and says which row is next.
@@ -231,9 +255,9 @@ fn put_reported(rows: &mut [u32], at: usize, e: Entry) -> usize
         InfoRow {
             type_code: e.type_code as u32,
             index: e.index,
-            start: e.start as u32,
-            size: e.size as u32,
-            cut: e.cut,
+            start: e.name.start as u32,
+            size: e.name.size as u32,
+            cut: e.name.cut,
         },
     );
     at + 1
@@ -246,18 +270,25 @@ fn write_entries(s: &[u8], count: u32, rows: &mut [u32]) -> usize
     ensures rows_after { rows.new ≡ put type_info_width rows.old 0 (map type_info_row (reported_at s.now 32 count)) }
 {
     let mut p = HEADER_SIZE;
-    let mut left = count;
     let mut at = 0;
-    while 0 < left {
-        if s.len() - p < ENTRY_HEAD {
+    for _ in 0..count {
+        let Some(e) = entry_from(s, p) else {
             return at;
-        }
-        let e = type_info_entry(s, p);
+        };
         at = put_reported(rows, at, e);
         p = e.next;
-        left -= 1;
     }
     at
+}
+
+// Writes all that is reported, or nothing, and says how many rows that is.
+fn write_rows(stream: &[u8], rows: &mut [u32]) -> Result<u32, Refusal>
+    ensures value { answer_of result ≡ (type_info_exit stream.now rows.old).answer }
+    ensures rows_after { rows.new ≡ (type_info_exit stream.now rows.old).rows }
+{
+    let count = type_info_count(stream)?;
+    room_for(stream, count, rows.len() / INFO_WIDTH)?;
+    Ok(write_entries(stream, count, rows) as u32)
 }
 
 // Reads TypeInfo into rows of type code, index, name start, name length, and whether the name was cut.
@@ -265,33 +296,8 @@ pub fn read_type_info(stream: &[u8], rows: &mut [u32]) -> Answer
     ensures value { result ≡ (type_info_exit stream.now rows.old).answer }
     ensures rows_after { rows.new ≡ (type_info_exit stream.now rows.old).rows }
 {
-    let header = type_info_count(stream);
-    match header {
-        Header::Refused(number) => Answer {
-            number,
-            first: 0,
-            second: 0,
-            third: 0,
-        },
-        Header::Entries(count) => {
-            let room = rows.len() / INFO_WIDTH;
-            match room_for(stream, count, room) {
-                Fit::Short(found) => Answer {
-                    number: MORE_CONTROLS,
-                    first: found,
-                    second: 0,
-                    third: 0,
-                },
-                Fit::Whole => {
-                    let found = write_entries(stream, count, rows);
-                    Answer {
-                        number: READ,
-                        first: found as u32,
-                        second: 0,
-                        third: 0,
-                    }
-                }
-            }
-        }
+    match write_rows(stream, rows) {
+        Ok(found) => answer(READ, found),
+        Err(refusal) => refusal.answer(),
     }
 }
