@@ -5,8 +5,10 @@ use mathlib.Core.Path.{◌≡◌, refl, sym, ap, ap₂, ◌∙◌}
 use mathlib.Core.Bool.{Bool, true, false, cond, ◌&&◌, true≢false}
 use mathlib.Core.List.{List, [], ◌∷◌, map}
 use mathlib.Core.Option.{none, some}
-use borrow.Author.Tests.{le-ltb, lt-ltb, ltb-false, le-leb, lt-leb}
-use lib.Dec.{ltb, eqb}
+use borrow.Author.Tests.{le-ltb, lt-ltb, ltb-true, ltb-false, le-leb, lt-leb, leb-true, leb-false, ne_eqb}
+use lib.Dec.{ltb, leb, eqb}
+use Rattle.std.specs.Char.{to_ascii_lowercase}
+use Rattle.std.proofs.lemmas.Str.Ascii.{lowercase_is, lowercase_ascii}
 use lib.ListN.{length, take, drop}
 use lib.Seq.{drop-cons}
 use Rattle.rules.specs.Lists.{all, same}
@@ -67,26 +69,36 @@ unfolding as_byte_lem
 small-byte u h = rw (lt-ltb u 256 h)
 
 -- ---- letters
-pub fold_below : (b : ℕ) → b < 0x41 → b ≡ folded b
-fold_below b h = rw (lt-leb 0x41 b h)
+lower_is : (b : ℕ) → to_ascii_lowercase b ≡ folded b
+lower_is b = go (ltb b 0x41) (leb b 0x5A) refl refl
+  where
+    go : (low inside : Bool) → ltb b 0x41 ≡ low → leb b 0x5A ≡ inside → to_ascii_lowercase b ≡ folded b
+    go true i p q = let h = ltb-true b 0x41 p in (lowercase_is b).1 h ∙ sym (rw (lt-leb 0x41 b h))
+    go false true p q =
+        let h = ltb-false b 0x41 p in
+        let k = leb-true b 0x5A q in
+        (lowercase_is b).0 (h, k) ∙ sym (rw (le-leb 0x41 b h, le-leb b 0x5A k))
+    go false false p q =
+        let h = ltb-false b 0x41 p in
+        let k = leb-false b 0x5A q in
+        (lowercase_is b).2 k ∙ sym (rw (le-leb 0x41 b h, lt-leb b 0x5A k))
 
-pub fold_above : (b : ℕ) → 0x5A < b → b ≡ folded b
-fold_above b h = rw (le-leb 0x41 b (omega arith), lt-leb b 0x5A h)
-
-pub fold_capital : (b : ℕ) → 0x41 ≤ b → b ≤ 0x5A → b + 32 ≡ folded b
-fold_capital b h k = rw (le-leb 0x41 b h, le-leb b 0x5A k)
-
-pub first-beyond : (a b : ℕ) → 128 ≤ a → false ≡ same_letter a b
+-- where a letter is ASCII, one that folds to it is too
+pub matched : (a b : ℕ) → a < 128 → eqb (to_ascii_lowercase a) (to_ascii_lowercase b) ≡ same_letter a b
 unfolding same_letter
-first-beyond a b h = rw (le-ltb a 128 h)
+matched a b h = rw (lt-ltb a 128 h, lower_is a, lower_is b) (go (ltb b 128) refl)
+  where
+    go : (t : Bool) → ltb b 128 ≡ t → eqb (folded a) (folded b) ≡ (t && eqb (folded a) (folded b))
+    go true e = refl
+    go false e =
+        let k = ltb-false b 128 e in
+        let x = sym (lower_is b) ∙ (lowercase_is b).2 (omega arith) in
+        let y = lowercase_ascii a h in
+        ne_eqb (folded a) (folded b) (λ q. omega (arith, x, y, lower_is a, q))
 
-pub second-beyond : (a b : ℕ) → 128 ≤ b → false ≡ same_letter a b
+pub beyond : (a b : ℕ) → 128 ≤ a → false ≡ same_letter a b
 unfolding same_letter
-second-beyond a b h = rw (le-ltb b 128 h) (sym (ap (λ x. x && eqb (folded a) (folded b)) (and-false (is_ascii_lem a))))
-
-pub both_ascii : (a b x y : ℕ) → a < 128 → b < 128 → x ≡ folded a → y ≡ folded b → eqb x y ≡ same_letter a b
-unfolding same_letter
-both_ascii a b x y h k e q = rw (lt-ltb a 128 h, lt-ltb b 128 k) (ap₂ eqb e q)
+beyond a b h = rw (le-ltb a 128 h)
 
 -- letter i of a name, as it is read
 module _ (s : List ℕ) (name : Wanted) (i : ℕ) where

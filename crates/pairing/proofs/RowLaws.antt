@@ -1,12 +1,13 @@
 -- Rows from one place on, and rows by the names of their words.
-use Prim.Native.Nat.{ℕ, suc, ◌+◌, ◌-◌, ◌≤◌, ◌<◌}
+use Prim.Native.Nat.{ℕ, zero, suc, ◌+◌, ◌-◌, ◌≤◌, ◌<◌}
 use native.Mathlib.Omega.{arith}
-use mathlib.Core.Path.{◌≡◌, sym, ap, ◌∙◌}
-use mathlib.Core.Bool.{Bool, true, false, not}
+use mathlib.Core.Path.{◌≡◌, refl, sym, ap, ◌∙◌}
+use mathlib.Core.Bool.{Bool, true, false, ◌&&◌}
 use mathlib.Core.List.{List, [], ◌∷◌}
 use mathlib.Core.Option.{Option, none, some}
-use borrow.Author.Tests.{le-leb, lt-leb, ne_eqb, not-true, not-false}
+use borrow.Author.Tests.{le-leb, lt-leb, ne_eqb}
 use lib.Dec.{leb}
+use Rattle.std.specs.List.{list_all, range_with_len}
 use lib.ListN.{length}
 use Rattle.rules.specs.Lists.{all, find}
 use Rattle.rules.specs.Rows.{row_at, rows_from}
@@ -50,20 +51,11 @@ module _ {A : Type 0} {w m : ℕ} {l : List ℕ} {f : (List ℕ → Bool) → Li
     none_left : m ≤ j → f p (rows_from w 0 m l) ≡ f p []
     none_left h = d.decides ∙ ap (f p) (no_row w m l j h)
 
--- rows judged by p; b is what was said of row j
-module _ {w m : ℕ} {l : List ℕ} {p : List ℕ → Bool} {j : ℕ} (d : Deciding w m l all p j) where
-  pub judged-all : m ≤ j → true ≡ all p (rows_from w 0 m l)
-  unfolding all
-  judged-all h = sym (none_left d h)
-
-  module _ (h : j < m) {b : Bool} (said : b ≡ p (row_at w j l)) where
-    pub judged_bad : not b ≡ true → false ≡ all p (rows_from w 0 m l)
-    unfolding all
-    judged_bad e = sym (first_decides d h ∙ rw (sym said ∙ not-true b e))
-
-    pub judged_good : not b ≡ false → Deciding w m l all p (j + 1)
-    unfolding all
-    judged_good e = first_passed d h (rw (sym said ∙ not-false b e))
+-- n rows judged one by one
+pub rows_all : (p : List ℕ → Bool) (w : ℕ) (l : List ℕ) (i n : ℕ) → list_all (λ k. p (row_at w k l)) (range_with_len i n) ≡ all p (rows_from w i n l)
+unfolding all rows_from
+rows_all p w l i zero = refl
+rows_all p w l i (suc n) = ap (λ b. p (row_at w i l) && b) (rows_all p w l (i + 1) n)
 
 -- the first of them that p tells
 module _ {w m : ℕ} {l : List ℕ} {p : List ℕ → Bool} {j : ℕ} (d : Deciding w m l find p j) where

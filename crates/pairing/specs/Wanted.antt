@@ -1,5 +1,5 @@
 -- A name that is looked for, letter by letter.
-use Rattle.std.specs.Prelude.{ℕ, zero, suc, ◌+◌, ◌*◌, ◌≤◌, ◌<◌, ◌≡◌, Bool, false, cond, ◌&&◌, List, [], ◌∷◌, ltb, eqb, length}
+use Rattle.std.specs.Prelude.{ℕ, zero, suc, ◌+◌, ◌*◌, ◌≤◌, ◌≡◌, Bool, false, cond, ◌&&◌, List, [], ◌∷◌, ltb, eqb, length}
 use Rattle.rules.specs.Bytes.{byte, u16, part}
 use Rattle.rules.specs.Pairing.{is_ascii_lem, folded, names_match}
 use Rattle.pairing.specs.declared.Wanted.{Wanted}
@@ -27,10 +27,6 @@ name_of s name = units_from s name 0 name.letters
 -- its bytes stand inside the stream
 abbrev pub Inside : List ℕ → Wanted → Type 0
 Inside s name = name.start + cond name.wide (2 * name.letters) name.letters ≤ length s
-
-pub record Letter (s : List ℕ) (name : Wanted) (i : ℕ) : Type 0 where
-  pub inside : Inside s name
-  pub one : i < name.letters
 
 -- `false` where the last letters tell that the name isn't that of as many bytes of t from `at` on
 abbrev pub Ends : List ℕ → Wanted → List ℕ → ℕ → Bool → Type 0
