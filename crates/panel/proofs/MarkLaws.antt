@@ -1,63 +1,39 @@
 -- Marks of names: bytes as a number, taken from the last one on; marks that change by a tag or not; rows marked one by one.
-use Prim.Native.Nat.{ℕ, zero, suc, ◌+◌, ◌*◌, ◌-◌, ◌%◌, ◌^◌, ◌≤◌, ◌<◌}
+use Prim.Native.Nat.{ℕ, zero, suc, ◌+◌, ◌*◌, ◌%◌, ◌^◌, ◌≤◌, ◌<◌}
 use native.Mathlib.Omega.{arith}
 use native.Mathlib.Nat.{mul-le-mul}
 use mathlib.Core.Path.{◌≡◌, refl, sym, ap, ap₂, subst, ◌∙◌}
 use mathlib.Core.Bool.{Bool, true, false, cond}
-use mathlib.Core.List.{List, [], ◌∷◌}
+use mathlib.Core.List.{List, [], ◌∷◌, reverse}
+use Rattle.std.specs.Prelude.{Ok, Err}
+use Rattle.std.specs.List.{fold}
+use Rattle.std.proofs.lemmas.List.{reverse-append}
+use Rattle.std.proofs.lemmas.List.Sums.{fold-append}
 use mathlib.Core.Logic.{◌⊎◌, inl, inr}
 use borrow.Author.Tests.{eqb-true, eqb-false, eq-eqb, ne_eqb}
 use lib.Dec.{eqb}
 use lib.ListN.{length, get_or, set, length-set}
-use lib.Seq.{drop-cons, get_or-set_same, get_or-set_other}
+use lib.Seq.{get_or-set_same, get_or-set_other}
 use Rattle.rules.specs.Lists.{all, same}
-use Rattle.rules.specs.Bytes.{byte, part}
 use Rattle.rules.specs.Panel.{is_new_name}
 use Rattle.joinlaws.proofs.JoinedLaws.{same_true}
-use Rattle.panel.specs.ByRows.{start_at, size_at, bytes_at, names_before, rule_of}
-use Rattle.panel.specs.Marks.{spread, place_by, place_of, tag_of, changed, IsMarked, Marked, Noted, Tried}
+use Rattle.panel.specs.ByRows.{bytes_at, names_before, rule_of}
+use Rattle.panel.specs.Marks.{spread, place_by, place_of, tag_of, changed, IsMarked, Marked, Noted}
+use Rattle.panel.specs.Tried.{rule_number, Tried}
+use Rattle.panel.specs.declared.Rule.{Rule}
+use Rattle.panel.specs.declared.Rule.TheVariants.{NoTypeName, OtherName, SameName, NoSource, BadPlace, TooDeep}
 use Rattle.panel.proofs.RuleLaws.{Judging}
 
 -- ---- bytes as a number
-spread-small : (bs : List ℕ) → spread bs < 0x100000000
+-- the number, after one byte more
+abbrev pub spread_on : ℕ → ℕ → ℕ
+spread_on n b = (n * 16777619 % 2 ^ 32 + b) % 2 ^ 32
+
+pub spread_fold : (bs : List ℕ) → fold spread_on 0 (reverse bs) ≡ spread bs
 unfolding spread
-spread-small [] = omega arith
-spread-small (b ∷ bs) = omega arith
-
-first_of : (s : List ℕ) (p n : ℕ) → p < length s → part s p (suc n) ≡ byte s p ∷ part s (suc p) n
-first_of s p n h = rw (drop-cons s p 0 h)
-
--- the bytes from the k-th on are spread
-pub record Spreading (s : List ℕ) (start size k n : ℕ) : Type 0 where
-  pub within : k ≤ size
-  pub spread-is : n ≡ spread (part s (start + k) (size - k))
-
-pub spreading_start : (s : List ℕ) (start size : ℕ) → Spreading s start size size 0
-unfolding spread
-spreading_start s start size = record { within = omega arith; spread-is = let e : size - size ≡ 0 = omega arith in rw e }
-
-module _ {s : List ℕ} {start size k n : ℕ} (c : Spreading s start size k n) where
-  pub number_small : n < 0x100000000
-  number_small = omega (arith, spread-small (part s (start + k) (size - k)), c.spread-is)
-
-  pub spreading_next : start + size ≤ length s → 0 < k → (b : ℕ) → b ≡ byte s (start + (k - 1)) → Spreading s start size (k - 1) ((n * 16777619 + b) % 0x100000000)
-  unfolding spread
-  spreading_next l z b is =
-      let w = c.within in
-      let more : size - (k - 1) ≡ suc (size - k) = omega arith in
-      let after : suc (start + (k - 1)) ≡ start + k = omega arith in
-      record {
-        within = omega arith;
-        spread-is = ap₂ (λ (x y : ℕ). (x * 16777619 + y) % 0x100000000) c.spread-is is
-            ∙ sym (ap spread (ap (part s (start + (k - 1))) more ∙ first_of s (start + (k - 1)) (size - k) (omega arith) ∙ ap (λ p. byte s (start + (k - 1)) ∷ part s p (size - k)) after));
-      }
-
-  pub spread-all : k ≤ 0 → n ≡ spread (part s start size)
-  spread-all z =
-      let e : k ≡ 0 = omega arith in
-      let a : start + k ≡ start = omega arith in
-      let b : size - k ≡ size = omega arith in
-      c.spread-is ∙ ap₂ (λ p j. spread (part s p j)) a b
+spread_fold [] = refl
+spread_fold (b ∷ bs) =
+    ap (fold spread_on 0) (reverse-append (b ∷ []) bs) ∙ fold-append spread_on 0 (reverse bs) (b ∷ []) ∙ ap (λ n. spread_on n b) (spread_fold bs) ∙ omega arith
 
 -- ---- its place
 pub square_small : (n : ℕ) → n < 0x100000000 → n * n < 2 ^ 64
@@ -171,18 +147,26 @@ module _ {s cs : List ℕ} {n : ℕ} {marks : List ℕ} (m : Marked s cs n marks
         }
 
 -- ---- rows tried
-pub tried_broken : {s cs ps : List ℕ} {i : ℕ} {marks : List ℕ} (rule : ℕ) → 0 < rule → rule ≡ rule_of s cs ps i → Tried s cs ps i marks rule
-tried_broken rule z e = record { told = e; marked = λ q. absurd (omega arith) }
+pub positive : (rule : Rule) → 0 < rule_number rule
+positive NoTypeName = omega arith
+positive OtherName = omega arith
+positive SameName = omega arith
+positive NoSource = omega arith
+positive BadPlace = omega arith
+positive TooDeep = omega arith
 
-pub tried_kept : {s cs ps : List ℕ} {i : ℕ} {marks : List ℕ} (start size : ℕ) {new : Bool} → start ≡ start_at cs i → size ≡ size_at cs i → Noted s cs i (part s start size) marks new
-    → 0 ≡ rule_of s cs ps i → Tried s cs ps i marks 0
-tried_kept {s} {cs} {ps} {i} {marks} start size p q d e = record { told = e; marked = λ z. record { all-places = d.earlier.all-places; set = set_to } }
+pub tried_broken : {s cs ps : List ℕ} {i : ℕ} {marks : List ℕ} (rule : Rule) → rule_number rule ≡ rule_of s cs ps i → Tried s cs ps i marks (Err rule)
+tried_broken rule e = let z = positive rule in record { told = e; marked = λ q. absurd (omega arith) }
+
+pub tried_kept : {s cs ps : List ℕ} {i : ℕ} {marks name : List ℕ} {new : Bool} (u : Unit {0}) → name ≡ bytes_at s cs i → Noted s cs i name marks new
+    → 0 ≡ rule_of s cs ps i → Tried s cs ps i marks (Ok u)
+tried_kept {s} {cs} {ps} {i} {marks} u p d e = record { told = e; marked = λ z. record { all-places = d.earlier.all-places; set = set_to } }
   where
     set_to : (j : ℕ) → j < i + 1 → IsMarked marks (bytes_at s cs j)
     set_to j l = go (eqb j i) refl
       where
         go : (b : Bool) → eqb j i ≡ b → IsMarked marks (bytes_at s cs j)
-        go true y = let same_row = eqb-true j i y in rw (same_row, ← p, ← q) d.this
+        go true y = let same_row = eqb-true j i y in rw (same_row, ← p) d.this
         go false y = d.earlier.set j (omega (arith, eqb-false j i y))
 
 -- the rows from i on decide, and those before it are marked

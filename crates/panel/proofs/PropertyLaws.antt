@@ -2,18 +2,21 @@
 use Prim.Native.Nat.{ℕ, zero, suc, ◌+◌, ◌-◌, ◌≤◌, ◌<◌}
 use native.Mathlib.Omega.{arith}
 use mathlib.Core.Path.{◌≡◌, refl, sym, ap, ◌∙◌}
-use mathlib.Core.Bool.{Bool, true, false, cond, not, ◌&&◌, ◌||◌}
+use mathlib.Core.Bool.{Bool, true, false, ◌&&◌}
 use mathlib.Core.List.{List, [], ◌∷◌}
 use mathlib.Core.Logic.{◌⊎◌, inl, inr}
-use borrow.Author.Tests.{lt-ltb, le-ltb, eq-eqb, ne_eqb}
+use borrow.Author.Tests.{ltb-true, ltb-false, eq-eqb, ne_eqb}
 use lib.Dec.{eqb, ltb, leb}
 use Rattle.rules.specs.Lists.{all, keep}
 use Rattle.rules.specs.Rows.{property_width, row_at}
-use Rattle.rules.specs.Listing.{word}
 use Rattle.rules.specs.declared.Property.{Property}
 use Rattle.rules.specs.Panel.{is_source, is_box, is_one_text, is_filled, is_placing, is_placed, left_id, top_id, width_id, height_id}
 use Rattle.rows.specs.Get.{shown_by_lem, properties_from}
-use Rattle.panel.specs.ByRows.{between, sources_at, NextSource}
+use Rattle.std.specs.List.{list_all, range_with_len}
+use Rattle.panel.specs.ByRows.{between}
+use Rattle.std.specs.Prelude.{Option, Some, None, MatchOption}
+use Rattle.std.specs.Option.{is_some}
+use Rattle.panel.specs.Sources.{SourceAt, NextSource}
 
 and-true : (b : Bool) → (b && true) ≡ b
 and-true true = refl
@@ -37,57 +40,70 @@ pub counted : (ps : List ℕ) (k n : ℕ) → between ps k (k + n) ≡ propertie
 counted ps k n = let e : k + n - k ≡ n = omega arith in rw e
 
 -- ---- the next source
-pub record Seeking (ps : List ℕ) (from to j : ℕ) : Type 0 where
-  pub within : j ≤ to
-  pub left : keep is_source (between ps from to) ≡ keep is_source (between ps j to)
-
-module _ {ps : List ℕ} {from to j : ℕ} (c : Seeking ps from to j) where
-  pub source-here : j < to → word (row_at property_width j ps) 0 ≡ 0x001B → NextSource ps from to j
+module _ (ps : List ℕ) (from to : ℕ) where
+  -- n rows that are none
+  passed : (n : ℕ) → from + n ≤ to → ((k : ℕ) → from ≤ k → k < from + n → is_source (shown_by_lem (row_at property_width k ps)) ≡ false)
+      → keep is_source (between ps from to) ≡ keep is_source (between ps (from + n) to)
   unfolding keep
-  source-here h e = record {
-    within = c.within;
-    sources = c.left ∙ rw (next_row ps to j h, lt-ltb j to h, eq-eqb (word (row_at property_width j ps) 0) 0x001B e);
+  passed zero h none = let e : from ≡ from + 0 = omega arith in ap (λ (k : ℕ). keep is_source (between ps k to)) e
+  passed (suc n) h none =
+      let e : from + n + 1 ≡ from + suc n = omega arith in
+      passed n (omega arith) (λ k l u. none k l (omega arith))
+      ∙ rw (next_row ps to (from + n) (omega arith), none (from + n) (omega arith) (omega arith), e)
+
+  pub first_source : (at : ℕ) → from ≤ at → at < to → is_source (shown_by_lem (row_at property_width at ps)) ≡ true
+      → ((k : ℕ) → from ≤ k → k < at → is_source (shown_by_lem (row_at property_width k ps)) ≡ false) → SourceAt ps from to at
+  unfolding keep
+  first_source at l h e none = record {
+    within = h;
+    sources =
+        let n : from + (at - from) ≡ at = omega arith in
+        passed (at - from) (omega arith) (λ k u v. none k u (omega arith)) ∙ rw (n, next_row ps to at h, e);
   }
 
-  pub source-later : j < to → (word (row_at property_width j ps) 0 ≡ 0x001B → ⊥) → Seeking ps from to (j + 1)
+  pub no_source : ((k : ℕ) → from ≤ k → k < to → is_source (shown_by_lem (row_at property_width k ps)) ≡ false) → keep is_source (between ps from to) ≡ []
   unfolding keep
-  source-later h e = record {
-    within = omega arith;
-    left = c.left ∙ rw (next_row ps to j h, ne_eqb (word (row_at property_width j ps) 0) 0x001B e);
-  }
+  no_source none = go (ltb to from) refl
+    where
+      go : (b : Bool) → ltb to from ≡ b → keep is_source (between ps from to) ≡ []
+      go true e = let h = ltb-true to from e in rw (no_row ps to from (omega arith))
+      go false e =
+          let h = ltb-false to from e in
+          let n : from + (to - from) ≡ to = omega arith in
+          passed (to - from) (omega arith) (λ k u v. none k u (omega arith)) ∙ rw (n, no_row ps to to (omega arith))
 
-  pub no_source : to ≤ j → NextSource ps from to to
-  unfolding keep
-  no_source h = record { within = omega arith; sources = c.left ∙ rw (no_row ps to j h, le-ltb to to (omega arith)) }
+pub found : (ps : List ℕ) (from to : ℕ) (r : Option ℕ)
+    → MatchOption r ((k : ℕ) → from ≤ k → k < to → is_source (shown_by_lem (row_at property_width k ps)) ≡ false)
+    (λ at. (from ≤ at) × (at < to) × (is_source (shown_by_lem (row_at property_width at ps)) ≡ true) × ((k : ℕ) → from ≤ k → k < at → is_source (shown_by_lem (row_at property_width k ps)) ≡ false))
+    → NextSource ps from to r
+found ps from to None h = no_source ps from to h
+found ps from to (Some at) h = first_source ps from to at h.0 h.1 h.2 h.3
+
+pub no_other : (ps : List ℕ) (from to : ℕ) (next : Option ℕ) → NextSource ps from to next → is_some next ≡ false → keep is_source (between ps from to) ≡ []
+no_other ps from to None m e = m
+no_other ps from to (Some next) m e = cc
 
 -- ---- one source
-module _ {ps : List ℕ} {from to at : ℕ} (n : NextSource ps from to at) where
-  pub none_at_all : at ≡ to → false ≡ is_one_text (keep is_source (between ps from to))
+pub none_at_all : (ps : List ℕ) (from to : ℕ) → keep is_source (between ps from to) ≡ [] → false ≡ is_one_text (keep is_source (between ps from to))
+unfolding is_one_text
+none_at_all ps from to e = rw e
+
+module _ {ps : List ℕ} {from to at : ℕ} (n : SourceAt ps from to at) where
+  pub two_sources : (next : Option ℕ) → NextSource ps (at + 1) to next → is_some next ≡ true → false ≡ is_one_text (keep is_source (between ps from to))
   unfolding is_one_text
-  none_at_all e = rw (n.sources, le-ltb at to (omega arith))
+  two_sources None m e = cc
+  two_sources (Some next) m e = rw (n.sources, m.sources)
 
-  module _ (other : (at ≡ to → ⊥)) where
-    pub there : at < to
-    there = let w = n.within in omega arith
+  module _ {p : Property} (is : p ≡ shown_by_lem (row_at property_width at ps)) (alone : keep is_source (between ps (at + 1) to) ≡ []) where
+    by-property : is_one_text (keep is_source (between ps from to)) ≡ (eqb p.value.mark 6 && leb 1 p.size)
+    unfolding is_one_text
+    by-property = rw (n.sources, alone) (ap (λ p. eqb p.value.mark 6 && leb 1 p.size) (sym is))
 
-    module _ {next : ℕ} (m : NextSource ps (at + 1) to next) where
-      pub two-sources : next < to → false ≡ is_one_text (keep is_source (between ps from to))
-      unfolding is_one_text
-      two-sources h = rw (n.sources, lt-ltb at to there, m.sources, lt-ltb next to h)
+    pub not_text : (p.value.mark ≡ 6 → ⊥) → false ≡ is_one_text (keep is_source (between ps from to))
+    not_text e = sym (by-property ∙ rw (ne_eqb p.value.mark 6 e))
 
-      one-source : to ≤ next → is_one_text (keep is_source (between ps from to)) ≡ (eqb (shown_by_lem (row_at property_width at ps)).value.mark 6 && leb 1 (shown_by_lem (row_at property_width at ps)).size)
-      unfolding is_one_text
-      one-source h = rw (n.sources, lt-ltb at to there, m.sources, le-ltb next to h)
-
-      module _ {p : Property} (is : p ≡ shown_by_lem (row_at property_width at ps)) (h : to ≤ next) where
-        by-property : is_one_text (keep is_source (between ps from to)) ≡ (eqb p.value.mark 6 && leb 1 p.size)
-        by-property = one-source h ∙ ap (λ p. eqb p.value.mark 6 && leb 1 p.size) (sym is)
-
-        pub not_text : (p.value.mark ≡ 6 → ⊥) → false ≡ is_one_text (keep is_source (between ps from to))
-        not_text e = sym (by-property ∙ rw (ne_eqb p.value.mark 6 e))
-
-        pub by-size : p.value.mark ≡ 6 → ltb 0 p.size ≡ is_one_text (keep is_source (between ps from to))
-        by-size e = sym (by-property ∙ rw (eq-eqb p.value.mark 6 e))
+    pub by_size : p.value.mark ≡ 6 → ltb 0 p.size ≡ is_one_text (keep is_source (between ps from to))
+    by_size e = sym (by-property ∙ rw (eq-eqb p.value.mark 6 e))
 
 pub no_box_filled : (type : ℕ) (ps : List Property) → is_box type ≡ false → true ≡ is_filled type ps
 unfolding is_filled
@@ -118,19 +134,8 @@ module _ (p : Property) where
   unfolding is_placing
   no_place a b = rw (ne_eqb p.id left_id (λ e. a (inl e)), ne_eqb p.id top_id (λ e. a (inr e)), ne_eqb p.id width_id (λ e. b (inr e)), ne_eqb p.id height_id (λ e. b (inl e)))
 
-pub record Placing (ps : List ℕ) (from to j : ℕ) : Type 0 where
-  pub within : j ≤ to
-  pub left : is_placed (between ps from to) ≡ is_placed (between ps j to)
-
-module _ {ps : List ℕ} {from to j : ℕ} (c : Placing ps from to j) where
-  pub place_bad : j < to → is_placing (here ps to j) ≡ false → false ≡ is_placed (between ps from to)
-  unfolding is_placed all
-  place_bad h e = sym (c.left ∙ rw (next_row ps to j h, e))
-
-  pub place_good : j < to → is_placing (here ps to j) ≡ true → Placing ps from to (j + 1)
-  unfolding is_placed all
-  place_good h e = record { within = omega arith; left = c.left ∙ rw (next_row ps to j h, e) }
-
-  pub places-end : to ≤ j → true ≡ is_placed (between ps from to)
-  unfolding is_placed all
-  places-end h = sym (c.left ∙ rw (no_row ps to j h))
+-- rows from one to another, each placed
+pub all_placed : (ps : List ℕ) (j n : ℕ) → list_all (λ k. is_placing (shown_by_lem (row_at property_width k ps))) (range_with_len j n) ≡ is_placed (properties_from ps j n)
+unfolding is_placed all properties_from
+all_placed ps j zero = refl
+all_placed ps j (suc n) = ap (λ b. is_placing (shown_by_lem (row_at property_width j ps)) && b) (all_placed ps (j + 1) n)

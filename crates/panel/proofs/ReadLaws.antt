@@ -1,23 +1,17 @@
 -- What is read, as controls again: the rows of a reading show its controls, so they are judged as the reading is.
-use Prim.Native.Nat.{ℕ, zero, suc, ◌+◌, ◌*◌, ◌/◌, ◌≤◌, ◌<◌}
+use Prim.Native.Nat.{ℕ, zero, suc, ◌+◌, ◌≤◌, ◌<◌}
 use native.Mathlib.Omega.{arith}
 use mathlib.Core.Path.{◌≡◌, refl, sym, ap, ap₂, subst, ◌∙◌}
-use mathlib.Core.Bool.{Bool, true, false, cond}
-use mathlib.Core.List.{List, [], ◌∷◌}
+use mathlib.Core.List.{List, ◌∷◌}
 use mathlib.Core.Logic.{inl}
-use mathlib.Core.Option.{some}
-use lib.Dec.{eqb}
-use lib.ListN.{length, get_or, take}
+use lib.ListN.{length}
 use lib.Seq.{length-sets}
 use Rattle.rules.specs.Rows.{control_width, property_width, room, row_at}
 use Rattle.rules.specs.Listing.{word}
-use Rattle.rules.specs.Reading.{Control, Reading, properties, name_words, control_row, property_row}
+use Rattle.rules.specs.Reading.{Reading, properties}
 use Rattle.rules.specs.Lists.{concat}
 use Rattle.rules.specs.Blob.{Outcome, refused, read, answer_of, controls_shown, outcome, Exit, exit_by_lem, exit}
 use Rattle.rules.specs.declared.Answer.{Answer}
-use Rattle.rules.specs.declared.Property.{Property}
-use Rattle.rules.specs.declared.Name.{Name}
-use Rattle.rules.specs.declared.Name.TheVariants.{Text, Numbered, Loose}
 use Rattle.rules.specs.Panel.{broken, verdict, panel_answer, panel_exit}
 use Rattle.claims.specs.Panels.{shown_properties, shown_control, shown_controls}
 use Rattle.claims.proofs.RowsSeen as seen

@@ -2,11 +2,11 @@
 use Prim.Native.Nat.{ℕ, suc, ◌+◌, ◌-◌, ◌≤◌, ◌<◌}
 use native.Mathlib.Omega.{arith}
 use native.Mathlib.Numerals.{add-one}
-use mathlib.Core.Path.{◌≡◌, refl, sym, ap, ap₂, ◌∙◌}
+use mathlib.Core.Path.{◌≡◌, refl, sym, ap, ◌∙◌}
 use mathlib.Core.Bool.{Bool, true, false, cond}
 use mathlib.Core.List.{List, [], ◌∷◌}
 use mathlib.Core.Option.{Option, none, some}
-use borrow.Author.Tests.{eqb-true, eq-eqb, ne_eqb, le-leb, lt-leb}
+use borrow.Author.Tests.{eqb-true, eqb-false, eq-eqb, ne_eqb, le-leb, lt-leb}
 use lib.Dec.{eqb, leb}
 use Rattle.rules.specs.Answer.{answer}
 use Rattle.rules.specs.Listing.{word}
@@ -49,7 +49,7 @@ module _ (s cs ps : List ℕ) (i : ℕ) (r : ControlRow) where
   named = has_type_name r.type_code
 
   abbrev new : Bool
-  new = is_new_name (names_before s cs i) (part s r.start r.size)
+  new = is_new_name (names_before s cs i) (bytes_at s cs i)
 
   abbrev filled : Bool
   filled = is_filled r.type_code (between ps r.first (r.first + r.count))
@@ -78,7 +78,7 @@ module _ (s cs ps : List ℕ) (i : ℕ) (r : ControlRow) where
         with-text : rule_of s cs ps i ≡ rule_or0 (first_broken 1 (named ∷ true ∷ new ∷ filled ∷ placed ∷ leb r.level 7 ∷ []))
         with-text =
             let m = by-mark s i (word (row_of cs i) 1) (word (row_of cs i) 2) (word (row_of cs i) 3) (sym o.mark ∙ h₂) in
-            rule-is true new m.0 (ap (is_new_name (names_before s cs i)) (m.1 ∙ ap₂ (λ (a b : ℕ). part s a b) (sym o.start) (sym o.size)))
+            rule-is true new m.0 (ap (is_new_name (names_before s cs i)) m.1)
 
         pub rule_3 : false ≡ new → 3 ≡ rule_of s cs ps i
         unfolding first_broken
@@ -123,6 +123,17 @@ rule_some (some x) rule e h = ap some e
 rule-none : (o : Option ℕ) → ((x : ℕ) → o ≡ some x → 1 ≤ x) → rule_or0 o ≡ 0 → o ≡ none
 rule-none none h e = refl
 rule-none (some x) h e = let l = h x refl in absurd (omega (arith, e, l))
+
+-- ---- the rows before one, and it
+pub before_next : {s cs : List ℕ} {n i : ℕ} → Rows s cs n → Before s cs i → i < n → mark_at cs i ≡ 0 → Before s cs (i + 1)
+before_next {s} {cs} {n} {i} rows b h mark = record { lent = omega (arith, rows.lent); inside = inside }
+  where
+    inside : (k : ℕ) → k < i + 1 → Inside s cs k
+    inside k l = go (eqb k i) refl
+      where
+        go : (t : Bool) → eqb k i ≡ t → Inside s cs k
+        go true q = let same = eqb-true k i q in rw same (rows.named i h mark)
+        go false q = b.inside k (omega (arith, eqb-false k i q))
 
 -- ---- the first row
 pub record Judging (s cs ps : List ℕ) (n i : ℕ) : Type 0 where
@@ -177,18 +188,8 @@ module _ {s cs ps : List ℕ} {n i : ℕ} (rows : Rows s cs n) (j : Judging s cs
     row_kept = record {
       within = omega arith;
       decides = here h ∙ ap (λ o. row_or i o (later (name_bytes s i row.name))) untouched ∙ ap later its-bytes ∙ next;
-      before = record { lent = omega (arith, rows.lent); inside = inside };
+      before = before_next rows j.before h mark_0;
     }
-      where
-        inside : (k : ℕ) → k < i + 1 → Inside s cs k
-        inside k l = go (eqb k i) refl
-          where
-            go : (b : Bool) → eqb k i ≡ b → Inside s cs k
-            go true q = let same = eqb-true k i q in rw same (rows.named i h mark_0)
-            go false q = j.before.inside k (omega (arith, ne q))
-              where
-                ne : eqb k i ≡ false → (k ≡ i → ⊥)
-                ne q z = let w : ◌≡◌ {A = Bool} true false = sym (eq-eqb k i z) ∙ q in let z : ◌≡◌ {A = ℕ} 0 1 = cc in omega arith
 
   pub all-kept : n ≤ i → answer 0 1 0 0 ≡ verdict (broken s (controls_from cs ps 0 n))
   unfolding controls_from broken_from

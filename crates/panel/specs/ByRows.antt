@@ -1,16 +1,15 @@
 -- Controls by their rows, and the names of the rows before one.
-use Rattle.std.specs.Prelude.{ℕ, zero, suc, ◌+◌, ◌*◌, ◌-◌, ◌≤◌, ◌<◌, ◌≡◌, cond, List, [], ◌∷◌, eqb, ltb, length}
+use Rattle.std.specs.Prelude.{ℕ, zero, suc, ◌+◌, ◌*◌, ◌-◌, ◌≤◌, ◌<◌, ◌≡◌, cond, List, [], ◌∷◌, eqb, length}
 use Rattle.std.proofs.Math.Option.{Option, none, some}
-use Rattle.rules.specs.Lists.{keep}
 use Rattle.rules.specs.Bytes.{part}
-use Rattle.rules.specs.Rows.{control_width, property_width, row_at}
+use Rattle.rules.specs.Rows.{control_width, row_at}
 use Rattle.rules.specs.Listing.{word}
 use Rattle.rules.specs.Reading.{Control}
 use Rattle.rules.specs.declared.Property.{Property}
 use Rattle.rules.specs.declared.Name.{Name}
 use Rattle.rules.specs.declared.Name.TheVariants.{Text, Numbered, Loose}
-use Rattle.rules.specs.Panel.{is_source, kept, first_broken}
-use Rattle.rows.specs.Get.{shown_by_lem, properties_from}
+use Rattle.rules.specs.Panel.{kept, first_broken}
+use Rattle.rows.specs.Get.{properties_from}
 
 -- ---- words
 abbrev pub row_of : List ℕ → ℕ → List ℕ
@@ -60,14 +59,6 @@ names_before s cs (suc n) = bytes_at s cs n ∷ names_before s cs n
 -- ---- properties from one row to another
 abbrev pub between : List ℕ → ℕ → ℕ → List Property
 between ps from to = properties_from ps from (to - from)
-
--- the sources from row `at` on, where that is one; none where it is the end
-abbrev pub sources_at : List ℕ → ℕ → ℕ → List Property
-sources_at ps at to = cond (ltb at to) (shown_by_lem (row_at property_width at ps) ∷ keep is_source (between ps (at + 1) to)) []
-
-pub record NextSource (ps : List ℕ) (from to at : ℕ) : Type 0 where
-  pub within : at ≤ to
-  pub sources : keep is_source (between ps from to) ≡ sources_at ps at to
 
 -- ---- what is asked of the rows that are judged
 abbrev pub Inside : List ℕ → List ℕ → ℕ → Type 0

@@ -1,7 +1,7 @@
 -- Marks of names: where that of a name is, and that the rows before one have theirs set. How names are spread over the places matters to time alone.
 use Rattle.std.specs.Prelude.{ℕ, ◌+◌, ◌*◌, ◌/◌, ◌%◌, ◌<◌, ◌≡◌, Bool, cond, List, [], ◌∷◌, eqb, length, get_or}
 use Rattle.rules.specs.Panel.{is_new_name}
-use Rattle.panel.specs.ByRows.{bytes_at, names_before, rule_of}
+use Rattle.panel.specs.ByRows.{bytes_at, names_before}
 
 abbrev pub places : ℕ
 places = 16384
@@ -42,8 +42,3 @@ pub record Noted (s cs : List ℕ) (n : ℕ) (name marks : List ℕ) (new : Bool
   pub told : new ≡ is_new_name (names_before s cs n) name
   pub earlier : Marked s cs n marks
   pub this : IsMarked marks name
-
--- row i tried: the rule that it breaks, or 0; then it is marked too
-pub record Tried (s cs ps : List ℕ) (i : ℕ) (marks : List ℕ) (rule : ℕ) : Type 0 where
-  pub told : rule ≡ rule_of s cs ps i
-  pub marked : rule ≡ 0 → Marked s cs (i + 1) marks

@@ -1,38 +1,61 @@
 // The rules of panels: a Blob is read, and its control rows are judged one by one.
 #![tactic(auto)]
 
-ghost use Rattle.std.specs.Prelude.{◌≡◌, ◌+◌, ◌≤◌, ◌<◌, length};
+ghost use Rattle.std.specs.Prelude.{◌≡◌, ◌+◌, ◌<◌, ◌^◌, length};
 ghost use Rattle.rules.specs.Lists.{keep, same};
-ghost use Rattle.rules.specs.Bytes.{part};
+ghost use Rattle.rules.specs.Rows.{property_width, row_at};
 ghost use Rattle.rules.specs.Answer.{answer};
 ghost use Rattle.rules.specs.Panel.{has_type_name, is_new_name, is_box, is_source, is_one_text, is_filled, is_placing, is_placed, broken, verdict, panel_exit};
 ghost use Rattle.names.specs.Lookup.{Lent};
+ghost use Rattle.rows.specs.Get.{shown_by_lem};
 ghost use Rattle.blob.specs.Exit.{exited};
-ghost use Rattle.panel.specs.ByRows.{controls_from, bytes_at, names_before, between, NextSource, Rows, Before};
+ghost use Rattle.panel.specs.ByRows.{controls_from, bytes_at, names_before, between, Rows, Before};
+ghost use Rattle.panel.specs.Sources.{NextSource};
 ghost use Rattle.panel.specs.Marks as marked;
-ghost use Rattle.panel.specs.Marks.{spread, place_by, tag_by, Marked, Noted, Tried};
+ghost use Rattle.panel.specs.Marks.{spread, place_by, tag_by, Marked, Noted};
+ghost use Rattle.panel.specs.Tried.{rule_number, Tried};
 
-use numbers::number_of;
 use rows::{CONTROL_WIDTH, get_control, get_id, get_property};
-use rules::{Answer, MARK_SHORT, MARK_TEXT, NAME_TEXT, Property};
+use rules::{Answer, MARK_SHORT, MARK_TEXT, NAME_TEXT};
 
-// The rules by their numbers: what a row breaks. 0 is none.
-const NO_TYPE_NAME: u32 = 1;
+// What a row breaks, by the numbers that an answer gives.
+#[derive(Clone, Copy, PartialEq, Eq)]
+enum Rule {
+    NoTypeName = 1,
+    OtherName = 2,
+    SameName = 3,
+    NoSource = 4,
+    BadPlace = 5,
+    TooDeep = 6,
+}
 
-const OTHER_NAME: u32 = 2;
+impl From<Rule> for u32 {
+    ghost from_gives = { λ rule n. n ≡ rule_number rule };
 
-const SAME_NAME: u32 = 3;
+    fn from(rule: Rule) -> u32 {
+        rule as u32
+    }
+}
 
-const NO_SOURCE: u32 = 4;
+// The rows of a reading, with its stream.
+#[derive(Clone, Copy)]
+struct Reading<'a> {
+    stream: &'a [u8],
+    controls: &'a [u32],
+    properties: &'a [u32],
+    count: u32,
+    ghost rows: { Rows stream.now controls.now count },
+}
 
-const BAD_PLACE: u32 = 5;
-
-const TOO_DEEP: u32 = 6;
+// The table of type names.
+#[derive(Clone, Copy)]
+struct TypeNames<'a> {
+    index: &'a [u32],
+    letters: &'a [u8],
+    ghost lent: { Lent index.now letters.now },
+}
 
 const DEEPEST: u32 = 7;
-
-// Types have 16 bits.
-const LAST_TYPE: u32 = 0xFFFF;
 
 // The types of text boxes and combo boxes, as a Blob has them and as TypeInfo has them for forms and for reports.
 const TEXT_BOX: u32 = 0x006D;
@@ -74,84 +97,41 @@ const TAGS: u32 = 254;
 const SEVERAL: u8 = 255;
 
 // How bytes are spread: multiplied, kept to 32 bits; the place is the middle of the square.
-const SPREAD: usize = 16777619;
-
-const WORD: usize = 0x100000000;
+const SPREAD: u32 = 16777619;
 
 const MIDDLE: usize = 0x2000000;
 
 // ---- rule 1
-fn has_type_name(index: &[u32], letters: &[u8], type_code: u32) -> bool
-    requires { Lent index.now letters.now }
-    ensures { result ≡ has_type_name type_code }
-{
-    if LAST_TYPE < type_code {
-        return false;
+impl<'a> TypeNames<'a> {
+    fn has(self, type_code: u32) -> bool
+        ensures { result ≡ has_type_name type_code }
+    {
+        let Ok(code) = u16::try_from(type_code) else {
+            return false;
+        };
+        !names::type_name_in(self.index, self.letters, code).is_empty()
     }
-    names::type_name_in(index, letters, type_code as u16).len() != 0
 }
 
 // ---- rule 3
 // From the last byte on: the names of a form often differ in their last letters alone.
-fn same_bytes(s: &[u8], one: usize, other: usize, size: usize) -> bool
-    requires { (one + size ≤ length s.now) × (other + size ≤ length s.now) }
-    ensures { result ≡ same (part s.now one size) (part s.now other size) }
+fn same_bytes(a: &[u8], b: &[u8]) -> bool
+    ensures { result ≡ same a.now b.now }
 {
-    let mut k = size;
-    while 0 < k {
-        k -= 1;
-        if s[one + k] != s[other + k] {
-            return false;
-        }
-    }
-    true
-}
-
-// Row `n` names the bytes that these are. The lengths are compared first.
-fn has_name(s: &[u8], controls: &[u32], n: u32, start: u32, size: u32) -> bool
-    requires before { Before s.now controls.now (n + 1) }
-    requires size_in_bounds { start + size ≤ length s.now }
-    ensures { result ≡ same (bytes_at s.now controls.now n) (part s.now start size) }
-{
-    let at = (n as usize) * CONTROL_WIDTH;
-    if controls[at + NAME_SIZE] != size {
-        return false;
-    }
-    let from = controls[at + NAME_START] as usize;
-    same_bytes(s, from, start as usize, size as usize)
-}
-
-// No row before row `n` names these bytes.
-fn is_new(s: &[u8], controls: &[u32], n: u32, start: u32, size: u32) -> bool
-    requires before { Before s.now controls.now n }
-    requires size_in_bounds { start + size ≤ length s.now }
-    ensures { result ≡ is_new_name (names_before s.now controls.now n) (part s.now start size) }
-{
-    let mut j = n;
-    while 0 < j {
-        j -= 1;
-        if has_name(s, controls, j, start, size) {
-            return false;
-        }
-    }
-    true
+    a.len() == b.len() && a.iter().rev().zip(b.iter().rev()).all(|(x, y)| *x == *y)
 }
 
 // These bytes as a number.
-fn spread_of(s: &[u8], start: u32, size: u32) -> u32
-    requires { start + size ≤ length s.now }
-    ensures { result ≡ spread (part s.now start size) }
+fn spread_of(name: &[u8]) -> u32
+    ensures { result ≡ spread name.now }
 {
-    let from = start as usize;
-    let mut n = 0;
-    let mut k = size as usize;
-    while 0 < k {
-        k -= 1;
-        n = (n * SPREAD + number_of(s[from + k])) % WORD;
-    }
-    n as u32
+    name.iter().rev().fold(
+        0,
+        |n: u32, b| n.wrapping_mul(SPREAD).wrapping_add(u32::from(*b)),
+    )
 }
 
+#[tactic(auto, unfolding(crate::specs::Marks::place_by))]
 fn place_of(number: u32) -> usize
     ensures { result ≡ place_by number }
 {
@@ -166,6 +146,7 @@ fn tag_of(number: u32) -> u8
 }
 
 // What a mark is after one more name.
+#[tactic(auto, using(crate::proofs::MarkLaws::none_yet, crate::proofs::MarkLaws::its_own, crate::proofs::MarkLaws::several))]
 fn changed(mark: u8, tag: u8) -> u8
     ensures { result ≡ marked.changed mark tag }
 {
@@ -178,29 +159,47 @@ fn changed(mark: u8, tag: u8) -> u8
     SEVERAL
 }
 
-// Whether no row before row `n` names these bytes, which are marked. They are compared only where that doesn't change the mark.
-fn note_name(
-    s: &[u8],
-    controls: &[u32],
-    marks: &mut [u8; PLACES],
-    n: u32,
-    start: u32,
-    size: u32,
-) -> bool
-    requires before { Before s.now controls.now n }
-    requires size_in_bounds { start + size ≤ length s.now }
-    requires marked { Marked s.now controls.now n marks.old }
-    ensures { Noted s.now controls.now n (part s.now start size) marks.new result }
-{
-    let number = spread_of(s, start, size);
-    let place = place_of(number);
-    let mark = marks[place];
-    let next = changed(mark, tag_of(number));
-    marks[place] = next;
-    if mark == next {
-        return is_new(s, controls, n, start, size);
+impl<'a> Reading<'a> {
+    // The bytes that row `n` names.
+    fn name_of(self, n: u32) -> &'a [u8]
+        requires { Before self.stream.now self.controls.now (n + 1) }
+        ensures { result.now ≡ bytes_at self.entry.stream.now self.entry.controls.now n }
+    {
+        let at = (n as usize) * CONTROL_WIDTH;
+        let start = self.controls[at + NAME_START] as usize;
+        let size = self.controls[at + NAME_SIZE] as usize;
+        &self.stream[start..start + size]
     }
-    true
+
+    // No row before row `n` has this name.
+    fn is_new(self, n: u32, name: &[u8]) -> bool
+        requires { Before self.stream.now self.controls.now n }
+        ensures { result ≡ is_new_name (names_before self.entry.stream.now self.entry.controls.now n) name.now }
+    {
+        for j in (0..n).rev() {
+            if same_bytes(self.name_of(j), name) {
+                return false;
+            }
+        }
+        true
+    }
+
+    // Whether no row before row `n` has this name, which is marked. Names are compared only where that doesn't change the mark.
+    fn note_name(self, marks: &mut [u8; PLACES], n: u32, name: &[u8]) -> bool
+        requires before { Before self.stream.now self.controls.now n }
+        requires marked { Marked self.stream.now self.controls.now n marks.old }
+        ensures { Noted self.entry.stream.now self.entry.controls.now n name.now marks.new result }
+    {
+        let number = spread_of(name);
+        let place = place_of(number);
+        let mark = marks[place];
+        let next = changed(mark, tag_of(number));
+        marks[place] = next;
+        if mark == next {
+            return self.is_new(n, name);
+        }
+        true
+    }
 }
 
 // ---- rule 4
@@ -214,122 +213,89 @@ fn is_box(type_code: u32) -> bool
     }
 }
 
-// The first property row from `from` on that is a source, or `to`.
-fn next_source(properties: &[u32], from: u32, to: u32) -> u32
-    requires { from ≤ to }
+fn is_source(properties: &[u32], j: u32) -> bool
+    ensures { result ≡ is_source (shown_by_lem (row_at property_width j properties.now)) }
+{
+    get_id(properties, j) == CONTROL_SOURCE
+}
+
+// The first property row from `from` on that is a source.
+fn next_source(properties: &[u32], from: u32, to: u32) -> Option<u32>
     ensures { NextSource properties.now from to result }
 {
-    let mut j = from;
-    while j < to {
-        if get_id(properties, j) == CONTROL_SOURCE {
-            return j;
-        }
-        j += 1;
-    }
-    to
+    (from..to).find(|j| is_source(properties, *j))
 }
 
 // Of the property rows from `from` on one is a source, and that is text of a byte or more.
 fn is_one_text(properties: &[u32], from: u32, to: u32) -> bool
-    requires { from ≤ to }
     ensures { result ≡ is_one_text (keep is_source (between properties.now from to)) }
 {
-    let at = next_source(properties, from, to);
-    if at == to {
+    let Some(at) = next_source(properties, from, to) else {
         return false;
-    }
-    if next_source(properties, at + 1, to) < to {
+    };
+    if next_source(properties, at + 1, to).is_some() {
         return false;
     }
     let source = get_property(properties, at);
-    if source.value.mark != MARK_TEXT {
-        return false;
-    }
-    0 < source.size
+    source.value.mark == MARK_TEXT && 0 < source.size
 }
 
 fn is_filled(properties: &[u32], type_code: u32, from: u32, to: u32) -> bool
-    requires { from ≤ to }
     ensures { result ≡ is_filled type_code (between properties.now from to) }
 {
-    if !is_box(type_code) {
-        return true;
-    }
-    is_one_text(properties, from, to)
+    !is_box(type_code) || is_one_text(properties, from, to)
 }
 
 // ---- rule 5
-fn is_placing(p: Property) -> bool
-    ensures { result ≡ is_placing p }
+fn is_placing(properties: &[u32], j: u32) -> bool
+    ensures { result ≡ is_placing (shown_by_lem (row_at property_width j properties.now)) }
 {
-    let id = p.id;
-    let value = p.value;
-    match id {
-        LEFT | TOP => value.mark == MARK_SHORT,
-        WIDTH | HEIGHT => {
-            if value.mark != MARK_SHORT {
-                return false;
-            }
-            value.low < NEGATIVE
-        }
+    let p = get_property(properties, j);
+    match p.id {
+        LEFT | TOP => p.value.mark == MARK_SHORT,
+        WIDTH | HEIGHT => p.value.mark == MARK_SHORT && p.value.low < NEGATIVE,
         _ => true,
     }
 }
 
 fn is_placed(properties: &[u32], from: u32, to: u32) -> bool
-    requires { from ≤ to }
     ensures { result ≡ is_placed (between properties.now from to) }
 {
-    let mut j = from;
-    while j < to {
-        if !is_placing(get_property(properties, j)) {
-            return false;
-        }
-        j += 1;
-    }
-    true
+    (from..to).all(|j| is_placing(properties, j))
 }
 
 // ---- all of them
-// The first rule that row `i` breaks, or 0 and its name is marked.
-fn rule_of(
-    stream: &[u8],
-    controls: &[u32],
-    properties: &[u32],
-    count: u32,
-    i: u32,
-    index: &[u32],
-    letters: &[u8],
-    marks: &mut [u8; PLACES],
-) -> u32
-    requires rows { (Rows stream.now controls.now count) × (i < count) }
-    requires before { Before stream.now controls.now i }
-    requires lent { Lent index.now letters.now }
-    requires marked { Marked stream.now controls.now i marks.old }
-    ensures { Tried stream.now controls.now properties.now i marks.new result }
-{
-    let row = get_control(controls, i);
-    if !has_type_name(index, letters, row.type_code) {
-        return NO_TYPE_NAME;
+impl<'a> Reading<'a> {
+    // The first rule that row `i` breaks, or none and its name is marked.
+    fn tried(self, names: TypeNames, marks: &mut [u8; PLACES], i: u32) -> Result<(), Rule>
+        requires inside { i < self.count }
+        requires before { Before self.stream.now self.controls.now i }
+        requires marked { Marked self.stream.now self.controls.now i marks.old }
+        ensures { Tried self.entry.stream.now self.entry.controls.now self.entry.properties.now i marks.new result }
+    {
+        let row = get_control(self.controls, i);
+        if !names.has(row.type_code) {
+            return Err(Rule::NoTypeName);
+        }
+        if row.mark != NAME_TEXT {
+            return Err(Rule::OtherName);
+        }
+        if !self.note_name(marks, i, self.name_of(i)) {
+            return Err(Rule::SameName);
+        }
+        let from = row.first;
+        let to = row.first + row.count;
+        if !is_filled(self.properties, row.type_code, from, to) {
+            return Err(Rule::NoSource);
+        }
+        if !is_placed(self.properties, from, to) {
+            return Err(Rule::BadPlace);
+        }
+        if DEEPEST < row.level {
+            return Err(Rule::TooDeep);
+        }
+        Ok(())
     }
-    if row.mark != NAME_TEXT {
-        return OTHER_NAME;
-    }
-    if !note_name(stream, controls, marks, i, row.start, row.size) {
-        return SAME_NAME;
-    }
-    let from = row.first;
-    let to = row.first + row.count;
-    if !is_filled(properties, row.type_code, from, to) {
-        return NO_SOURCE;
-    }
-    if !is_placed(properties, from, to) {
-        return BAD_PLACE;
-    }
-    if DEEPEST < row.level {
-        return TOO_DEEP;
-    }
-    0
 }
 
 fn judged(yes: u32, row: u32, rule: u32) -> Answer
@@ -344,28 +310,14 @@ fn judged(yes: u32, row: u32, rule: u32) -> Answer
 }
 
 // The first of the control rows that breaks a rule, with the first rule that it breaks.
-fn judge(
-    stream: &[u8],
-    controls: &[u32],
-    properties: &[u32],
-    count: u32,
-    index: &[u32],
-    letters: &[u8],
-) -> Answer
-    requires rows { Rows stream.now controls.now count }
-    requires lent { Lent index.now letters.now }
-    ensures { result ≡ verdict (broken stream.now (controls_from controls.now properties.now 0 count)) }
+fn judge(reading: Reading, names: TypeNames) -> Answer
+    ensures { result ≡ verdict (broken reading.entry.stream.now (controls_from reading.entry.controls.now reading.entry.properties.now 0 reading.entry.count)) }
 {
     let mut marks = [0; PLACES];
-    let mut i = 0;
-    while i < count {
-        let rule = rule_of(
-            stream, controls, properties, count, i, index, letters, &mut marks,
-        );
-        if rule != 0 {
-            return judged(0, i, rule);
+    for i in 0..reading.count {
+        if let Err(rule) = reading.tried(names, &mut marks, i) {
+            return judged(0, i, u32::from(rule));
         }
-        i += 1;
     }
     judged(1, 0, 0)
 }
@@ -385,5 +337,15 @@ pub fn check_panel(
     }
     let index = nametables::index();
     let letters = nametables::letters();
-    judge(stream, controls, properties, a.first, &index, &letters)
+    let reading = Reading {
+        stream,
+        controls,
+        properties,
+        count: a.first,
+    };
+    let names = TypeNames {
+        index: &index,
+        letters: &letters,
+    };
+    judge(reading, names)
 }
