@@ -1,7 +1,7 @@
 -- What a Blob comes to, by the first of its refusals or by its layout.
 use Prim.Native.Nat.{ℕ, ◌≤◌, ◌<◌}
-use mathlib.Core.Path.{◌≡◌, refl, sym, ap, ◌∙◌}
-use mathlib.Core.Bool.{Bool, true, false, not}
+use mathlib.Core.Path.{◌≡◌, sym, ap, ◌∙◌}
+use mathlib.Core.Bool.{true, false}
 use mathlib.Core.List.{List}
 use mathlib.Core.Option.{some}
 use lib.ListN.{length}
@@ -15,14 +15,6 @@ use Rattle.rules.specs.Blob.{is2000, read_by, reading_of, outcome, exit}
 use Rattle.rules.specs.declared.Answer.{Answer}
 use Rattle.rows.specs.Judge.{Exits}
 use Rattle.blob.specs.Exit.{exited}
-
-pub not-true : (b : Bool) → not b ≡ true → b ≡ false
-not-true true e = sym e
-not-true false e = refl
-
-pub not-false : (b : Bool) → not b ≡ false → b ≡ true
-not-false true e = refl
-not-false false e = sym e
 
 module _ (t s cs ps : List ℕ) where
   pub five : longest < length s → (a : Answer) → a ≡ refusal 5 → exited a cs ps ≡ exit t s cs ps

@@ -16,13 +16,11 @@ use rules::{
 use text::refused;
 
 // The stream's first byte is the code table's layout byte.
+#[tactic(auto, unfolding(rules::specs::Blob::is2000))]
 pub fn is_2000(table: &[u8], stream: &[u8]) -> bool
     ensures { result ≡ is2000 table.now stream.now }
 {
-    if stream.len() == 0 {
-        return false;
-    }
-    stream[0] == codetable::layout(table)
+    speaks_2000(u32::from(codetable::layout(table)), stream)
 }
 
 // Reads a stream of the Access 2000 layout.
@@ -55,14 +53,12 @@ pub fn read_blob(
 }
 
 // The part of `s` from `start` on, of so many bytes; the empty part at the start of `other` where `s` doesn't have it.
+// Kept: `get` doesn't say where a part stands, as the clause `place` of `control_name` does.
 fn part_or<'a>(s: &'a [u8], start: usize, length: usize, other: &'a [u8]) -> &'a [u8]
     ensures result_value { result.now ≡ part_or s.now start length }
     ensures ref_ptr_value { result.ref_ptr ≡ place_or s.now s.entry.ref_ptr start length other.entry.ref_ptr }
 {
-    if s.len() < start {
-        return &other[..0];
-    }
-    if s.len() - start < length {
+    if s.len() < start || s.len() - start < length {
         return &other[..0];
     }
     &s[start..start + length]
@@ -91,10 +87,10 @@ pub fn control_name<'a>(
 fn speaks_2000(layout: u32, stream: &[u8]) -> bool
     ensures { result ≡ speaks2000 layout stream.now }
 {
-    if stream.len() == 0 {
-        return false;
+    match stream {
+        [first, ..] => u32::from(*first) == layout,
+        [] => false,
     }
-    stream[0] as u32 == layout
 }
 
 // Reads a Blob of the Access 2000 layout; one that speaks for the later layout is refused. A refusal leaves both slices as they were.

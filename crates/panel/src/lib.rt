@@ -1,7 +1,7 @@
 // The rules of panels: a Blob is read, and its control rows are judged one by one.
 #![tactic(auto)]
 
-ghost use Rattle.std.specs.Prelude.{◌≡◌, ◌+◌, ◌<◌, ◌^◌, length};
+ghost use Rattle.std.specs.Prelude.{◌≡◌, ◌+◌, ◌<◌};
 ghost use Rattle.rules.specs.Lists.{keep, same};
 ghost use Rattle.rules.specs.Rows.{property_width, row_at};
 ghost use Rattle.rules.specs.Answer.{answer};
