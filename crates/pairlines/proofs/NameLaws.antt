@@ -1,19 +1,18 @@
 -- A control's name, as it is shown.
-use mathlib.Core.Path.{◌≡◌, refl, sym, ap, ◌∙◌}
+use mathlib.Core.Path.{◌≡◌, refl, sym}
 use mathlib.Core.Bool.{Bool, true, false, cond}
 use mathlib.Core.List.{List, [], ◌∷◌, ◌++◌}
-use Prim.Native.Nat.{ℕ, suc, ◌+◌, ◌-◌, ◌≤◌, ◌<◌, min}
+use Prim.Native.Nat.{ℕ, ◌≤◌, ◌<◌, min}
 use native.Mathlib.Omega.{arith}
 use borrow.Author.Tests.{ne_eqb}
-use lib.ListN.{length, get_or, drop, length-drop}
-use lib.Seq.{drop-cons}
+use lib.ListN.{length, get_or, drop}
 use Rattle.rules.specs.Lists.{text}
 use Rattle.rules.specs.Bytes.{part}
 use Rattle.rules.specs.Digits.{decimal, hex}
 use Rattle.rules.specs.Texts.{label}
 use Rattle.rules.specs.Listing.{or_dash}
 use Rattle.text.specs.Writer.{Wrote}
-use Rattle.text.proofs.Chain.{nothing, ◌⨟◌, same, wrote_as}
+use Rattle.text.proofs.Chain.{nothing, ◌⨟◌, wrote_as}
 use Rattle.rows.specs.Put.{control_words}
 use Rattle.rows.specs.declared.ControlRow.{ControlRow}
 use Rattle.listing.specs.InfoLine.{is_shown, name_bytes}
@@ -37,51 +36,32 @@ unfolding unit_text
 no-letter low high e = rw e
 
 -- ---- all of them
-next_unit : (s : List ℕ) (i : ℕ) → i + 1 < length s → units_text (drop i s) ≡ unit_text (get_or s i 0) (get_or s (i + 1) 0) ++ units_text (drop (i + 2) s)
-unfolding units_text
-next_unit s i h =
-    let one : suc i ≡ i + 1 = omega arith in
-    let two : suc (i + 1) ≡ i + 2 = omega arith in
-    let e : drop i s ≡ get_or s i 0 ∷ get_or s (i + 1) 0 ∷ drop (i + 2) s
-    = drop-cons s i 0 (omega arith)
-    ∙ ap (λ (k : ℕ). get_or s i 0 ∷ drop k s) one
-    ∙ ap (λ (l : List ℕ). get_or s i 0 ∷ l) (drop-cons s (i + 1) 0 h ∙ ap (λ (k : ℕ). get_or s (i + 1) 0 ∷ drop k s) two) in
-    ap units_text e
-
 few_units : (l : List ℕ) → length l ≤ 1 → units_text l ≡ []
 unfolding units_text
 few_units [] h = refl
 few_units (a ∷ []) h = refl
 few_units (a ∷ b ∷ l) h = absurd (omega arith)
 
--- all but the last `left` bytes are in the buffer: whoever writes what those say has written the whole
-pub record Spelled (s old : List ℕ) (at : ℕ) (new : List ℕ) (p left : ℕ) : Type 0 where
-  pub few : left ≤ length s
-  pub long : length new ≡ length old
-  pub rest : (n : List ℕ) (e : ℕ) → Wrote new p (units_text (drop (length s - left) s)) n e → Wrote old at (units_text s) n e
+next_unit : (l : List ℕ) → 2 ≤ length l → units_text l ≡ unit_text (get_or l 0 0) (get_or l 1 0) ++ units_text (drop 2 l)
+unfolding units_text
+next_unit [] h = absurd (omega arith)
+next_unit (a ∷ []) h = absurd (omega arith)
+next_unit (a ∷ b ∷ l) h = refl
+
+-- whoever writes what the bytes that are left say has written the whole
+pub record Spelled (s old : List ℕ) (at : ℕ) (new : List ℕ) (p : ℕ) (left : List ℕ) : Type 0 where
+  pub rest : (n : List ℕ) (e : ℕ) → Wrote new p (units_text left) n e → Wrote old at (units_text s) n e
 
 module _ {s old : List ℕ} {at : ℕ} where
-  pub spelled_none : Spelled s old at old at (length s)
-  spelled_none = record {
-    few = omega arith;
-    long = refl;
-    rest = λ n e w. let z : length s - length s ≡ 0 = omega arith in wrote_as w (ap (λ (k : ℕ). units_text (drop k s)) z);
-  }
+  pub spelled_none : Spelled s old at old at s
+  spelled_none = record { rest = λ n e w. w }
 
-  pub spelled-more : {new next : List ℕ} {p q left : ℕ} → Spelled s old at new p left → 1 < left
-      → Wrote new p (unit_text (get_or s (length s - left) 0) (get_or s (length s - left + 1) 0)) next q → Spelled s old at next q (left - 2)
-  spelled-more {left = left} k l w = let f = k.few in record {
-    few = omega arith;
-    long = same w ∙ k.long;
-    rest = λ n e v.
-        let z : length s - (left - 2) ≡ length s - left + 2 = omega arith in
-        k.rest n e (wrote_as (w ⨟ wrote_as v (ap (λ (j : ℕ). units_text (drop j s)) z)) (sym (next_unit s (length s - left) (omega arith))));
-  }
+  pub spelled_more : {new next left : List ℕ} {p q : ℕ} → Spelled s old at new p left → 2 ≤ length left
+      → Wrote new p (unit_text (get_or left 0 0) (get_or left 1 0)) next q → Spelled s old at next q (drop 2 left)
+  spelled_more {left = left} k l w = record { rest = λ n e v. k.rest n e (wrote_as (w ⨟ v) (sym (next_unit left l))) }
 
-  pub spelled-all : {new : List ℕ} {p left : ℕ} → Spelled s old at new p left → left ≤ 1 → Wrote old at (units_text s) new p
-  spelled-all {new} {p} {left} k l =
-      let f = k.few in
-      k.rest new p (wrote_as nothing (sym (few_units (drop (length s - left) s) (omega (arith, length-drop (length s - left) s)))))
+  pub spelled_all : {new left : List ℕ} {p : ℕ} → Spelled s old at new p left → length left ≤ 1 → Wrote old at (units_text s) new p
+  spelled_all {new} {left} {p} k l = k.rest new p (wrote_as nothing (sym (few_units left l)))
 
 -- ---- or `-`
 pub no_units : (s : List ℕ) → length s < 2 → or_dash (units_text s) ≡ text "-"

@@ -29,14 +29,19 @@ pub struct Told {
     pub count: u32,
 }
 
+// TypeInfo rows with their stream, and how many of them there are.
+#[derive(Clone, Copy)]
+pub struct TypeInfo<'a> {
+    pub stream: &'a [u8],
+    pub rows: &'a [u32],
+    pub count: u32,
+}
+
 // ---- names
 fn is_letter(low: u8, high: u8) -> bool
     ensures { result ≡ is_letter low high }
 {
-    if high != 0 {
-        return false;
-    }
-    listing::is_shown(low)
+    high == 0 && listing::is_shown(low)
 }
 
 fn put_unit(out: &mut [u8], at: usize, low: u8, high: u8) -> usize
@@ -54,11 +59,10 @@ fn put_units(out: &mut [u8], at: usize, s: &[u8]) -> usize
     ensures { Wrote out.old at (units_text s.now) out.new result }
 {
     let mut p = at;
-    let mut left = s.len();
-    while 1 < left {
-        let i = s.len() - left;
-        p = put_unit(out, p, s[i], s[i + 1]);
-        left -= 2;
+    let mut left = s;
+    while let [low, high, rest @ ..] = left {
+        p = put_unit(out, p, *low, *high);
+        left = rest;
     }
     p
 }
@@ -73,12 +77,6 @@ fn put_unit_name(out: &mut [u8], at: usize, s: &[u8]) -> usize
     }
 }
 
-fn at_most(size: u32, most: u32) -> u32
-    ensures { result ≡ min size most }
-{
-    if size < most { size } else { most }
-}
-
 fn put_shown_name(out: &mut [u8], at: usize, stream: &[u8], row: ControlRow) -> usize
     ensures { Wrote out.old at (shown_name stream.now (control_words row)) out.new result }
 {
@@ -87,10 +85,10 @@ fn put_shown_name(out: &mut [u8], at: usize, stream: &[u8], row: ControlRow) -> 
         return put_decimal(out, p, row.start);
     }
     if row.mark == NAME_LOOSE {
-        let size = at_most(row.size, LONGEST_SHOWN);
+        let size = row.size.min(LONGEST_SHOWN);
         return listing::put_name(out, at, value_bytes(stream, row.start, size));
     }
-    let size = at_most(row.size, 2 * LONGEST_SHOWN);
+    let size = row.size.min(2 * LONGEST_SHOWN);
     put_unit_name(out, at, value_bytes(stream, row.start, size))
 }
 
@@ -99,52 +97,28 @@ fn put_shown_name(out: &mut [u8], at: usize, stream: &[u8], row: ControlRow) -> 
 fn typed(row: ControlRow, type_code: u32) -> ControlRow
     ensures { control_words result ≡ type_code ∷ drop 1 (control_words row) }
 {
-    ControlRow {
-        type_code,
-        mark: row.mark,
-        start: row.start,
-        size: row.size,
-        first: row.first,
-        count: row.count,
-        level: row.level,
-        parent: row.parent,
-    }
+    ControlRow { type_code, ..row }
 }
 
 // A control that found no row keeps its type, whatever that is.
-fn is_unpaired(
-    stream: &[u8],
-    row: ControlRow,
-    info_stream: &[u8],
-    infos: &[u32],
-    info_count: u32,
-) -> bool
+fn is_unpaired(stream: &[u8], row: ControlRow, info: TypeInfo) -> bool
     requires row_value { control_ok stream.now (control_words row) ≡ true }
-    requires infos_value { all (is_named info_stream.now) (infos_in info_count infos.now) ≡ true }
-    ensures { result ≡ is_unpaired stream.now info_stream.now (infos_in info_count infos.now) (control_words row) }
+    requires infos_value { all (is_named info.stream.now) (infos_in info.count info.rows.now) ≡ true }
+    ensures { result ≡ is_unpaired stream.now info.entry.stream.now (infos_in info.entry.count info.entry.rows.now) (control_words row) }
 {
-    let one = paired_type(stream, typed(row, 0), info_stream, infos, info_count);
-    let other = paired_type(stream, typed(row, 1), info_stream, infos, info_count);
+    let one = paired_type(stream, typed(row, 0), info.stream, info.rows, info.count);
+    let other = paired_type(stream, typed(row, 1), info.stream, info.rows, info.count);
     one != other
 }
 
 // The U line of control row `n`, where it found no row.
-fn tell(
-    out: &mut [u8],
-    told: Told,
-    stream: &[u8],
-    row: ControlRow,
-    n: u32,
-    info_stream: &[u8],
-    infos: &[u32],
-    info_count: u32,
-) -> Told
+fn tell(out: &mut [u8], told: Told, stream: &[u8], row: ControlRow, n: u32, info: TypeInfo) -> Told
     requires row_value { control_ok stream.now (control_words row) ≡ true }
-    requires infos_value { all (is_named info_stream.now) (infos_in info_count infos.now) ≡ true }
+    requires infos_value { all (is_named info.stream.now) (infos_in info.count info.rows.now) ≡ true }
     requires count_bound { told.count < 4294967295 }
-    ensures { Tells stream.now info_stream.now (infos_in info_count infos.now) n (control_words row) out.old told out.new result }
+    ensures { Tells stream.now info.entry.stream.now (infos_in info.entry.count info.entry.rows.now) n (control_words row) out.old told out.new result }
 {
-    if !is_unpaired(stream, row, info_stream, infos, info_count) {
+    if !is_unpaired(stream, row, info) {
         return told;
     }
     let p = put_byte(out, told.at, b'U');
@@ -174,19 +148,15 @@ fn unpaired_lines(
     stream: &[u8],
     controls: &[u32],
     control_count: u32,
-    info_stream: &[u8],
-    infos: &[u32],
-    info_count: u32,
+    info: TypeInfo,
 ) -> usize
-    requires { may_pair stream.now controls.now control_count info_stream.now infos.now info_count ≡ true }
-    ensures { Wrote out.old at (unpaired_to stream.now info_stream.now (infos_in info_count infos.now) control_count controls.now) out.new result }
+    requires { may_pair stream.now controls.now control_count info.stream.now info.rows.now info.count ≡ true }
+    ensures { Wrote out.old at (unpaired_to stream.now info.entry.stream.now (infos_in info.entry.count info.entry.rows.now) control_count controls.now) out.new result }
 {
     let mut told = Told { at, count: 0 };
-    let mut n = 0;
-    while n < control_count {
+    for n in 0..control_count {
         let row = get_control(controls, n);
-        told = tell(out, told, stream, row, n, info_stream, infos, info_count);
-        n += 1;
+        told = tell(out, told, stream, row, n, info);
     }
     count_line(out, told.at, told.count)
 }
@@ -228,27 +198,19 @@ fn pair_lines(
         index,
         letters,
     );
-    unpaired_lines(
-        out,
-        p,
-        stream,
-        controls,
-        a.first,
-        info_stream,
-        infos,
-        t.first,
-    )
+    let info = TypeInfo {
+        stream: info_stream,
+        rows: infos,
+        count: t.first,
+    };
+    unpaired_lines(out, p, stream, controls, a.first, info)
 }
 
 // What stands from a place on.
 fn behind(s: &[u8], start: usize) -> &[u8]
     ensures { result.now ≡ drop start s.now }
 {
-    if s.len() < start {
-        &s[..0]
-    } else {
-        &s[start..]
-    }
+    s.get(start..).unwrap_or(&s[..0])
 }
 
 // Writes the listing of an input from the start of `out` on, as far as there is room, and returns where it ends.
