@@ -110,10 +110,7 @@ pub fn write_form_listing(
     requires { Lent index.now letters.now }
     ensures { Written out.old (listed input.now more) longest_listing out.new result }
 {
-    if more {
-        return refusal_line(out, TOO_LONG);
-    }
-    if LONGEST_INPUT < input.len() {
+    if more || LONGEST_INPUT < input.len() {
         return refusal_line(out, TOO_LONG);
     }
     let mut controls = [0; CONTROL_ROOM * CONTROL_WIDTH];
