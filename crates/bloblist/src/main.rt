@@ -1,44 +1,35 @@
 // Lists the Blob that standard input holds after its code table, as `formlist` does, for larger Blobs.
 #![tactic(auto)]
 
-ghost use Rattle.std.specs.Prelude.{◌≡◌, true, List, ℕ, ◌*◌, ◌≤◌, ◌<◌, length};
-ghost use Rattle.rules.specs.Rows.{control_width, property_width};
+ghost use Rattle.std.specs.Prelude.{◌≡◌, true, List, ℕ, ◌≤◌, ◌<◌, length};
 ghost use Rattle.listing.specs.Written.{Written};
 ghost use Rattle.inputs.specs.Begun.{Begun};
-ghost use Rattle.bloblines.specs.Blobs.{control_room, property_room, longest_input, blob_listing, listed_in_lem, most_in};
+ghost use Rattle.bloblines.specs.Blobs.{longest_input, blob_listing, listed_in_lem, most_in};
 ghost use Rattle.bloblist.specs.Space.{Roomy};
 
 use rows::{CONTROL_WIDTH, PROPERTY_WIDTH};
 
-// Of the large arrays only the length is told, since a proof that computed with their elements would not end.
-fn small_lines() -> [u8; 2053482]
-    ensures { 2053482 ≡ length result }
-{
-    [0; 2053482]
-}
+// The longest input, and room for its rows and for its lines.
+const LONGEST: usize = 4259844;
 
-fn large_input() -> [u8; 4259844]
-    ensures { 4259844 ≡ length result }
-{
-    [0; 4259844]
-}
+const CONTROLS: usize = 16384 * CONTROL_WIDTH;
 
-fn large_controls() -> [u32; 16384 * CONTROL_WIDTH]
-    ensures { control_room * control_width ≡ length result }
-{
-    [0; 16384 * CONTROL_WIDTH]
-}
+const PROPERTIES: usize = 262144 * PROPERTY_WIDTH;
 
-fn large_properties() -> [u32; 262144 * PROPERTY_WIDTH]
-    ensures { property_room * property_width ≡ length result }
-{
-    [0; 262144 * PROPERTY_WIDTH]
-}
+const LINES: usize = 26394675;
 
-fn large_lines() -> [u8; 26394675]
-    ensures { 26394675 ≡ length result }
+// The same of an input that is read at once.
+const SMALL_CONTROLS: usize = 5461 * CONTROL_WIDTH;
+
+const SMALL_PROPERTIES: usize = 16384 * PROPERTY_WIDTH;
+
+const SMALL_LINES: usize = 2053482;
+
+// Of an array only the length is told, since a proof that computed with the elements of a large one would not end.
+fn filled<T: Copy, const N: usize>(x: T) -> [T; N]
+    ensures { N ≡ length result }
 {
-    [0; 26394675]
+    [x; N]
 }
 
 // Prints the listing of standard input, of which `input` was read and `more` tells whether bytes came after it.
@@ -82,9 +73,9 @@ fn list(
 fn list_small(rt: &HostRuntime, input: &[u8])
     requires { length input.now < 16384 }
 {
-    let mut controls = [0; 5461 * CONTROL_WIDTH];
-    let mut properties = [0; 16384 * PROPERTY_WIDTH];
-    let mut out = small_lines();
+    let mut controls: [u32; SMALL_CONTROLS] = filled(0);
+    let mut properties: [u32; SMALL_PROPERTIES] = filled(0);
+    let mut out: [u8; SMALL_LINES] = filled(0);
     list(rt, input, &mut controls, &mut properties, &mut out);
 }
 
@@ -97,12 +88,12 @@ fn list_large(rt: &HostRuntime, head: &[u8], more: bool)
         refuse(rt, head);
         return;
     }
-    let mut space = large_input();
-    let mut controls = large_controls();
-    let mut properties = large_properties();
-    let mut out = large_lines();
+    let mut space: [u8; LONGEST] = filled(0);
+    let mut controls: [u32; CONTROLS] = filled(0);
+    let mut properties: [u32; PROPERTIES] = filled(0);
+    let mut out: [u8; LINES] = filled(0);
     let size = inputs::fill(rt, &mut space, head);
-    if inputs::has_more(rt, size, 4259844) {
+    if inputs::has_more(rt, size, LONGEST) {
         list_large(rt, &space, true);
         return;
     }

@@ -9,23 +9,23 @@ ghost use Rattle.infolist.specs.Space.{Roomy};
 
 use rows::INFO_WIDTH;
 
-// Of the large arrays only the length is told, since a proof that computed with their elements would not end.
-fn large_stream() -> [u8; 4194304]
-    ensures { 4194304 ≡ length result }
-{
-    [0; 4194304]
-}
+// The longest stream, and room for its rows and for its lines.
+const LONGEST: usize = 4194304;
 
-fn large_rows() -> [u32; 524284 * INFO_WIDTH]
-    ensures { 524284 * type_info_width ≡ length result }
-{
-    [0; 524284 * INFO_WIDTH]
-}
+const ROWS: usize = 524284 * INFO_WIDTH;
 
-fn large_lines() -> [u8; 33554483]
-    ensures { 33554483 ≡ length result }
+const LINES: usize = 33554483;
+
+// The same of a stream that is read at once.
+const SMALL_ROWS: usize = 8188 * INFO_WIDTH;
+
+const SMALL_LINES: usize = 524339;
+
+// Of an array only the length is told, since a proof that computed with the elements of a large one would not end.
+fn filled<T: Copy, const N: usize>(x: T) -> [T; N]
+    ensures { N ≡ length result }
 {
-    [0; 33554483]
+    [x; N]
 }
 
 // Prints the listing of standard input, of which `input` was read and `more` tells whether bytes came after it.
@@ -55,8 +55,8 @@ fn list(rt: &HostRuntime, input: &[u8], rows: &mut [u32], out: &mut [u8])
 fn list_small(rt: &HostRuntime, input: &[u8])
     requires { length input.now ≤ 65536 }
 {
-    let mut rows = [0; 8188 * INFO_WIDTH];
-    let mut out = [0; 524339];
+    let mut rows: [u32; SMALL_ROWS] = filled(0);
+    let mut out: [u8; SMALL_LINES] = filled(0);
     list(rt, input, &mut rows, &mut out);
 }
 
@@ -69,11 +69,11 @@ fn list_large(rt: &HostRuntime, head: &[u8], more: bool)
         refuse(rt, head);
         return;
     }
-    let mut space = large_stream();
-    let mut rows = large_rows();
-    let mut out = large_lines();
+    let mut space: [u8; LONGEST] = filled(0);
+    let mut rows: [u32; ROWS] = filled(0);
+    let mut out: [u8; LINES] = filled(0);
     let size = inputs::fill(rt, &mut space, head);
-    if inputs::has_more(rt, size, 4194304) {
+    if inputs::has_more(rt, size, LONGEST) {
         list_large(rt, &space, true);
         return;
     }

@@ -2,50 +2,39 @@
 // streams.
 #![tactic(auto)]
 
-ghost use Rattle.std.specs.Prelude.{◌≡◌, true, List, ℕ, ◌*◌, ◌≤◌, ◌<◌, length};
-ghost use Rattle.rules.specs.Rows.{control_width, property_width, type_info_width};
+ghost use Rattle.std.specs.Prelude.{◌≡◌, true, List, ℕ, ◌≤◌, ◌<◌, length};
 ghost use Rattle.inputs.specs.Begun.{Begun};
-ghost use Rattle.pairlines.specs.Pairs.{info_room, control_room, property_room, longest_input, pair_listing};
+ghost use Rattle.pairlines.specs.Pairs.{longest_input, pair_listing};
 ghost use Rattle.pairlines.specs.Told.{Listed};
 ghost use Rattle.pairlist.specs.Space.{Roomy};
 
 use rows::{CONTROL_WIDTH, INFO_WIDTH, PROPERTY_WIDTH};
 
-// Of the large arrays only the length is told, since a proof that computed with their elements would not end.
-fn small_lines() -> [u8; 1487972]
-    ensures { 1487972 ≡ length result }
-{
-    [0; 1487972]
-}
+// The longest input, and room for its rows and for its lines.
+const LONGEST: usize = 8388616;
 
-fn large_input() -> [u8; 8388616]
-    ensures { 8388616 ≡ length result }
-{
-    [0; 8388616]
-}
+const INFOS: usize = 524284 * INFO_WIDTH;
 
-fn large_infos() -> [u32; 524284 * INFO_WIDTH]
-    ensures { info_room * type_info_width ≡ length result }
-{
-    [0; 524284 * INFO_WIDTH]
-}
+const CONTROLS: usize = 16384 * CONTROL_WIDTH;
 
-fn large_controls() -> [u32; 16384 * CONTROL_WIDTH]
-    ensures { control_room * control_width ≡ length result }
-{
-    [0; 16384 * CONTROL_WIDTH]
-}
+const PROPERTIES: usize = 262144 * PROPERTY_WIDTH;
 
-fn large_properties() -> [u32; 262144 * PROPERTY_WIDTH]
-    ensures { property_room * property_width ≡ length result }
-{
-    [0; 262144 * PROPERTY_WIDTH]
-}
+const LINES: usize = 26787962;
 
-fn large_lines() -> [u8; 26787962]
-    ensures { 26787962 ≡ length result }
+// The same of an input that is read at once.
+const SMALL_INFOS: usize = 2048 * INFO_WIDTH;
+
+const SMALL_CONTROLS: usize = 910 * CONTROL_WIDTH;
+
+const SMALL_PROPERTIES: usize = 910 * PROPERTY_WIDTH;
+
+const SMALL_LINES: usize = 1487972;
+
+// Of an array only the length is told, since a proof that computed with the elements of a large one would not end.
+fn filled<T: Copy, const N: usize>(x: T) -> [T; N]
+    ensures { N ≡ length result }
 {
-    [0; 26787962]
+    [x; N]
 }
 
 // Prints the listing of standard input, of which `input` was read and `more` tells whether bytes came after it.
@@ -96,10 +85,10 @@ fn list(
 fn list_small(rt: &HostRuntime, input: &[u8])
     requires { length input.now < 16384 }
 {
-    let mut infos = [0; 2048 * INFO_WIDTH];
-    let mut controls = [0; 910 * CONTROL_WIDTH];
-    let mut properties = [0; 910 * PROPERTY_WIDTH];
-    let mut out = small_lines();
+    let mut infos: [u32; SMALL_INFOS] = filled(0);
+    let mut controls: [u32; SMALL_CONTROLS] = filled(0);
+    let mut properties: [u32; SMALL_PROPERTIES] = filled(0);
+    let mut out: [u8; SMALL_LINES] = filled(0);
     list(
         rt,
         input,
@@ -119,13 +108,13 @@ fn list_large(rt: &HostRuntime, head: &[u8], more: bool)
         refuse(rt, head);
         return;
     }
-    let mut space = large_input();
-    let mut infos = large_infos();
-    let mut controls = large_controls();
-    let mut properties = large_properties();
-    let mut out = large_lines();
+    let mut space: [u8; LONGEST] = filled(0);
+    let mut infos: [u32; INFOS] = filled(0);
+    let mut controls: [u32; CONTROLS] = filled(0);
+    let mut properties: [u32; PROPERTIES] = filled(0);
+    let mut out: [u8; LINES] = filled(0);
     let size = inputs::fill(rt, &mut space, head);
-    if inputs::has_more(rt, size, 8388616) {
+    if inputs::has_more(rt, size, LONGEST) {
         list_large(rt, &space, true);
         return;
     }

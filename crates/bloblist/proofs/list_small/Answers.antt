@@ -1,0 +1,8 @@
+-- Room for the longest input that is read at once.
+use native.Mathlib.Omega.{arith}
+use Rattle.std.proofs.Common.{sym}
+use Rattle.bloblist.proofs.Printing.{small_roomy}
+use Rattle.bloblist.proofs.list_small.Goals as goal
+
+pub list-requires : goal.list-requires
+list-requires c = small_roomy c.requires (sym c.filled-controls.ensures) (sym c.filled-properties.ensures) (omega (arith, c.filled-out.ensures))

@@ -1,0 +1,8 @@
+-- Room for the longest input that is read at once.
+use native.Mathlib.Omega.{arith}
+use Rattle.std.proofs.Common.{sym}
+use Rattle.pairlist.proofs.Printing.{small_roomy}
+use Rattle.pairlist.proofs.list_small.Goals as goal
+
+pub list-requires : goal.list-requires
+list-requires c = small_roomy c.requires (sym c.filled-infos.ensures) (sym c.filled-controls.ensures) (sym c.filled-properties.ensures) (omega (arith, c.filled-out.ensures))
