@@ -6,7 +6,7 @@ ghost use Rattle.rules.specs.Panel.{panel_exit};
 ghost use Rattle.text.specs.Writer.{Wrote};
 ghost use Rattle.listing.specs.Written.{Written};
 ghost use Rattle.tabletext.specs.Input.{Began};
-ghost use Rattle.panelsay.specs.Judged.{row_line, said, judged, judged_of, most_read, most_said, zeros, small_controls, small_properties, large_controls, large_properties, Ready};
+ghost use Rattle.panelsay.specs.Judged.{row_line, said, judged, judged_of, most_read, most_said, zeros, Ready};
 
 use listing::{answer_line, numbers_line, refusal_line};
 use numbers::u32_at;
@@ -25,6 +25,15 @@ const SHORT: usize = 16384;
 // Room for two lines, which have at most 51 and 52 bytes.
 const SAID: usize = 128;
 
+// Room for the rows of every Blob in a short input, and of every other.
+const FEW_CONTROLS: usize = 5461 * CONTROL_WIDTH;
+
+const FEW_PROPERTIES: usize = 16384 * PROPERTY_WIDTH;
+
+const CONTROLS: usize = 16384 * CONTROL_WIDTH;
+
+const PROPERTIES: usize = 262144 * PROPERTY_WIDTH;
+
 // Of the large arrays no element is computed, since such a proof would not end.
 fn large_input() -> [u8; SPACE]
     ensures { most_read ≡ length result }
@@ -32,28 +41,11 @@ fn large_input() -> [u8; SPACE]
     [0; SPACE]
 }
 
-fn small_controls() -> [u32; 5461 * CONTROL_WIDTH]
-    ensures { zeros small_controls ≡ result }
+#[tactic(auto, unfolding(crate::specs::Judged::zeros))]
+fn zeroed<const N: usize>() -> [u32; N]
+    ensures { zeros N ≡ result }
 {
-    [0; 5461 * CONTROL_WIDTH]
-}
-
-fn small_properties() -> [u32; 16384 * PROPERTY_WIDTH]
-    ensures { zeros small_properties ≡ result }
-{
-    [0; 16384 * PROPERTY_WIDTH]
-}
-
-fn large_controls() -> [u32; 16384 * CONTROL_WIDTH]
-    ensures { zeros large_controls ≡ result }
-{
-    [0; 16384 * CONTROL_WIDTH]
-}
-
-fn large_properties() -> [u32; 262144 * PROPERTY_WIDTH]
-    ensures { zeros large_properties ≡ result }
-{
-    [0; 262144 * PROPERTY_WIDTH]
+    [0; N]
 }
 
 // ---- what is printed
@@ -120,8 +112,8 @@ fn judge(rt: &HostRuntime, input: &[u8], controls: &mut [u32], properties: &mut 
 fn judge_small(rt: &HostRuntime, input: &[u8])
     requires { length input.now < 16384 }
 {
-    let mut controls = small_controls();
-    let mut properties = small_properties();
+    let mut controls: [u32; FEW_CONTROLS] = zeroed();
+    let mut properties: [u32; FEW_PROPERTIES] = zeroed();
     judge(rt, input, &mut controls, &mut properties);
 }
 
@@ -131,8 +123,8 @@ fn judge_large(rt: &HostRuntime, head: &[u8], whole: bool)
     requires { (16384 ≤ length head.now) × (length head.now ≤ most_read) }
 {
     if whole {
-        let mut controls = large_controls();
-        let mut properties = large_properties();
+        let mut controls: [u32; CONTROLS] = zeroed();
+        let mut properties: [u32; PROPERTIES] = zeroed();
         judge(rt, head, &mut controls, &mut properties);
         return;
     }
