@@ -28,24 +28,18 @@ const ENTRY_INFO: u32 = 8;
 fn readable(length: usize) -> u32
     ensures { result ≡ readable length }
 {
-    if length < LONGEST as usize {
-        return length as u32;
-    }
-    LONGEST
+    length.min(LONGEST as usize) as u32
 }
 
 // The bytes after the first `head` of them.
 fn after_head(length: usize, head: u32) -> u32
     ensures { result ≡ readable length - head }
 {
-    let n = readable(length);
-    if n < head {
-        return 0;
-    }
-    n - head
+    readable(length).saturating_sub(head)
 }
 
 // For streams that the caller knows to be of the Access 2000 layout.
+#[tactic(auto, unfolding(rules::specs::Room::room2000))]
 pub fn room_2000(length: usize) -> Room
     ensures { result ≡ room2000 length }
 {
@@ -57,6 +51,7 @@ pub fn room_2000(length: usize) -> Room
 }
 
 // For streams that the caller knows to be of the later layout.
+#[tactic(auto, unfolding(rules::specs::Room::room_later_lem))]
 pub fn room_later(length: usize) -> Room
     ensures { result ≡ room_later_lem length }
 {
@@ -68,6 +63,7 @@ pub fn room_later(length: usize) -> Room
 }
 
 // For streams of either layout: Access 2000 needs the more.
+#[tactic(auto, unfolding(rules::specs::Room::room2000, rules::specs::Room::room_later_lem, rules::specs::Room::room_for))]
 pub fn room_for(length: usize) -> Room
     ensures { result ≡ room_for length }
 {
@@ -75,6 +71,7 @@ pub fn room_for(length: usize) -> Room
 }
 
 // Rows of TypeInfo.
+#[tactic(auto, unfolding(rules::specs::Room::type_info_room_lem))]
 pub fn type_info_room(length: usize) -> u32
     ensures { result ≡ type_info_room_lem length }
 {
