@@ -1,11 +1,11 @@
 -- Numbers of four bytes, read and written.
-use Prim.Native.Nat.{ℕ, suc, ◌+◌, ◌-◌, ◌*◌, ◌≤◌, ◌<◌}
+use Prim.Native.Nat.{ℕ, zero, suc, ◌+◌, ◌*◌, ◌≤◌, ◌<◌}
 use native.Mathlib.Numerals.{add-one}
 use native.Mathlib.Omega.{arith}
-use mathlib.Core.Path.{◌≡◌, refl, sym, ap}
-use mathlib.Core.List.{List, [], ◌∷◌, ◌++◌, append_assoc, append-nil}
-use lib.ListN.{length, get_or, set, take, length-append}
-use lib.Seq.{take-suc, take-suc-set, take-length}
+use mathlib.Core.Path.{◌≡◌, refl, sym, ap, ap₂, ◌∙◌}
+use mathlib.Core.List.{List, [], ◌∷◌, ◌++◌}
+use lib.ListN.{length, get_or, take, length-append}
+use lib.Seq.{take-suc}
 use Rattle.rules.specs.Bytes.{u32}
 use Rattle.rules.specs.Listing.{answer_line}
 use Rattle.rules.specs.declared.Totals.{Totals}
@@ -13,23 +13,15 @@ use Rattle.rules.specs.declared.Totalled.{Totalled}
 use Rattle.totalling.specs.Counted.{numbers_at, record_in, four_bytes_lem, number_bytes, record_bytes, said, most_said}
 
 -- ---- read
-pub numbers_start : (s out : List ℕ) (p n : ℕ) → numbers_at s p n ≡ take 0 out ++ numbers_at s p (n - 0)
-numbers_start s out p n = let d : n - 0 ≡ n = omega arith in rw d
-
--- what is left to read after i numbers, after those that stand there
-pub numbers_step : (s out : List ℕ) (p n i : ℕ) → i < n → i < length out
-    → take i out ++ numbers_at s p (n - i) ≡ take (i + 1) (set out i (u32 s p)) ++ numbers_at s (p + 4) (n - (i + 1))
+pub numbers_are : (s : List ℕ) (p n : ℕ) (xs : List ℕ) → length xs ≡ n → ((k : ℕ) → k < n → get_or xs k 0 ≡ u32 s (p + 4 * k)) → xs ≡ numbers_at s p n
 unfolding numbers_at
-numbers_step s out p n i h k =
-    let d : n - i ≡ suc (n - (i + 1)) = omega arith in
-    let u : take (i + 1) (set out i (u32 s p)) ≡ take i out ++ (u32 s p ∷ []) = rw add-one (take-suc-set out i (u32 s p) k) in
-    rw (d, u, append_assoc)
-
-pub numbers_end : (s out : List ℕ) (p n i : ℕ) → n ≤ i → i ≡ length out → take i out ++ numbers_at s p (n - i) ≡ out
-unfolding numbers_at
-numbers_end s out p n i h k =
-    let d : n - i ≡ 0 = omega arith in
-    rw (d, k, take-length out, append-nil)
+numbers_are s p zero [] e h = refl
+numbers_are s p zero (x ∷ xs) e h = absurd (omega arith)
+numbers_are s p (suc n) [] e h = absurd (omega arith)
+numbers_are s p (suc n) (x ∷ xs) e h =
+    let first : p + 4 * 0 ≡ p = omega arith in
+    let rest = numbers_are s (p + 4) n xs (omega arith) (λ k l. let q : p + 4 * suc k ≡ p + 4 + 4 * k = omega arith in h (suc k) (omega arith) ∙ ap (u32 s) q) in
+    ap₂ (λ y ys. y ∷ ys) (h 0 (omega arith) ∙ ap (u32 s) first) rest
 
 pub record_is : (input : List ℕ) (t : Totals) → t.answers ≡ numbers_at input 8 6 → t.types ≡ numbers_at input 32 31 → t.marks ≡ numbers_at input 164 9
     → t.unmapped ≡ u32 input 156 → t.mapped ≡ u32 input 160 → t ≡ record_in input

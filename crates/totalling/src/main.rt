@@ -1,7 +1,7 @@
 // Counts the Blob that standard input holds after its code table into the record that stands before both; specs/Counted.antt says what is printed.
 #![tactic(auto)]
 
-ghost use Rattle.std.specs.Prelude.{◌≡◌, true, List, ℕ, ◌+◌, ◌*◌, ◌≤◌, length};
+ghost use Rattle.std.specs.Prelude.{◌≡◌, List, ℕ, ◌+◌, ◌*◌, ◌≤◌, length};
 ghost use Rattle.text.specs.Writer.{Wrote};
 ghost use Rattle.tabletext.specs.Input.{Began};
 ghost use Rattle.listing.specs.Written.{Written};
@@ -10,7 +10,7 @@ ghost use Rattle.totalling.specs.Counted.{numbers_at, record_in, four_bytes_lem,
 use listing::{answer_line, refusal_line};
 use numbers::u32_at;
 use rules::{BAD_TABLE, LONGEST, Totals};
-use tablebytes::put_two;
+use text::put_text;
 
 // Where the input's parts stand: room for rows, the record's numbers, the table's length, the table.
 const PROPERTY_ROOM_AT: usize = 4;
@@ -41,42 +41,27 @@ const SHORT: usize = 65536;
 // Room for the line of an answer, which has at most 51 bytes, and for the record's 192.
 const SAID: usize = 256;
 
-// Of the large array only the length is told, since a proof that computed with its elements would not end.
-fn large_input() -> [u8; SPACE]
-    ensures { most_read ≡ length result }
-{
-    [0; SPACE]
-}
-
 // ---- the record as it is read
-fn read_numbers(input: &[u8], at: usize, out: &mut [u32])
-    requires { at + 4 * length out.old ≤ 204 }
-    ensures { out.new ≡ numbers_at input.now at (length out.old) }
+fn numbers_in<const N: usize>(input: &[u8], at: usize) -> [u32; N]
+    requires { at + 4 * N ≤ 204 }
+    ensures { result ≡ numbers_at input.now at N }
 {
-    let mut p = at;
-    let mut i = 0;
-    while i < out.len() {
-        out[i] = u32_at(input, p);
-        p = p + 4;
-        i = i + 1;
+    let mut numbers = [0; N];
+    for (i, n) in numbers.iter_mut().enumerate() {
+        *n = u32_at(input, at + 4 * i);
     }
+    numbers
 }
 
 fn record_in(input: &[u8]) -> Totals
     ensures { result ≡ record_in input.now }
 {
-    let mut answers = [0; 6];
-    read_numbers(input, ANSWERS_AT, &mut answers);
-    let mut types = [0; 31];
-    read_numbers(input, TYPES_AT, &mut types);
-    let mut marks = [0; 9];
-    read_numbers(input, MARKS_AT, &mut marks);
     Totals {
-        answers,
-        types,
+        answers: numbers_in(input, ANSWERS_AT),
+        types: numbers_in(input, TYPES_AT),
         unmapped: u32_at(input, UNMAPPED_AT),
         mapped: u32_at(input, MAPPED_AT),
-        marks,
+        marks: numbers_in(input, MARKS_AT),
     }
 }
 
@@ -84,33 +69,27 @@ fn record_in(input: &[u8]) -> Totals
 fn put_four(out: &mut [u8], at: usize, n: u32) -> usize
     ensures { Wrote out.old at (four_bytes_lem n) out.new result }
 {
-    let p = put_two(out, at, (n % 65536) as u16);
-    put_two(out, p, (n / 65536) as u16)
+    put_text(out, at, &n.to_le_bytes())
 }
 
 fn put_numbers(out: &mut [u8], at: usize, numbers: &[u32]) -> usize
     ensures { Wrote out.old at (number_bytes numbers.now) out.new result }
 {
-    let mut o = at;
-    let mut i = 0;
-    while i < numbers.len() {
-        o = put_four(out, o, numbers[i]);
-        i += 1;
+    let mut p = at;
+    for n in numbers {
+        p = put_four(out, p, *n);
     }
-    o
+    p
 }
 
 fn put_record(out: &mut [u8], at: usize, t: Totals) -> usize
     ensures { Wrote out.old at (record_bytes t) out.new result × (length (record_bytes t) ≡ 192) }
 {
-    let answers = t.answers;
-    let p = put_numbers(out, at, &answers);
-    let types = t.types;
-    let p = put_numbers(out, p, &types);
+    let p = put_numbers(out, at, &t.answers);
+    let p = put_numbers(out, p, &t.types);
     let p = put_four(out, p, t.unmapped);
     let p = put_four(out, p, t.mapped);
-    let marks = t.marks;
-    put_numbers(out, p, &marks)
+    put_numbers(out, p, &t.marks)
 }
 
 // ---- what is printed
@@ -155,26 +134,10 @@ fn count(rt: &HostRuntime, input: &[u8])
     print(rt, input, &out[..end]);
 }
 
-// Of a longer input `head` is the start; `whole` says that it is all that is read.
-// As it calls itself it is compiled apart, so that no shorter input needs its stack of 34 MB.
-fn count_large(rt: &HostRuntime, head: &[u8], whole: bool)
-    requires { whole ≡ true → length head.now ≤ most_read }
-{
-    if whole {
-        count(rt, head);
-        return;
-    }
-    let mut space = large_input();
-    let size = inputs::fill(rt, &mut space, head);
-    count_large(rt, &space[..size], true);
-}
-
 fn main(rt: HostRuntime) {
-    let mut head = [0; SHORT];
-    let size = streams::read_full(&rt, &mut head);
-    if size < SHORT {
-        count(&rt, &head[..size]);
-    } else {
-        count_large(&rt, &head, false);
-    }
+    inputs::by_length::<SHORT, SPACE, _, _>(
+        &rt,
+        |input| count(&rt, input),
+        |input| count(&rt, input),
+    );
 }
