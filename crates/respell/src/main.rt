@@ -1,7 +1,7 @@
 // Rewrites the Access 2000 stream that standard input holds; specs/Respelled.antt says what is printed.
 #![tactic(auto)]
 
-ghost use Rattle.std.specs.Prelude.{◌≡◌, true, List, ◌++◌, ℕ, ◌≤◌, ◌<◌, length};
+ghost use Rattle.std.specs.Prelude.{◌≡◌, List, ◌++◌, ℕ, ◌≤◌, ◌<◌, length};
 ghost use Rattle.rules.specs.Answer.{longest};
 ghost use Rattle.inputs.specs.Begun.{Begun};
 ghost use Rattle.respell.specs.Respelled.{respelled};
@@ -13,13 +13,6 @@ const SHORT: usize = 65536;
 
 // Room for the line of an answer, which has at most 51 bytes.
 const LINE: usize = 64;
-
-// Of the large array only the length is told, since a proof that computed with its elements would not end.
-fn large_stream() -> [u8; LONGEST]
-    ensures { longest ≡ length result }
-{
-    [0; LONGEST]
-}
 
 // Prints what is said of standard input, of which `input` was read and `more` tells whether bytes came after it: a line, and the bytes after it.
 fn print(rt: &HostRuntime, input: &[u8], more: bool, line: &[u8], bytes: &[u8])
@@ -54,31 +47,21 @@ fn respell_small(rt: &HostRuntime, input: &[u8])
     respell(rt, input, &mut out);
 }
 
-// Of a longer stream `head` is the start; `more` says that it is the longest that is read, and that bytes came after it.
-// As it calls itself it is compiled apart, so that no shorter stream needs its stack of 33 MB.
-fn respell_large(rt: &HostRuntime, head: &[u8], more: bool)
-    requires { more ≡ true → longest ≤ length head.now }
+// A longer stream than is read is refused.
+fn respell_large(rt: &HostRuntime, input: &[u8])
+    requires { length input.now ≤ longest }
 {
-    if more {
-        refuse(rt, head);
-        return;
+    if inputs::has_more(rt, input.len(), LONGEST) {
+        return refuse(rt, input);
     }
-    let mut space = large_stream();
-    let mut out = large_stream();
-    let size = inputs::fill(rt, &mut space, head);
-    if inputs::has_more(rt, size, LONGEST) {
-        respell_large(rt, &space, true);
-        return;
-    }
-    respell(rt, &space[..size], &mut out);
+    let mut out = inputs::filled::<u8, LONGEST>(0);
+    respell(rt, input, &mut out);
 }
 
 fn main(rt: HostRuntime) {
-    let mut head = [0; SHORT];
-    let size = streams::read_full(&rt, &mut head);
-    if size < SHORT {
-        respell_small(&rt, &head[..size]);
-    } else {
-        respell_large(&rt, &head, false);
-    }
+    inputs::by_length::<SHORT, LONGEST, _, _>(
+        &rt,
+        |input| respell_small(&rt, input),
+        |input| respell_large(&rt, input),
+    );
 }

@@ -93,7 +93,7 @@ fn print(rt: &HostRuntime, length: u32, lines: &[u8])
 fn main(rt: HostRuntime) {
     let mut input = [0; LENGTH_SIZE];
     streams::read_full(&rt, &mut input);
-    let length = numbers::u32_at(&input, 0);
+    let length = u32::from_le_bytes(input);
     let mut out = [0; LINES_ROOM];
     let end = put_rooms(&mut out, length);
     print(&rt, length, &out[..end]);
