@@ -1,11 +1,12 @@
 -- What is printed is what is said of all that standard input had.
-use Prim.Native.Nat.{ℕ, ◌+◌, ◌-◌, ◌*◌, ◌≤◌, ◌<◌}
+use Prim.Native.Nat.{ℕ, ◌+◌, ◌*◌, ◌≤◌, ◌<◌}
 use native.Mathlib.Omega.{arith}
-use mathlib.Core.Path.{◌≡◌, sym, ap, ◌∙◌}
+use mathlib.Core.Path.{◌≡◌, refl, sym, ap, ◌∙◌}
+use mathlib.Core.Bool.{Bool, true, false, cond}
 use mathlib.Core.List.{List}
 use borrow.Author.Tests.{lt-ltb, le-ltb}
-use lib.ListN.{length, take, drop, length-drop, length-replicate}
-use lib.Seq.{take_all}
+use lib.Dec.{ltb}
+use lib.ListN.{length, take, length-replicate}
 use Rattle.rules.specs.Answer.{refusal, bad_table}
 use Rattle.rules.specs.Rows.{difference_width}
 use Rattle.rules.specs.Listing.{answer_line, table_length, table_in, blob_in}
@@ -14,7 +15,8 @@ use Rattle.listing.proofs.Longest.{answer-short}
 use Rattle.text.specs.Writer.{Wrote}
 use Rattle.tabletext.specs.Input.{Began}
 use Rattle.tabletext.proofs.Told.{first-printed}
-use Rattle.difflist.specs.Listed.{after_length, listed, listed_in_lem, listed_of, most_read, said_for, most_said, lent_for, zeros, small_rows, small_controls, small_properties, small_said, large_rows, large_controls, large_properties, large_said, Ready}
+use Rattle.inputs.specs.Lent.{all_of, zeros}
+use Rattle.difflist.specs.Listed.{after_length, listed, listed_in_lem, listed_of, most_read, said_for, most_said, lent_for, small_rows, small_controls, small_properties, small_said, large_rows, large_controls, large_properties, large_said, Cut, Ready}
 
 -- ---- a table after its length
 refusal-short : (rows : List ℕ) → length (answer_line (refusal bad_table)) ≤ most_said rows
@@ -22,35 +24,24 @@ unfolding most_said
 refusal-short rows = omega (arith, answer-short (refusal bad_table) (omega arith) (omega arith) (omega arith) (omega arith))
 
 module _ (say : List ℕ → List ℕ → List ℕ) (input rows : List ℕ) where
-  input_short : length input < 4 → after_length say input ≡ answer_line (refusal bad_table)
+  -- a shorter input is shorter than four bytes, or than its table
+  refused : length input < 4 + table_length input → after_length say input ≡ answer_line (refusal bad_table)
   unfolding after_length
-  input_short h = rw (lt-ltb (length input) 4 h)
+  refused h = go (ltb (length input) 4)
+    where
+      go : (b : Bool) → cond b (answer_line (refusal bad_table)) (cond (ltb (length input) (4 + table_length input)) (answer_line (refusal bad_table)) (say (table_in input) (blob_in input)))
+          ≡ answer_line (refusal bad_table)
+      go true = refl
+      go false = rw (lt-ltb (length input) (4 + table_length input) h)
 
-  pub short-written : {o n : List ℕ} {e : ℕ} → length input < 4 → Wrote o 0 (answer_line (refusal bad_table)) n e → Written o (after_length say input) (most_said rows) n e
-  short-written h w = rw (input_short h) (record { wrote = w; short = refusal-short rows })
+  pub refused-written : {o n : List ℕ} {e : ℕ} → length input < 4 + table_length input → Wrote o 0 (answer_line (refusal bad_table)) n e → Written o (after_length say input) (most_said rows) n e
+  refused-written h w = rw (refused h) (record { wrote = w; short = refusal-short rows })
 
-  module _ (begins : 4 ≤ length input) where
-    input_cut : length input < 4 + table_length input → after_length say input ≡ answer_line (refusal bad_table)
-    unfolding after_length
-    input_cut h = rw (le-ltb (length input) 4 begins, lt-ltb (length input) (4 + table_length input) h)
-
-    pub cut-written : {o n : List ℕ} {e : ℕ} → length input < 4 + table_length input → Wrote o 0 (answer_line (refusal bad_table)) n e → Written o (after_length say input) (most_said rows) n e
-    cut-written h w = rw (input_cut h) (record { wrote = w; short = refusal-short rows })
-
-    input_whole : 4 + table_length input ≤ length input → after_length say input ≡ say (table_in input) (blob_in input)
-    unfolding after_length
-    input_whole h = rw (le-ltb (length input) 4 begins, le-ltb (length input) (4 + table_length input) h)
-
-    -- the table and what follows it, as slices
-    pub whole-written : (size : ℕ) → size ≡ table_length input → 4 + size ≤ length input → {table rest o n : List ℕ} {e : ℕ}
-        → table ≡ take (4 + size - 4) (drop 4 input) → rest ≡ take (length input - (4 + size)) (drop (4 + size) input)
-        → Written o (say table rest) (most_said rows) n e → Written o (after_length say input) (most_said rows) n e
-    whole-written size z h {table} {rest} te se w =
-        let l : 4 + table_length input ≤ length input = omega arith in
-        let d : 4 + size - 4 ≡ size = omega arith in
-        let a : table ≡ table_in input = te ∙ rw (d, z) in
-        let b : rest ≡ blob_in input = se ∙ take_all (length input - (4 + size)) (drop (4 + size) input) (simp length-drop (omega arith)) ∙ rw z in
-        rw (input_whole l) (rw (a, b) at w)
+  pub cut-written : {table rest : List ℕ} → Cut input table rest → {o n : List ℕ} {e : ℕ} → Written o (say table rest) (most_said rows) n e → Written o (after_length say input) (most_said rows) n e
+  unfolding after_length
+  cut-written k w =
+      let begins : 4 ≤ length input = omega (arith, k.whole) in
+      rw (le-ltb (length input) 4 begins, le-ltb (length input) (4 + table_length input) k.whole) (rw (k.table_is, k.rest_is) at w)
 
 -- ---- what is lent
 small-lent : (input : List ℕ) {lent : List ℕ} (small large : ℕ) → length input < 16384 → zeros small ≡ lent → lent_for input small large ≡ lent
@@ -62,7 +53,7 @@ unfolding lent_for
 large_lent input small large h e = rw (le-ltb (length input) 16384 h) e
 
 rows-lent : {rows : List ℕ} (n : ℕ) → zeros (n * difference_width) ≡ rows → most_said rows ≡ said_for n
-unfolding zeros most_said
+unfolding all_of most_said
 rows-lent n e = omega (arith, ap length (sym e) ∙ length-replicate {A = ℕ} (n * difference_width) 0)
 
 module _ {input rows cs ps out : List ℕ} where

@@ -6,14 +6,14 @@ use native.Mathlib.Numerals.{add-one}
 use mathlib.Core.Path.{◌≡◌, refl, sym, ap, ◌∙◌}
 use mathlib.Core.List.{List, [], ◌∷◌, ◌++◌, append_assoc, append-nil}
 use lib.ListN.{length, get_or, take, drop, length-append, length-take}
-use lib.Seq.{take-suc, take_all, get_or-take, get_or-drop}
+use lib.Seq.{take-suc, get_or-take, get_or-drop}
 use Rattle.rules.specs.Lists.{text}
 use Rattle.rules.specs.Bytes.{part}
 use Rattle.rules.specs.Digits.{decimal}
 use Rattle.rules.specs.Rows.{difference_width, control_width, row_at}
 use Rattle.rules.specs.Listing.{word}
 use Rattle.text.specs.Writer.{Wrote}
-use Rattle.text.proofs.Chain.{nothing, ◌⨟◌}
+use Rattle.text.proofs.Chain.{◌⨟◌}
 use Rattle.listing.proofs.Longest.{Word32, decimal-short}
 use Rattle.difflist.specs.Lines.{spaced, difference_line}
 
@@ -30,27 +30,10 @@ one : (w : ℕ) → spaced (w ∷ []) ≡ text " " ++ decimal w
 unfolding spaced
 one w = ap (λ (l : List ℕ). text " " ++ l) (append-nil (decimal w))
 
-one_more : (s : List ℕ) (i : ℕ) → i < length s → spaced (take (i + 1) s) ≡ spaced (take i s) ++ (text " " ++ decimal (get_or s i 0))
+pub one_more : (s : List ℕ) (i : ℕ) → i < length s → spaced (take (i + 1) s) ≡ spaced (take i s) ++ (text " " ++ decimal (get_or s i 0))
 one_more s i h =
     rw (add-one, take-suc s i 0 h)
     (both (take i s) (get_or s i 0 ∷ []) ∙ ap (λ (l : List ℕ). spaced (take i s) ++ l) (one (get_or s i 0)))
-
--- the first i words of s are in the buffer
-pub record Spaced (s old : List ℕ) (at : ℕ) (new : List ℕ) (o i : ℕ) : Type 0 where
-  pub few : i ≤ length s
-  pub wrote : Wrote old at (spaced (take i s)) new o
-
-module _ {s old : List ℕ} {at : ℕ} where
-  pub spaced-none : Spaced s old at old at 0
-  unfolding spaced
-  spaced-none = record { few = omega arith; wrote = nothing }
-
-  pub spaced-more : {new mid next : List ℕ} {o p q i : ℕ} → Spaced s old at new o i → i < length s
-      → Wrote new o (text " ") mid p → Wrote mid p (decimal (get_or s i 0)) next q → Spaced s old at next q (i + 1)
-  spaced-more {i = i} k l b w = record { few = omega arith; wrote = rw (one_more s i l) (k.wrote ⨟ b ⨟ w) }
-
-  pub spaced-all : {new : List ℕ} {o i : ℕ} → Spaced s old at new o i → length s ≤ i → Wrote old at (spaced s) new o
-  spaced-all {i = i} k l = rw (take_all i s l) at k.wrote
 
 -- ---- how long they are
 spaced-short : (ws : List ℕ) → ((i : ℕ) → i < length ws → Word32 (get_or ws i 0)) → length (spaced ws) ≤ length ws * 11

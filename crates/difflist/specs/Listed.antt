@@ -1,11 +1,12 @@
 -- What is printed for two code tables and a stream: the line of the answer, then that of the newer table's reading with the lines of the differences, or why there are none to tell.
-use Rattle.std.specs.Prelude.{ℕ, ◌+◌, ◌*◌, ◌≤◌, ◌≡◌, cond, List, [], ◌++◌, ltb, eqb, length, take, replicate}
+use Rattle.std.specs.Prelude.{ℕ, ◌+◌, ◌*◌, ◌≤◌, ◌≡◌, cond, List, [], ◌++◌, ltb, eqb, length, take}
 use Rattle.rules.specs.Answer.{refusal, bad_table, no_successor, longest}
 use Rattle.rules.specs.Rows.{control_width, property_width, difference_width, room}
 use Rattle.rules.specs.Blob.{Exit, exit}
 use Rattle.rules.specs.Differences.{DifferencesExit, differences_exit}
 use Rattle.rules.specs.Listing.{answer_line, table_length, table_in, blob_in}
 use Rattle.listing.specs.Shown.{lines_to}
+use Rattle.inputs.specs.Lent.{zeros}
 use Rattle.difflist.specs.Lines.{difference_line, why_not}
 
 -- ---- of two tables and a stream
@@ -32,6 +33,12 @@ after_length say input =
     (cond (ltb (length input) (4 + table_length input)) (answer_line (refusal bad_table))
     (say (table_in input) (blob_in input)))
 
+-- a table after its length, and what follows it
+pub record Cut (input table rest : List ℕ) : Type 0 where
+  pub whole : 4 + table_length input ≤ length input
+  pub table_is : table ≡ table_in input
+  pub rest_is : rest ≡ blob_in input
+
 abbrev pub listed_after : List ℕ → List ℕ → List ℕ → List ℕ → List ℕ → List ℕ
 listed_after older rest rows controls properties = after_length (λ newer s. said older newer s rows controls properties) rest
 
@@ -39,9 +46,6 @@ abbrev pub listed : List ℕ → List ℕ → List ℕ → List ℕ → List ℕ
 listed input rows controls properties = after_length (λ older rest. listed_after older rest rows controls properties) input
 
 -- ---- the words that are lent: zeros
-unfoldable pub zeros : ℕ → List ℕ
-zeros n = replicate n 0
-
 -- room for every Blob in an input under 16,384 bytes
 abbrev pub small_rows : ℕ
 small_rows = 16384 * difference_width

@@ -1,22 +1,23 @@
 // Lists what a newer code table changes in a Blob. Standard input holds the older table and the newer, each after its length, then the Blob; specs/Listed.antt says what is printed.
 #![tactic(auto)]
 
-ghost use Rattle.std.specs.Prelude.{◌≡◌, true, List, ℕ, ◌≤◌, ◌<◌, length};
+ghost use Rattle.std.specs.Prelude.{◌≡◌, true, List, ℕ, ◌+◌, ◌≤◌, ◌<◌, length, MatchOption};
 ghost use Rattle.rules.specs.Bytes.{part};
 ghost use Rattle.rules.specs.CodeTable.{well_formed_lem};
 ghost use Rattle.rules.specs.Rows.{difference_width, row_at};
-ghost use Rattle.rules.specs.Listing.{word};
+ghost use Rattle.rules.specs.Listing.{word, table_length};
 ghost use Rattle.text.specs.Writer.{Wrote};
 ghost use Rattle.listing.specs.Shown.{lines_to};
 ghost use Rattle.listing.specs.Written.{Written};
 ghost use Rattle.tabletext.specs.Input.{Began};
 ghost use Rattle.difflist.specs.Lines.{spaced, difference_line, why_not};
-ghost use Rattle.difflist.specs.Listed.{said, listed_after, listed, listed_of, most_read, most_said, zeros, small_rows, small_controls, small_properties, small_said, large_rows, large_controls, large_properties, large_said, Ready};
+ghost use Rattle.difflist.specs.Listed.{said, listed, listed_of, most_read, most_said, Cut, Ready};
 
 use blob::read_blob;
 use differ2000::DIFFERENCE_WIDTH;
 use differences::{NO_SUCCESSOR, differences};
 use fields::put_end;
+use inputs::{by_length, filled};
 use listing::{answer_line, refusal_line};
 use numbers::u32_at;
 use rows::{CONTROL_WIDTH, PROPERTY_WIDTH};
@@ -43,98 +44,52 @@ const BEFORE: usize = 233;
 
 const LINE: usize = 156;
 
+// The words of rows that are lent for a short input and for a long one, and the room for what is said of it.
+const SMALL_ROW_WORDS: usize = SMALL_ROWS * DIFFERENCE_WIDTH;
+
+const SMALL_CONTROL_WORDS: usize = 5461 * CONTROL_WIDTH;
+
+const SMALL_PROPERTY_WORDS: usize = 16384 * PROPERTY_WIDTH;
+
+const SMALL_SAID: usize = BEFORE + SMALL_ROWS * LINE;
+
+const LARGE_ROW_WORDS: usize = LARGE_ROWS * DIFFERENCE_WIDTH;
+
+const LARGE_CONTROL_WORDS: usize = 16384 * CONTROL_WIDTH;
+
+const LARGE_PROPERTY_WORDS: usize = 262144 * PROPERTY_WIDTH;
+
+const LARGE_SAID: usize = BEFORE + LARGE_ROWS * LINE;
+
 // Of a control's row the words that are shown: its type, and mark, start and length of its name.
 const NAME_WORDS: usize = 4;
-
-// Of the large arrays no element is computed, since such a proof would not end.
-fn large_input() -> [u8; SPACE]
-    ensures { most_read ≡ length result }
-{
-    [0; SPACE]
-}
-
-fn small_rows() -> [u32; SMALL_ROWS * DIFFERENCE_WIDTH]
-    ensures { zeros small_rows ≡ result }
-{
-    [0; SMALL_ROWS * DIFFERENCE_WIDTH]
-}
-
-fn small_controls() -> [u32; 5461 * CONTROL_WIDTH]
-    ensures { zeros small_controls ≡ result }
-{
-    [0; 5461 * CONTROL_WIDTH]
-}
-
-fn small_properties() -> [u32; 16384 * PROPERTY_WIDTH]
-    ensures { zeros small_properties ≡ result }
-{
-    [0; 16384 * PROPERTY_WIDTH]
-}
-
-fn small_said() -> [u8; BEFORE + SMALL_ROWS * LINE]
-    ensures { small_said ≡ length result }
-{
-    [0; BEFORE + SMALL_ROWS * LINE]
-}
-
-fn large_rows() -> [u32; LARGE_ROWS * DIFFERENCE_WIDTH]
-    ensures { zeros large_rows ≡ result }
-{
-    [0; LARGE_ROWS * DIFFERENCE_WIDTH]
-}
-
-fn large_controls() -> [u32; 16384 * CONTROL_WIDTH]
-    ensures { zeros large_controls ≡ result }
-{
-    [0; 16384 * CONTROL_WIDTH]
-}
-
-fn large_properties() -> [u32; 262144 * PROPERTY_WIDTH]
-    ensures { zeros large_properties ≡ result }
-{
-    [0; 262144 * PROPERTY_WIDTH]
-}
-
-fn large_said() -> [u8; BEFORE + LARGE_ROWS * LINE]
-    ensures { large_said ≡ length result }
-{
-    [0; BEFORE + LARGE_ROWS * LINE]
-}
 
 // ---- the lines of differences
 // So many words from a place on, as far as the slice has them.
 fn part_of(words: &[u32], from: usize, size: usize) -> &[u32]
     ensures { result.now ≡ part words.now from size }
 {
-    if words.len() <= from {
-        return &words[..0];
-    }
-    if words.len() - from <= size {
-        return &words[from..];
-    }
-    let end = from + size;
-    &words[from..end]
+    let rest = &words[from.min(words.len())..];
+    &rest[..size.min(rest.len())]
 }
 
 // The second word of a row, which in a difference is its control; 0 where the row lacks it.
 fn second_word(row: &[u32]) -> u32
     ensures { result ≡ word row.now 1 }
 {
-    if 1 < row.len() { row[1] } else { 0 }
+    row.get(1).copied().unwrap_or(0)
 }
 
 // Words in decimal, each after a blank.
 fn put_words(out: &mut [u8], at: usize, words: &[u32]) -> usize
     ensures { Wrote out.old at (spaced words.now) out.new result }
 {
-    let mut o = at;
-    let mut i = 0;
-    while i < words.len() {
-        let p = put_byte(out, o, b' ');
-        o = put_decimal(out, p, words[i]);
-        i += 1;
+    let mut p = at;
+    for word in words {
+        let o = put_byte(out, p, b' ');
+        p = put_decimal(out, o, *word);
     }
-    o
+    p
 }
 
 // The D line of difference row `n`.
@@ -155,10 +110,8 @@ fn difference_lines(out: &mut [u8], at: usize, rows: &[u32], count: u32, control
     ensures { Wrote out.old at (lines_to (difference_line controls.now) difference_width count rows.now) out.new result }
 {
     let mut p = at;
-    let mut n = 0;
-    while n < count {
+    for n in 0..count {
         p = difference_line(out, p, rows, n, controls);
-        n += 1;
     }
     p
 }
@@ -204,34 +157,12 @@ fn write_said(
     difference_lines(out, p, rows, a.first, controls)
 }
 
-// What follows the older table: the newer after its length, and the Blob.
-fn write_after(
-    older: &[u8],
-    rest: &[u8],
-    rows: &mut [u32],
-    controls: &mut [u32],
-    properties: &mut [u32],
-    out: &mut [u8],
-) -> usize
-    ensures { Written out.old (listed_after older.now rest.now rows.old controls.old properties.old) (most_said rows.old) out.new result }
+// A table after its length, and what follows it.
+fn cut_table(input: &[u8]) -> Option<(&[u8], &[u8])>
+    ensures { MatchOption result (length input.now < 4 + table_length input.now) (λ r. Cut input.now r.0.now r.1.now) }
 {
-    if rest.len() < 4 {
-        return refusal_line(out, BAD_TABLE);
-    }
-    let size = u32_at(rest, 0) as usize;
-    if rest.len() - 4 < size {
-        return refusal_line(out, BAD_TABLE);
-    }
-    let start = 4 + size;
-    write_said(
-        older,
-        &rest[4..start],
-        &rest[start..],
-        rows,
-        controls,
-        properties,
-        out,
-    )
+    let rest = input.get(4..)?;
+    rest.split_at_checked(u32_at(input, 0) as usize)
 }
 
 fn write_listed(
@@ -243,22 +174,13 @@ fn write_listed(
 ) -> usize
     ensures { Written out.old (listed input.now rows.old controls.old properties.old) (most_said rows.old) out.new result }
 {
-    if input.len() < 4 {
+    let Some((older, rest)) = cut_table(input) else {
         return refusal_line(out, BAD_TABLE);
-    }
-    let size = u32_at(input, 0) as usize;
-    if input.len() - 4 < size {
+    };
+    let Some((newer, stream)) = cut_table(rest) else {
         return refusal_line(out, BAD_TABLE);
-    }
-    let start = 4 + size;
-    write_after(
-        &input[4..start],
-        &input[start..],
-        rows,
-        controls,
-        properties,
-        out,
-    )
+    };
+    write_said(older, newer, stream, rows, controls, properties, out)
 }
 
 // ---- standard input and output
@@ -286,10 +208,10 @@ fn list(
 fn list_small(rt: &HostRuntime, input: &[u8])
     requires { length input.now < 16384 }
 {
-    let mut rows = small_rows();
-    let mut controls = small_controls();
-    let mut properties = small_properties();
-    let mut out = small_said();
+    let mut rows = filled::<u32, SMALL_ROW_WORDS>(0);
+    let mut controls = filled::<u32, SMALL_CONTROL_WORDS>(0);
+    let mut properties = filled::<u32, SMALL_PROPERTY_WORDS>(0);
+    let mut out = filled::<u8, SMALL_SAID>(0);
     list(
         rt,
         input,
@@ -300,37 +222,27 @@ fn list_small(rt: &HostRuntime, input: &[u8])
     );
 }
 
-// Of a longer input `head` is the start; `whole` says that it is all that is read.
-// As it calls itself it is compiled apart, so that no shorter input needs its stack of 99 MB.
-fn list_large(rt: &HostRuntime, head: &[u8], whole: bool)
-    requires { (16384 ≤ length head.now) × (length head.now ≤ most_read) }
+fn list_large(rt: &HostRuntime, input: &[u8])
+    requires { (16384 ≤ length input.now) × (length input.now ≤ most_read) }
 {
-    if whole {
-        let mut rows = large_rows();
-        let mut controls = large_controls();
-        let mut properties = large_properties();
-        let mut out = large_said();
-        list(
-            rt,
-            head,
-            &mut rows,
-            &mut controls,
-            &mut properties,
-            &mut out,
-        );
-        return;
-    }
-    let mut space = large_input();
-    let size = inputs::fill(rt, &mut space, head);
-    list_large(rt, &space[..size], true);
+    let mut rows = filled::<u32, LARGE_ROW_WORDS>(0);
+    let mut controls = filled::<u32, LARGE_CONTROL_WORDS>(0);
+    let mut properties = filled::<u32, LARGE_PROPERTY_WORDS>(0);
+    let mut out = filled::<u8, LARGE_SAID>(0);
+    list(
+        rt,
+        input,
+        &mut rows,
+        &mut controls,
+        &mut properties,
+        &mut out,
+    );
 }
 
 fn main(rt: HostRuntime) {
-    let mut head = [0; SHORT];
-    let size = streams::read_full(&rt, &mut head);
-    if size < SHORT {
-        list_small(&rt, &head[..size]);
-    } else {
-        list_large(&rt, &head, false);
-    }
+    by_length::<SHORT, SPACE, _, _>(
+        &rt,
+        |input| list_small(&rt, input),
+        |input| list_large(&rt, input),
+    );
 }
