@@ -15,9 +15,10 @@ use Rattle.listing.proofs.Longest.{answer-short}
 use Rattle.listing.proofs.Placed.{held}
 use Rattle.text.specs.Writer.{Buffer, push, write, Wrote}
 use Rattle.text.proofs.Written.{next}
+use Rattle.inputs.specs.Lent.{zeros}
 use Rattle.tabletext.specs.Input.{Began, whole, filled}
 use Rattle.showlines.specs.Shown.{shown_blob, shown_paired}
-use Rattle.showform.specs.Printed.{longest_stream, longest_input, info_at, blob_at, table_in, info_in, blob_in, parts_shown, shown_in, zeros, small_infos, small_controls, small_properties, large_infos, large_controls, large_properties, infos_for, controls_for, properties_for, shown_for, text_room, fitted, printed, most_read, Ready, Refused}
+use Rattle.showform.specs.Printed.{longest_stream, longest_input, info_at, blob_at, table_in, info_in, blob_in, parts_shown, shown_in, small_infos, small_controls, small_properties, large_infos, large_controls, large_properties, infos_for, controls_for, properties_for, shown_for, text_room, fitted, printed, most_read, Ready, Refused}
 
 -- ---- what is shown, by the parts of the input
 module _ (table info stream is cs ps : List ℕ) where

@@ -1,9 +1,10 @@
 -- What is printed for an input: a form, line by line, or the line of a refusal.
-use Rattle.std.specs.Prelude.{ℕ, ◌+◌, ◌*◌, ◌≤◌, ◌≡◌, cond, List, ltb, eqb, length, drop, replicate}
+use Rattle.std.specs.Prelude.{ℕ, ◌+◌, ◌*◌, ◌≤◌, ◌≡◌, cond, List, ltb, eqb, length, drop}
 use Rattle.rules.specs.Bytes.{u32, part}
 use Rattle.rules.specs.Answer.{refusal, too_long_lem, bad_table, no_room_for_text}
 use Rattle.rules.specs.Rows.{control_width, property_width, type_info_width}
 use Rattle.rules.specs.Listing.{answer_line}
+use Rattle.inputs.specs.Lent.{zeros}
 use Rattle.tabletext.specs.Input.{Began}
 use Rattle.showlines.specs.Shown.{shown_blob, shown_paired}
 
@@ -48,9 +49,6 @@ shown_in input infos controls properties =
     (parts_shown (table_in input) (info_in input) (blob_in input) infos controls properties))
 
 -- ---- the words that are lent: zeros
-unfoldable pub zeros : ℕ → List ℕ
-zeros n = replicate n 0
-
 -- room for all that an input under 16,384 bytes can have
 abbrev pub small_infos : ℕ
 small_infos = 2048 * type_info_width

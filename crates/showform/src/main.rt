@@ -4,8 +4,9 @@
 ghost use Rattle.std.specs.Prelude.{◌≡◌, List, ℕ, ◌≤◌, ◌<◌, length};
 ghost use Rattle.text.specs.Writer.{Wrote};
 ghost use Rattle.tabletext.specs.Input.{Began};
-ghost use Rattle.showform.specs.Printed.{parts_shown, shown_in, zeros, small_infos, small_controls, small_properties, large_infos, large_controls, large_properties, printed, most_read, Ready, Refused};
+ghost use Rattle.showform.specs.Printed.{parts_shown, shown_in, printed, most_read, Ready, Refused};
 
+use inputs::{by_length, filled};
 use listing::refusal_line;
 use numbers::u32_at;
 use rows::{CONTROL_WIDTH, INFO_WIDTH, PROPERTY_WIDTH};
@@ -20,6 +21,9 @@ const LONGEST_TABLE: usize = 65536;
 
 const LONGEST_INPUT: usize = 4 + LONGEST_TABLE + 4 + 2 * LONGEST_STREAM;
 
+// One byte more is read, so that a longer input is told.
+const SPACE: usize = LONGEST_INPUT + 1;
+
 // A shorter input than this is read into little room.
 const SHORT: usize = 16384;
 
@@ -28,64 +32,24 @@ const SMALL_TEXT: usize = 1048576;
 
 const TEXT_ROOM: usize = 50331648;
 
+// One byte more than the longest text has, so that a longer one is told.
+const LARGE_TEXT: usize = TEXT_ROOM + 1;
+
 // Room for the line of an answer, which has at most 51 bytes.
 const LINE: usize = 64;
 
-// Of the large arrays no element is computed, since such a proof would not end.
-fn large_input() -> [u8; LONGEST_INPUT + 1]
-    ensures { most_read ≡ length result }
-{
-    [0; LONGEST_INPUT + 1]
-}
+// The words of rows that are lent for a short input and for a long one.
+const SMALL_INFOS: usize = 2048 * INFO_WIDTH;
 
-fn small_infos() -> [u32; 2048 * INFO_WIDTH]
-    ensures { zeros small_infos ≡ result }
-{
-    [0; 2048 * INFO_WIDTH]
-}
+const SMALL_CONTROLS: usize = 5461 * CONTROL_WIDTH;
 
-fn small_controls() -> [u32; 5461 * CONTROL_WIDTH]
-    ensures { zeros small_controls ≡ result }
-{
-    [0; 5461 * CONTROL_WIDTH]
-}
+const SMALL_PROPERTIES: usize = 16384 * PROPERTY_WIDTH;
 
-fn small_properties() -> [u32; 16384 * PROPERTY_WIDTH]
-    ensures { zeros small_properties ≡ result }
-{
-    [0; 16384 * PROPERTY_WIDTH]
-}
+const LARGE_INFOS: usize = 524284 * INFO_WIDTH;
 
-fn small_text() -> [u8; SMALL_TEXT]
-    ensures { 1048576 ≡ length result }
-{
-    [0; SMALL_TEXT]
-}
+const LARGE_CONTROLS: usize = 16384 * CONTROL_WIDTH;
 
-fn large_infos() -> [u32; 524284 * INFO_WIDTH]
-    ensures { zeros large_infos ≡ result }
-{
-    [0; 524284 * INFO_WIDTH]
-}
-
-fn large_controls() -> [u32; 16384 * CONTROL_WIDTH]
-    ensures { zeros large_controls ≡ result }
-{
-    [0; 16384 * CONTROL_WIDTH]
-}
-
-fn large_properties() -> [u32; 262144 * PROPERTY_WIDTH]
-    ensures { zeros large_properties ≡ result }
-{
-    [0; 262144 * PROPERTY_WIDTH]
-}
-
-// One byte more than the longest text has, so that a longer one is told.
-fn large_text() -> [u8; TEXT_ROOM + 1]
-    ensures { 50331649 ≡ length result }
-{
-    [0; TEXT_ROOM + 1]
-}
+const LARGE_PROPERTIES: usize = 262144 * PROPERTY_WIDTH;
 
 // ---- what is shown
 fn write_parts(
@@ -170,7 +134,7 @@ fn show(
 )
     requires { Ready input.now infos.old controls.old properties.old }
 {
-    let mut out = large_text();
+    let mut out = filled::<u8, LARGE_TEXT>(0);
     let end = write_shown(input, infos, controls, properties, &mut out);
     if TEXT_ROOM < end {
         refuse(rt, input);
@@ -179,64 +143,45 @@ fn show(
     print(rt, input, &out[..end]);
 }
 
+// It is compiled apart from `show_small`, so that a short text doesn't need the stack of a long one.
+#[inline(never)]
 fn show_short(rt: &HostRuntime, input: &[u8])
     requires { length input.now < 16384 }
 {
-    let mut infos = small_infos();
-    let mut controls = small_controls();
-    let mut properties = small_properties();
+    let mut infos = filled::<u32, SMALL_INFOS>(0);
+    let mut controls = filled::<u32, SMALL_CONTROLS>(0);
+    let mut properties = filled::<u32, SMALL_PROPERTIES>(0);
     show(rt, input, &mut infos, &mut controls, &mut properties);
-}
-
-fn show_long(rt: &HostRuntime, input: &[u8])
-    requires { (16384 ≤ length input.now) × (length input.now ≤ most_read) }
-{
-    let mut infos = large_infos();
-    let mut controls = large_controls();
-    let mut properties = large_properties();
-    show(rt, input, &mut infos, &mut controls, &mut properties);
-}
-
-// `head` is the start of the input; `whole` says that it is all that is read.
-// As it calls itself it is compiled apart, so that a small form doesn't need its stack of 85 MB.
-fn show_large(rt: &HostRuntime, head: &[u8], whole: bool)
-    requires { length head.now ≤ most_read }
-{
-    if whole {
-        if head.len() < SHORT {
-            show_short(rt, head);
-            return;
-        }
-        show_long(rt, head);
-        return;
-    }
-    let mut space = large_input();
-    let size = inputs::fill(rt, &mut space, head);
-    show_large(rt, &space[..size], true);
 }
 
 // So short an input most often has a short text.
 fn show_small(rt: &HostRuntime, input: &[u8])
     requires { length input.now < 16384 }
 {
-    let mut infos = small_infos();
-    let mut controls = small_controls();
-    let mut properties = small_properties();
-    let mut out = small_text();
+    let mut infos = filled::<u32, SMALL_INFOS>(0);
+    let mut controls = filled::<u32, SMALL_CONTROLS>(0);
+    let mut properties = filled::<u32, SMALL_PROPERTIES>(0);
+    let mut out = filled::<u8, SMALL_TEXT>(0);
     let end = write_shown(input, &mut infos, &mut controls, &mut properties, &mut out);
     if end < SMALL_TEXT {
-        print(rt, input, &out[..end]);
-        return;
+        return print(rt, input, &out[..end]);
     }
-    show_large(rt, input, true);
+    show_short(rt, input);
+}
+
+fn show_large(rt: &HostRuntime, input: &[u8])
+    requires { (16384 ≤ length input.now) × (length input.now ≤ most_read) }
+{
+    let mut infos = filled::<u32, LARGE_INFOS>(0);
+    let mut controls = filled::<u32, LARGE_CONTROLS>(0);
+    let mut properties = filled::<u32, LARGE_PROPERTIES>(0);
+    show(rt, input, &mut infos, &mut controls, &mut properties);
 }
 
 fn main(rt: HostRuntime) {
-    let mut head = [0; SHORT];
-    let size = streams::read_full(&rt, &mut head);
-    if size < SHORT {
-        show_small(&rt, &head[..size]);
-    } else {
-        show_large(&rt, &head, false);
-    }
+    by_length::<SHORT, SPACE, _, _>(
+        &rt,
+        |input| show_small(&rt, input),
+        |input| show_large(&rt, input),
+    );
 }

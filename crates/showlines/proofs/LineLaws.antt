@@ -18,45 +18,12 @@ use Rattle.rules.specs.NameTables.{control_type_names}
 use Rattle.rules.specs.Names.{name_in_lem, names_for}
 use Rattle.rules.specs.CodeTable.{codes_at, header}
 use Rattle.rules.specs.Csv.{or_id}
-use Rattle.rules.specs.Later.{tree_of}
-use Rattle.rules.specs.Read2000.{is_report}
-use Rattle.rules.specs.Blob.{is2000}
 use Rattle.rules.specs.Listing.{word}
 use Rattle.codetable.proofs.Steps.{codes_next}
-use Rattle.countlater.specs.Count.{is_tree}
 use Rattle.fields.proofs.Tables.{absent, control-types}
 use Rattle.text.specs.Writer.{Wrote}
 use Rattle.showtext.specs.Shown.{quoted, loose_text}
-use Rattle.showlines.specs.Lines.{later_kind, reading_kind, readings, reading_text, objects, object_line, blanks, owner, object_owner, header_mark, or_type, stored_type, control_owner, scope_text, is_unmapped, unmapped_text, key_text, or_code, type_text, name_text}
-
--- ---- which reading
-module _ (s : List ℕ) where
-  pub kind-short : length s < 14 → 4 ≡ later_kind s
-  unfolding later_kind
-  kind-short h = rw (lt-ltb (length s) 14 h)
-
-  module _ (h : 14 ≤ length s) where
-    pub kind-tree : is_tree (tree_of s) ≡ true → 2 ≡ later_kind s
-    unfolding later_kind
-    kind-tree e = rw (le-ltb (length s) 14 h, e)
-
-    pub kind-scan : is_tree (tree_of s) ≡ false → 3 ≡ later_kind s
-    unfolding later_kind
-    kind-scan e = rw (le-ltb (length s) 14 h, e)
-
-  module _ (t : List ℕ) where
-    pub kind-later : is2000 t s ≡ false → later_kind s ≡ reading_kind t s
-    unfolding reading_kind
-    kind-later e = rw e
-
-    module _ (e : is2000 t s ≡ true) where
-      pub kind_report : is_report s ≡ true → 1 ≡ reading_kind t s
-      unfolding reading_kind
-      kind_report f = rw (e, f)
-
-      pub kind_form : is_report s ≡ false → 0 ≡ reading_kind t s
-      unfolding reading_kind
-      kind_form f = rw (e, f)
+use Rattle.showlines.specs.Lines.{readings, reading_text, objects, object_line, blanks, owner, header_mark, or_type, stored_type, control_owner, scope_text, is_unmapped, unmapped_text, key_text, or_code, type_text, name_text}
 
 -- ---- words, in an arm of the code by its number
 module _ {o n : List ℕ} {a r m : ℕ} (k : ℕ) (e : m ≡ k) where
@@ -70,22 +37,6 @@ module _ {o n : List ℕ} {a r m : ℕ} (k : ℕ) (e : m ≡ k) where
 
 -- ---- owners
 module _ (kind : ℕ) where
-  pub object_2000 : kind < 2 → owner kind 0 1 ≡ object_owner kind
-  unfolding object_owner
-  object_2000 h = rw (lt-ltb kind 2 h)
-
-  pub object_later : 2 ≤ kind → owner 3 0 1 ≡ object_owner kind
-  unfolding object_owner
-  object_later h = rw (le-ltb kind 2 h)
-
-  pub mark_report : kind ≡ 1 → 0x1900 ≡ header_mark kind
-  unfolding header_mark
-  mark_report e = rw (eq-eqb kind 1 e)
-
-  pub mark_form : (kind ≡ 1 → ⊥) → 0x1800 ≡ header_mark kind
-  unfolding header_mark
-  mark_form e = rw (ne_eqb kind 1 e)
-
   module _ (t row : List ℕ) where
     pub control_2000 : kind < 2 → (code : ℕ) → code ≡ stored_type (header t) (header_mark kind) (word row 0) → owner 2 code (word row 6 + 2) ≡ control_owner t kind row
     unfolding control_owner

@@ -4,7 +4,6 @@ use native.Mathlib.Omega.{arith}
 use mathlib.Core.Path.{◌≡◌, ap, ◌∙◌}
 use mathlib.Core.Bool.{Bool, true, false, cond}
 use mathlib.Core.List.{List, ◌++◌}
-use borrow.Author.Tests.{le-leb, lt-leb, lt-ltb, le-ltb}
 use lib.Dec.{leb}
 use Rattle.rules.specs.Rows.{property_width, row_at}
 use Rattle.rules.specs.Listing.{word}
@@ -14,7 +13,7 @@ use Rattle.rows.specs.declared.ControlRow.{ControlRow}
 use Rattle.csvrows.specs.Rows.{most}
 use Rattle.csvrows.proofs.Turns.{ByWords}
 use Rattle.showlines.specs.Lines.{control_owner, property_line, control_line}
-use Rattle.showlines.specs.Rows.{rows_text, control_text, one_if_unmapped, unmapped_from, unmapped_in}
+use Rattle.showlines.specs.Rows.{rows_text, control_text, one_if_unmapped, unmapped_from}
 use Rattle.showlines.specs.declared.Owner.{Owner}
 
 -- ---- rows as they are read
@@ -36,15 +35,6 @@ module _ {control : List ℕ} {c : ControlRow} (w : ControlOf control c) where
   part_as t stream kind rows n next e = let whose = e ∙ same-owner t kind in λ i. same_line stream n i ++ rows_text stream (whose i) rows next (w.count i)
 
 -- ---- unmapped codes
-module _ (id : ℕ) where
-  pub is-marked : 0x8000 ≤ id → 1 ≡ one_if_unmapped id
-  unfolding one_if_unmapped
-  is-marked h = rw (le-leb 0x8000 id h)
-
-  pub isnt_marked : id < 0x8000 → 0 ≡ one_if_unmapped id
-  unfolding one_if_unmapped
-  isnt_marked h = rw (lt-leb 0x8000 id h)
-
 one_at_most : (id : ℕ) → one_if_unmapped id ≤ 1
 unfolding one_if_unmapped
 one_at_most id = go (leb 0x8000 id)
@@ -83,12 +73,3 @@ module _ {rows : List ℕ} {count found i left : ℕ} (g : MarkedLeft rows count
 
   pub marked-done : left ≤ 0 → found ≡ unmapped_from rows 0 count
   marked-done h = omega (arith, g.rest, marked-end rows i left h)
-
-module _ (kind : ℕ) (rows : List ℕ) (count : ℕ) where
-  pub unmapped_2000 : kind < 2 → unmapped_from rows 0 count ≡ unmapped_in kind rows count
-  unfolding unmapped_in
-  unmapped_2000 h = rw (lt-ltb kind 2 h)
-
-  pub unmapped-later : 2 ≤ kind → 0 ≡ unmapped_in kind rows count
-  unfolding unmapped_in
-  unmapped-later h = rw (le-ltb kind 2 h)

@@ -19,7 +19,7 @@ use codetable::{CODE_SIZE, HEADER_AT, HEADER_COUNT_AT};
 use countlater::OBJECT_AT;
 use csvrecord::put_name_or_id;
 use fields::put_end;
-use listing::answer_line;
+use listing::{answer_line, numbers_line};
 use node2000::{FORM_HEADER, REPORT_HEADER, is_report};
 use numbers::{byte_at, u16_at};
 use rows::{ControlRow, get_control, get_id, get_property};
@@ -66,6 +66,7 @@ pub struct Counts {
 }
 
 // ---- which reading
+#[tactic(auto, unfolding(crate::specs::Lines::later_kind))]
 fn later_kind(stream: &[u8]) -> u32
     ensures { result ≡ later_kind stream.now }
 {
@@ -76,6 +77,7 @@ fn later_kind(stream: &[u8]) -> u32
     if counts.tree { TREE } else { SCAN }
 }
 
+#[tactic(auto, unfolding(crate::specs::Lines::reading_kind))]
 fn reading_kind(table: &[u8], stream: &[u8]) -> u32
     ensures { result ≡ reading_kind table.now stream.now }
 {
@@ -131,6 +133,7 @@ fn object_line(out: &mut [u8], at: usize, kind: u32) -> usize
 }
 
 // ---- owners
+#[tactic(auto, unfolding(crate::specs::Lines::object_owner))]
 fn object_owner(kind: u32) -> Owner
     ensures { result ≡ object_owner kind }
 {
@@ -148,6 +151,7 @@ fn object_owner(kind: u32) -> Owner
     }
 }
 
+#[tactic(auto, unfolding(crate::specs::Lines::header_mark))]
 fn header_mark(kind: u32) -> u32
     ensures { result ≡ header_mark kind }
 {
@@ -162,15 +166,12 @@ fn header_mark(kind: u32) -> u32
 fn stored_type(table: &[u8], mark: u32, type_code: u32) -> u32
     ensures { result ≡ stored_type (header table.now) mark type_code }
 {
-    let mut at = HEADER_AT;
-    let mut left = byte_at(table, HEADER_COUNT_AT);
-    while 0 < left {
-        let code = u16_at(table, at) as u32;
+    let count = usize::from(byte_at(table, HEADER_COUNT_AT));
+    for k in 0..count {
+        let code = u16_at(table, HEADER_AT + CODE_SIZE * k) as u32;
         if bit_or(mark, code) == type_code {
             return code;
         }
-        at += CODE_SIZE;
-        left -= 1;
     }
     type_code
 }
@@ -198,11 +199,8 @@ fn put_blanks(out: &mut [u8], at: usize, depth: usize) -> usize
     ensures { Wrote out.old at (blanks depth) out.new result }
 {
     let mut p = at;
-    let mut left = depth;
-    while 0 < left {
-        p = put_byte(out, p, b' ');
-        p = put_byte(out, p, b' ');
-        left -= 1;
+    for _ in 0..depth {
+        p = put_text(out, p, b"  ");
     }
     p
 }
@@ -220,6 +218,7 @@ fn put_scope(out: &mut [u8], at: usize, kind: u32, code: u32) -> usize
     put_hex(out, p, 4, code)
 }
 
+#[tactic(auto, unfolding(crate::specs::Lines::is_unmapped))]
 fn is_unmapped(kind: u32, id: u32) -> bool
     ensures { result ≡ is_unmapped kind id }
 {
@@ -313,13 +312,9 @@ fn put_rows(
     ensures { Wrote out.old at (rows_text stream.now owner rows.now first count) out.new result }
 {
     let mut p = at;
-    let mut i = first;
-    let mut left = count;
-    while 0 < left {
+    for i in first..first + count {
         let shown = get_property(rows, i);
         p = property_line(out, p, index, letters, stream, owner, shown);
-        i = i + 1;
-        left = left - 1;
     }
     p
 }
@@ -402,44 +397,38 @@ fn put_controls(
     ensures { Wrote out.old at (controls_text table.now stream.now counts.kind controls.now rows.now 0 counts.controls counts.own) out.new result }
 {
     let mut p = at;
-    let mut n: u32 = 0;
-    let mut left = counts.controls;
     let mut next = counts.own;
-    while 0 < left {
+    for n in 0..counts.controls {
         let control = get_control(controls, n);
         let owner = control_owner(table, counts.kind, control);
         let many = control.count;
         p = control_line(out, p, index, letters, stream, n, control);
         p = put_rows(out, p, index, letters, stream, owner, rows, next, many);
-        next = next + many;
-        n = n + 1;
-        left = left - 1;
+        next += many;
     }
     p
 }
 
 // ---- the whole
+#[tactic(auto, unfolding(crate::specs::Rows::one_if_unmapped))]
 fn one_if_unmapped(id: u32) -> u32
     ensures { result ≡ one_if_unmapped id }
 {
-    if UNMAPPED <= id { 1 } else { 0 }
+    u32::from(UNMAPPED <= id)
 }
 
 // How many of the first `count` rows have the mark of an unmapped code.
 fn marked(rows: &[u32], count: u32) -> u32
     ensures { result ≡ unmapped_from rows.now 0 count }
 {
-    let mut found: u32 = 0;
-    let mut i: u32 = 0;
-    let mut left = count;
-    while 0 < left {
-        found = found + one_if_unmapped(get_id(rows, i));
-        i = i + 1;
-        left = left - 1;
+    let mut found = 0;
+    for i in 0..count {
+        found += one_if_unmapped(get_id(rows, i));
     }
     found
 }
 
+#[tactic(auto, unfolding(crate::specs::Rows::unmapped_in))]
 fn unmapped(kind: u32, rows: &[u32], count: u32) -> u32
     ensures { result ≡ unmapped_in kind rows.now count }
 {
@@ -517,16 +506,7 @@ pub fn show_blob(
 fn info_line(out: &mut [u8], a: Answer) -> usize
     ensures { Wrote out.old 0 (info_line a) out.new result }
 {
-    let p = put_text(out, 0, b"typeinfo");
-    let p = put_byte(out, p, b' ');
-    let p = put_decimal(out, p, a.number);
-    let p = put_byte(out, p, b' ');
-    let p = put_decimal(out, p, a.first);
-    let p = put_byte(out, p, b' ');
-    let p = put_decimal(out, p, a.second);
-    let p = put_byte(out, p, b' ');
-    let p = put_decimal(out, p, a.third);
-    put_end(out, p)
+    numbers_line(out, 0, b"typeinfo", a.number, a.first, a.second, a.third)
 }
 
 // Reads TypeInfo and a later Blob into the lent rows, gives the controls the types of TypeInfo and shows them.
