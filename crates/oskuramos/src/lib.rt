@@ -62,33 +62,39 @@ pub struct Room {
     pub properties: u32,
 }
 
-fn handed_answer(a: rules::Answer) -> Answer
-    ensures { result ≡ handed_answer a }
-{
-    Answer {
-        number: a.number,
-        first: a.first,
-        second: a.second,
-        third: a.third,
+impl From<rules::Answer> for Answer {
+    ghost from_gives = { λ a r. r ≡ handed_answer a };
+
+    fn from(a: rules::Answer) -> Self {
+        Answer {
+            number: a.number,
+            first: a.first,
+            second: a.second,
+            third: a.third,
+        }
     }
 }
 
-fn handed_value(v: rules::Value) -> Value
-    ensures { result ≡ handed_value v }
-{
-    Value {
-        mark: v.mark,
-        low: v.low,
-        high: v.high,
+impl From<rules::Value> for Value {
+    ghost from_gives = { λ v r. r ≡ handed_value v };
+
+    fn from(v: rules::Value) -> Self {
+        Value {
+            mark: v.mark,
+            low: v.low,
+            high: v.high,
+        }
     }
 }
 
-fn handed_room(r: rules::Room) -> Room
-    ensures { result ≡ handed_room r }
-{
-    Room {
-        controls: r.controls,
-        properties: r.properties,
+impl From<rules::Room> for Room {
+    ghost from_gives = { λ lent r. r ≡ handed_room lent };
+
+    fn from(lent: rules::Room) -> Self {
+        Room {
+            controls: lent.controls,
+            properties: lent.properties,
+        }
     }
 }
 
@@ -103,7 +109,7 @@ pub fn oskuramos_read_blob(
     ensures controls_after { controls.new ≡ (exit table.now stream.now controls.old properties.old).controls }
     ensures properties_after { properties.new ≡ (exit table.now stream.now controls.old properties.old).properties }
 {
-    handed_answer(blob::read_blob(table, stream, controls, properties))
+    Answer::from(blob::read_blob(table, stream, controls, properties))
 }
 
 // For whoever knows which layout a Blob has: a wrong first byte is noticed.
@@ -117,7 +123,7 @@ pub fn oskuramos_read_2000(
     ensures controls_after { controls.new ≡ (exit2000 table.now stream.now controls.old properties.old).controls }
     ensures properties_after { properties.new ≡ (exit2000 table.now stream.now controls.old properties.old).properties }
 {
-    handed_answer(blob::read_2000(table, stream, controls, properties))
+    Answer::from(blob::read_2000(table, stream, controls, properties))
 }
 
 pub fn oskuramos_read_later(
@@ -130,7 +136,7 @@ pub fn oskuramos_read_later(
     ensures controls_after { controls.new ≡ (exit_later layout stream.now controls.old properties.old).controls }
     ensures properties_after { properties.new ≡ (exit_later layout stream.now controls.old properties.old).properties }
 {
-    handed_answer(blob::read_later(layout, stream, controls, properties))
+    Answer::from(blob::read_later(layout, stream, controls, properties))
 }
 
 // Reads a Blob and judges it by the rules of panels.
@@ -144,14 +150,14 @@ pub fn oskuramos_check_panel(
     ensures controls_after { controls.new ≡ (panel_exit table.now stream.now controls.old properties.old).controls }
     ensures properties_after { properties.new ≡ (panel_exit table.now stream.now controls.old properties.old).properties }
 {
-    handed_answer(panel::check_panel(table, stream, controls, properties))
+    Answer::from(panel::check_panel(table, stream, controls, properties))
 }
 
 pub fn oskuramos_read_type_info(stream: &[u8], rows: &mut [u32]) -> Answer
     ensures value { result ≡ handed_answer (type_info_exit stream.now rows.old).answer }
     ensures rows_after { rows.new ≡ (type_info_exit stream.now rows.old).rows }
 {
-    handed_answer(typeinfo::read_type_info(stream, rows))
+    Answer::from(typeinfo::read_type_info(stream, rows))
 }
 
 // ---- controls paired with TypeInfo
@@ -166,7 +172,7 @@ pub fn oskuramos_pair(
     ensures value { result ≡ handed_answer (pair_exit stream.now controls.old control_count info_stream.now infos.now info_count).answer }
     ensures controls_after { controls.new ≡ (pair_exit stream.now controls.old control_count info_stream.now infos.now info_count).controls }
 {
-    handed_answer(pairing::pair(
+    Answer::from(pairing::pair(
         stream,
         controls,
         control_count,
@@ -189,7 +195,7 @@ pub fn oskuramos_write_csv(
     ensures properties_after { properties.new ≡ (csv_exit table.now stream.now controls.old properties.old out.old).properties }
     ensures out_after { out.new ≡ (csv_exit table.now stream.now controls.old properties.old out.old).out }
 {
-    handed_answer(csvwrite::write_csv(table, stream, controls, properties, out))
+    Answer::from(csvwrite::write_csv(table, stream, controls, properties, out))
 }
 
 pub fn oskuramos_read_csv(text: &[u8], fields: &mut [u32], out: &mut [u8]) -> Answer
@@ -197,7 +203,7 @@ pub fn oskuramos_read_csv(text: &[u8], fields: &mut [u32], out: &mut [u8]) -> An
     ensures fields_after { fields.new ≡ (fields_exit text.now fields.old out.old).rows }
     ensures out_after { out.new ≡ (fields_exit text.now fields.old out.old).out }
 {
-    handed_answer(csvread::read_csv(text, fields, out))
+    Answer::from(csvread::read_csv(text, fields, out))
 }
 
 // ---- running totals over many streams
@@ -211,7 +217,7 @@ pub fn oskuramos_count_blob(
 ) -> Answer
     ensures { exited (taken_answer result) totals.new ≡ totals_exit totals.old table.now stream.now control_room property_room }
 {
-    handed_answer(count_blob(totals, table, stream, control_room, property_room))
+    Answer::from(count_blob(totals, table, stream, control_room, property_room))
 }
 
 // ---- code tables
@@ -226,19 +232,19 @@ pub fn oskuramos_well_formed(table: &[u8]) -> bool
 pub fn oskuramos_room(length: usize) -> Room
     ensures { result ≡ handed_room (room_for length) }
 {
-    handed_room(room::room_for(length))
+    Room::from(room::room_for(length))
 }
 
 pub fn oskuramos_room_2000(length: usize) -> Room
     ensures { result ≡ handed_room (room2000 length) }
 {
-    handed_room(room::room_2000(length))
+    Room::from(room::room_2000(length))
 }
 
 pub fn oskuramos_room_later(length: usize) -> Room
     ensures { result ≡ handed_room (room_later_lem length) }
 {
-    handed_room(room::room_later(length))
+    Room::from(room::room_later(length))
 }
 
 pub fn oskuramos_type_info_room(length: usize) -> u32
@@ -249,6 +255,7 @@ pub fn oskuramos_type_info_room(length: usize) -> u32
 
 // ---- the name of a control
 // So many bytes from `start` on, where a slice of `size` bytes has them; the empty part at the stream's start where it doesn't.
+#[tactic(auto, unfolding(crate::specs::Handed::part_or))]
 fn part_or(source: u32, size: usize, start: u32, length: u32) -> Part
     ensures { result ≡ part_or source size start length }
 {
@@ -288,7 +295,7 @@ pub fn oskuramos_join(one: &[u8], other: &[u8], out: &mut [u8]) -> Answer
     ensures value { result ≡ handed_answer (join_exit one.now other.now out.old).answer }
     ensures out_after { out.new ≡ (join_exit one.now other.now out.old).out }
 {
-    handed_answer(join::join(one, other, out))
+    Answer::from(join::join(one, other, out))
 }
 
 // ---- what a newer code table changes
@@ -296,7 +303,7 @@ pub fn oskuramos_differences(older: &[u8], newer: &[u8], stream: &[u8], rows: &m
     ensures value { result ≡ handed_answer (differences_exit older.now newer.now stream.now rows.old).answer }
     ensures rows_after { rows.new ≡ (differences_exit older.now newer.now stream.now rows.old).rows }
 {
-    handed_answer(differences::differences(older, newer, stream, rows))
+    Answer::from(differences::differences(older, newer, stream, rows))
 }
 
 // ---- an Access 2000 stream in its short spelling
@@ -304,7 +311,7 @@ pub fn oskuramos_rewrite(stream: &[u8], out: &mut [u8]) -> Answer
     ensures value { result ≡ handed_answer (rewrite_exit stream.now out.old).answer }
     ensures out_after { out.new ≡ (rewrite_exit stream.now out.old).out }
 {
-    handed_answer(rewrite::rewrite(stream, out))
+    Answer::from(rewrite::rewrite(stream, out))
 }
 
 // ---- text
@@ -312,14 +319,14 @@ pub fn oskuramos_guid_text(guid: &[u8], out: &mut [u8]) -> Answer
     ensures value { result ≡ handed_answer (guid_exit guid.now out.old).answer }
     ensures out_after { out.new ≡ (guid_exit guid.now out.old).out }
 {
-    handed_answer(text::guid_text(guid, out))
+    Answer::from(text::guid_text(guid, out))
 }
 
 pub fn oskuramos_label_text(n: u32, out: &mut [u8]) -> Answer
     ensures value { result ≡ handed_answer (label_exit n out.old).answer }
     ensures out_after { out.new ≡ (label_exit n out.old).out }
 {
-    handed_answer(text::label_text(n, out))
+    Answer::from(text::label_text(n, out))
 }
 
 pub fn oskuramos_is_utf16(bytes: &[u8]) -> bool
@@ -333,52 +340,52 @@ pub fn oskuramos_text_name(id: u16, out: &mut [u8]) -> Answer
     ensures value { result ≡ handed_answer (name_exit text_names id out.old).answer }
     ensures out_after { out.new ≡ (name_exit text_names id out.old).out }
 {
-    handed_answer(names::text_name(id, out))
+    Answer::from(names::text_name(id, out))
 }
 
 pub fn oskuramos_number_name(id: u16, out: &mut [u8]) -> Answer
     ensures value { result ≡ handed_answer (name_exit number_names id out.old).answer }
     ensures out_after { out.new ≡ (name_exit number_names id out.old).out }
 {
-    handed_answer(names::number_name(id, out))
+    Answer::from(names::number_name(id, out))
 }
 
 pub fn oskuramos_bytes_name(id: u16, out: &mut [u8]) -> Answer
     ensures value { result ≡ handed_answer (name_exit bytes_names id out.old).answer }
     ensures out_after { out.new ≡ (name_exit bytes_names id out.old).out }
 {
-    handed_answer(names::bytes_name(id, out))
+    Answer::from(names::bytes_name(id, out))
 }
 
 pub fn oskuramos_control_type_name(id: u16, out: &mut [u8]) -> Answer
     ensures value { result ≡ handed_answer (name_exit control_type_names id out.old).answer }
     ensures out_after { out.new ≡ (name_exit control_type_names id out.old).out }
 {
-    handed_answer(names::control_type_name(id, out))
+    Answer::from(names::control_type_name(id, out))
 }
 
 pub fn oskuramos_value_name(mark: u32, id: u16, out: &mut [u8]) -> Answer
     ensures value { result ≡ handed_answer (name_exit (names_for mark) id out.old).answer }
     ensures out_after { out.new ≡ (name_exit (names_for mark) id out.old).out }
 {
-    handed_answer(names::value_name(mark, id, out))
+    Answer::from(names::value_name(mark, id, out))
 }
 
 // ---- values
 pub fn oskuramos_entry_value(type_code: u32, bytes: &[u8]) -> Value
     ensures { result ≡ handed_value (entry_value_lem type_code bytes.now) }
 {
-    handed_value(propvalue::entry_value(type_code, bytes))
+    Value::from(propvalue::entry_value(type_code, bytes))
 }
 
 pub fn oskuramos_stored_value(id: u8, bytes: &[u8]) -> Value
     ensures { result ≡ handed_value (stored_value_lem id bytes.now) }
 {
-    handed_value(propvalue::stored_value(id, bytes))
+    Value::from(propvalue::stored_value(id, bytes))
 }
 
 pub fn oskuramos_value_as(kind: u8, id: u8, bytes: &[u8]) -> Value
     ensures { result ≡ handed_value (value_as_lem kind id bytes.now) }
 {
-    handed_value(propvalue::value_as(kind, id, bytes))
+    Value::from(propvalue::value_as(kind, id, bytes))
 }

@@ -6,7 +6,7 @@ use native.Mathlib.Numerals.{sub-one}
 use mathlib.Core.Path.{◌≡◌, refl, sym, ap, ◌∙◌}
 use mathlib.Core.Bool.{true, false}
 use mathlib.Core.List.{List, [], ◌∷◌, ◌++◌}
-use borrow.Author.Tests.{lt-ltb, le-ltb, eq-eqb, ne_eqb}
+use borrow.Author.Tests.{eq-eqb, ne_eqb}
 use lib.Bits.{bit_or}
 use lib.Dec.{eqb}
 use lib.ListN.{length, get_or}
@@ -18,33 +18,11 @@ use Rattle.rules.specs.NameTables.{control_type_names}
 use Rattle.rules.specs.Names.{name_in_lem, names_for}
 use Rattle.rules.specs.CodeTable.{codes_at, header}
 use Rattle.rules.specs.Csv.{or_id}
-use Rattle.rules.specs.Listing.{word}
 use Rattle.codetable.proofs.Steps.{codes_next}
 use Rattle.fields.proofs.Tables.{absent, control-types}
-use Rattle.text.specs.Writer.{Wrote}
 use Rattle.showtext.specs.Shown.{quoted, loose_text}
-use Rattle.showlines.specs.Lines.{readings, reading_text, objects, object_line, blanks, owner, header_mark, or_type, stored_type, control_owner, scope_text, is_unmapped, unmapped_text, key_text, or_code, type_text, name_text}
-
--- ---- words, in an arm of the code by its number
-module _ {o n : List ℕ} {a r m : ℕ} (k : ℕ) (e : m ≡ k) where
-  pub a_reading : Wrote o a (get_or readings k (text "too short")) n r → Wrote o a (reading_text m) n r
-  unfolding reading_text
-  a_reading w = rw e w
-
-  pub an_object : Wrote o a (get_or objects k (text "object\n")) n r → Wrote o a (object_line m) n r
-  unfolding object_line
-  an_object w = rw e w
-
--- ---- owners
-module _ (kind : ℕ) where
-  module _ (t row : List ℕ) where
-    pub control_2000 : kind < 2 → (code : ℕ) → code ≡ stored_type (header t) (header_mark kind) (word row 0) → owner 2 code (word row 6 + 2) ≡ control_owner t kind row
-    unfolding control_owner
-    control_2000 h code e = rw (lt-ltb kind 2 h) (ap (λ (c : ℕ). owner 2 c (word row 6 + 2)) e)
-
-    pub control-later : 2 ≤ kind → owner 3 0 (word row 6 + 2) ≡ control_owner t kind row
-    unfolding control_owner
-    control-later h = rw (le-ltb kind 2 h)
+use Rattle.showlines.specs.declared.Scope.{Scope}
+use Rattle.showlines.specs.Lines.{blanks, or_type, stored_type, is_unmapped, unmapped_text, key_text, or_code, type_text, name_text}
 
 -- ---- a type as stored, code by code
 module _ (t : List ℕ) (mark type : ℕ) where
@@ -82,27 +60,14 @@ deep_enough zero h = refl
 deep_enough (suc d) h = absurd (not-suc-le-zero h)
 
 -- ---- a property's key
-module _ (kind code : ℕ) where
-  pub of_form : kind ≡ 0 → scope_text kind code ≡ text "form"
-  unfolding scope_text
-  of_form e = rw (eq-eqb kind 0 e)
+module _ (scope : Scope) (mark id : ℕ) where
+  pub key-unmapped : is_unmapped scope id ≡ true → key_text scope mark id ≡ unmapped_text scope id
+  unfolding key_text
+  key-unmapped e = rw e
 
-  pub of_report : kind ≡ 1 → scope_text kind code ≡ text "report"
-  unfolding scope_text
-  of_report e = rw e
-
-  pub of_entry : (kind ≡ 0 → ⊥) → (kind ≡ 1 → ⊥) → scope_text kind code ≡ text "entry " ++ hex 4 code
-  unfolding scope_text
-  of_entry e f = rw (ne_eqb kind 0 e, ne_eqb kind 1 f)
-
-  module _ (mark id : ℕ) where
-    pub key-unmapped : is_unmapped kind id ≡ true → key_text kind code mark id ≡ unmapped_text kind code id
-    unfolding key_text
-    key-unmapped e = rw e
-
-    pub key-mapped : is_unmapped kind id ≡ false → key_text kind code mark id ≡ or_id (name_in_lem (names_for mark) id) id
-    unfolding key_text
-    key-mapped e = rw e
+  pub key-mapped : is_unmapped scope id ≡ false → key_text scope mark id ≡ or_id (name_in_lem (names_for mark) id) id
+  unfolding key_text
+  key-mapped e = rw e
 
 -- ---- a control's type and name
 module _ (s : List ℕ) (code : ℕ) where

@@ -14,6 +14,7 @@ use Rattle.csvrows.specs.Rows.{most}
 use Rattle.csvrows.proofs.Turns.{ByWords}
 use Rattle.showlines.specs.Lines.{control_owner, property_line, control_line}
 use Rattle.showlines.specs.Rows.{rows_text, control_text, one_if_unmapped, unmapped_from}
+use Rattle.showlines.specs.declared.Reading.{Reading}
 use Rattle.showlines.specs.declared.Owner.{Owner}
 
 -- ---- rows as they are read
@@ -26,11 +27,10 @@ module _ {control : List ℕ} {c : ControlRow} (w : ControlOf control c) where
   unfolding control_line
   same_line stream n = rw (w.type-code, w.mark, w.start, w.size, w.level)
 
-  same-owner : (t : List ℕ) (kind : ℕ) → control_owner t kind (control_words c) ≡ control_owner t kind control
-  unfolding control_owner
-  same-owner t kind = rw (w.type-code, w.level)
+  same-owner : (t : List ℕ) (reading : Reading) → control_owner t reading (control_words c) ≡ control_owner t reading control
+  same-owner t reading = rw (w.type-code, w.level)
 
-  pub part_as : (t stream : List ℕ) (kind : ℕ) (rows : List ℕ) (n next : ℕ) {o : Owner} → o ≡ control_owner t kind (control_words c)
+  pub part_as : (t stream : List ℕ) (kind : Reading) (rows : List ℕ) (n next : ℕ) {o : Owner} → o ≡ control_owner t kind (control_words c)
       → control_line stream n (control_words c) ++ rows_text stream o rows next c.count ≡ control_text t stream kind rows n control next
   part_as t stream kind rows n next e = let whose = e ∙ same-owner t kind in λ i. same_line stream n i ++ rows_text stream (whose i) rows next (w.count i)
 

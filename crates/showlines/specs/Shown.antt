@@ -12,10 +12,11 @@ use Rattle.showlines.specs.Lines.{reading_kind}
 use Rattle.names.specs.Lookup.{Lent}
 use Rattle.csvrows.specs.Rows.{most, many_from}
 use Rattle.showlines.specs.Rows.{slices_text}
+use Rattle.showlines.specs.declared.Reading.{Reading}
 use Rattle.showlines.specs.declared.Counts.{Counts}
 
-abbrev pub counts_of : ℕ → Answer → Counts
-counts_of kind a = record { kind = kind; controls = a.first; properties = a.second; own = a.third }
+abbrev pub counts_of : Reading → Answer → Counts
+counts_of reading a = record { reading = reading; controls = a.first; properties = a.second; own = a.third }
 
 -- by what a reader of the stream hands back: a refusal is the line of its answer
 unfoldable pub shown_by_lem : List ℕ → List ℕ → Exit → List ℕ

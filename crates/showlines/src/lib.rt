@@ -10,7 +10,7 @@ ghost use Rattle.names.specs.Lookup.{Lent};
 ghost use Rattle.rows.specs.Put.{control_words};
 ghost use Rattle.text.specs.Writer.{Wrote};
 ghost use Rattle.csvrows.specs.Rows.{RowsReady, ControlsReady};
-ghost use Rattle.showlines.specs.Lines.{later_kind, reading_kind, reading_text, first_line, object_line, blanks, object_owner, header_mark, stored_type, control_owner, scope_text, is_unmapped, unmapped_text, key_text, property_line, or_code, type_text, name_text, control_line};
+ghost use Rattle.showlines.specs.Lines.{later_kind, reading_kind, reading_text, first_line, object_line, blanks, object_owner, header_mark, stored_type, control_scope, control_owner, scope_text, is_unmapped, unmapped_text, key_text, property_line, or_code, type_text, name_text, control_line};
 ghost use Rattle.showlines.specs.Rows.{rows_text, controls_text, one_if_unmapped, unmapped_from, unmapped_in, slices_text};
 ghost use Rattle.showlines.specs.Shown.{shown_by_lem, shown_blob, shown_paired, info_line, ReadReady};
 ghost use Rattle.blob.specs.Exit.{exited};
@@ -29,37 +29,39 @@ use showtext::{put_loose, put_quoted, put_shown};
 use text::{put_byte, put_decimal, put_hex, put_text};
 use values::value_bytes;
 
-// Readings of a stream: an Access 2000 form, a report, a later tree, a later scan, too short for either.
-const FORM: u32 = 0;
-
-const REPORT: u32 = 1;
-
-const TREE: u32 = 2;
-
-const SCAN: u32 = 3;
-
-const TOO_SHORT: u32 = 4;
-
-// Scopes besides those of form and report: an entry's, and none.
-const ENTRY: u32 = 2;
-
-const NO_SCOPE: u32 = 3;
-
 // No table of names has an id above this one.
 const LAST_NAMED: u32 = 0xffff;
 
-// Whose properties are shown: the scope of its codes, an entry's code, and how deep the properties stand.
+// The reading that a stream has: of Access 2000, or a later one.
+#[derive(Clone, Copy)]
+pub enum Reading {
+    Form,
+    Report,
+    Tree,
+    Scan,
+    TooShort,
+}
+
+// The scope in which codes are looked up: an entry's has its code, and the later layout has none.
+#[derive(Clone, Copy)]
+pub enum Scope {
+    OfForm,
+    OfReport,
+    OfEntry(u32),
+    NoScope,
+}
+
+// Whose properties are shown, and how deep they stand.
 #[derive(Clone, Copy)]
 pub struct Owner {
-    pub kind: u32,
-    pub code: u32,
+    pub scope: Scope,
     pub depth: usize,
 }
 
 // What is told of a reading: which one it is, and its counts.
 #[derive(Clone, Copy)]
 pub struct Counts {
-    pub kind: u32,
+    pub reading: Reading,
     pub controls: u32,
     pub properties: u32,
     pub own: u32,
@@ -67,52 +69,57 @@ pub struct Counts {
 
 // ---- which reading
 #[tactic(auto, unfolding(crate::specs::Lines::later_kind))]
-fn later_kind(stream: &[u8]) -> u32
+fn later_kind(stream: &[u8]) -> Reading
     ensures { result ≡ later_kind stream.now }
 {
     if stream.len() < OBJECT_AT {
-        return TOO_SHORT;
+        return Reading::TooShort;
     }
     let counts = countlater::count(stream);
-    if counts.tree { TREE } else { SCAN }
+    if counts.tree {
+        Reading::Tree
+    } else {
+        Reading::Scan
+    }
 }
 
 #[tactic(auto, unfolding(crate::specs::Lines::reading_kind))]
-fn reading_kind(table: &[u8], stream: &[u8]) -> u32
+fn reading_kind(table: &[u8], stream: &[u8]) -> Reading
     ensures { result ≡ reading_kind table.now stream.now }
 {
     if blob::is_2000(table, stream) {
         if is_report(stream) {
-            return REPORT;
+            return Reading::Report;
         }
-        return FORM;
+        return Reading::Form;
     }
     later_kind(stream)
 }
 
-fn put_reading(out: &mut [u8], at: usize, kind: u32) -> usize
-    ensures { Wrote out.old at (reading_text kind) out.new result }
+#[tactic(auto, unfolding(crate::specs::Lines::reading_text))]
+fn put_reading(out: &mut [u8], at: usize, reading: Reading) -> usize
+    ensures { Wrote out.old at (reading_text reading) out.new result }
 {
-    match kind {
-        0 => put_text(out, at, b"Access 2000 form"),
-        1 => put_text(out, at, b"Access 2000 report"),
-        2 => put_text(out, at, b"later tree"),
-        3 => put_text(out, at, b"later scan"),
-        _ => put_text(out, at, b"too short"),
+    match reading {
+        Reading::Form => put_text(out, at, b"Access 2000 form"),
+        Reading::Report => put_text(out, at, b"Access 2000 report"),
+        Reading::Tree => put_text(out, at, b"later tree"),
+        Reading::Scan => put_text(out, at, b"later scan"),
+        Reading::TooShort => put_text(out, at, b"too short"),
     }
 }
 
 fn first_line(
     out: &mut [u8],
     at: usize,
-    kind: u32,
+    reading: Reading,
     controls: u32,
     properties: u32,
     unmapped: u32,
 ) -> usize
-    ensures { Wrote out.old at (first_line kind controls properties unmapped) out.new result }
+    ensures { Wrote out.old at (first_line reading controls properties unmapped) out.new result }
 {
-    let p = put_reading(out, at, kind);
+    let p = put_reading(out, at, reading);
     let p = put_text(out, p, b", ");
     let p = put_decimal(out, p, controls);
     let p = put_text(out, p, b" controls, ");
@@ -122,43 +129,37 @@ fn first_line(
     put_text(out, p, b" unmapped\n")
 }
 
-fn object_line(out: &mut [u8], at: usize, kind: u32) -> usize
-    ensures { Wrote out.old at (object_line kind) out.new result }
+#[tactic(auto, unfolding(crate::specs::Lines::object_line))]
+fn object_line(out: &mut [u8], at: usize, reading: Reading) -> usize
+    ensures { Wrote out.old at (object_line reading) out.new result }
 {
-    match kind {
-        0 => put_text(out, at, b"form\n"),
-        1 => put_text(out, at, b"report\n"),
+    match reading {
+        Reading::Form => put_text(out, at, b"form\n"),
+        Reading::Report => put_text(out, at, b"report\n"),
         _ => put_text(out, at, b"object\n"),
     }
 }
 
 // ---- owners
-#[tactic(auto, unfolding(crate::specs::Lines::object_owner))]
-fn object_owner(kind: u32) -> Owner
-    ensures { result ≡ object_owner kind }
+#[tactic(auto, unfolding(crate::specs::Lines::object_scope))]
+fn object_owner(reading: Reading) -> Owner
+    ensures { result ≡ object_owner reading }
 {
-    if kind < TREE {
-        return Owner {
-            kind,
-            code: 0,
-            depth: 1,
-        };
-    }
-    Owner {
-        kind: NO_SCOPE,
-        code: 0,
-        depth: 1,
-    }
+    let scope = match reading {
+        Reading::Form => Scope::OfForm,
+        Reading::Report => Scope::OfReport,
+        _ => Scope::NoScope,
+    };
+    Owner { scope, depth: 1 }
 }
 
 #[tactic(auto, unfolding(crate::specs::Lines::header_mark))]
-fn header_mark(kind: u32) -> u32
-    ensures { result ≡ header_mark kind }
+fn header_mark(reading: Reading) -> u32
+    ensures { result ≡ header_mark reading }
 {
-    if kind == REPORT {
-        REPORT_HEADER
-    } else {
-        FORM_HEADER
+    match reading {
+        Reading::Report => REPORT_HEADER,
+        _ => FORM_HEADER,
     }
 }
 
@@ -176,20 +177,24 @@ fn stored_type(table: &[u8], mark: u32, type_code: u32) -> u32
     type_code
 }
 
-fn control_owner(table: &[u8], kind: u32, row: ControlRow) -> Owner
-    ensures { result ≡ control_owner table.now kind (control_words row) }
+#[tactic(auto, unfolding(crate::specs::Lines::control_scope))]
+fn control_scope(table: &[u8], reading: Reading, type_code: u32) -> Scope
+    ensures { result ≡ control_scope table.now reading type_code }
+{
+    match reading {
+        Reading::Form | Reading::Report => {
+            Scope::OfEntry(stored_type(table, header_mark(reading), type_code))
+        }
+        _ => Scope::NoScope,
+    }
+}
+
+fn control_owner(table: &[u8], reading: Reading, row: ControlRow) -> Owner
+    ensures { result ≡ control_owner table.now reading (control_words row) }
 {
     let depth = (row.level as usize) + 2;
-    if kind < TREE {
-        return Owner {
-            kind: ENTRY,
-            code: stored_type(table, header_mark(kind), row.type_code),
-            depth,
-        };
-    }
     Owner {
-        kind: NO_SCOPE,
-        code: 0,
+        scope: control_scope(table, reading, row.type_code),
         depth,
     }
 }
@@ -205,33 +210,38 @@ fn put_blanks(out: &mut [u8], at: usize, depth: usize) -> usize
     p
 }
 
-fn put_scope(out: &mut [u8], at: usize, kind: u32, code: u32) -> usize
-    ensures { Wrote out.old at (scope_text kind code) out.new result }
+#[tactic(auto, unfolding(crate::specs::Lines::scope_text))]
+fn put_scope(out: &mut [u8], at: usize, scope: Scope) -> usize
+    ensures { Wrote out.old at (scope_text scope) out.new result }
 {
-    if kind == FORM {
-        return put_text(out, at, b"form");
+    match scope {
+        Scope::OfForm => put_text(out, at, b"form"),
+        Scope::OfReport => put_text(out, at, b"report"),
+        Scope::OfEntry(code) => {
+            let p = put_text(out, at, b"entry ");
+            put_hex(out, p, 4, code)
+        }
+        Scope::NoScope => at,
     }
-    if kind == REPORT {
-        return put_text(out, at, b"report");
-    }
-    let p = put_text(out, at, b"entry ");
-    put_hex(out, p, 4, code)
 }
 
 #[tactic(auto, unfolding(crate::specs::Lines::is_unmapped))]
-fn is_unmapped(kind: u32, id: u32) -> bool
-    ensures { result ≡ is_unmapped kind id }
+fn is_unmapped(scope: Scope, id: u32) -> bool
+    ensures { result ≡ is_unmapped scope id }
 {
-    kind < NO_SCOPE && UNMAPPED <= id
+    match scope {
+        Scope::NoScope => false,
+        _ => UNMAPPED <= id,
+    }
 }
 
-fn put_unmapped(out: &mut [u8], at: usize, kind: u32, code: u32, id: u32) -> usize
-    ensures { Wrote out.old at (unmapped_text kind code id) out.new result }
+fn put_unmapped(out: &mut [u8], at: usize, scope: Scope, id: u32) -> usize
+    ensures { Wrote out.old at (unmapped_text scope id) out.new result }
 {
     let p = put_text(out, at, b"!! unmapped code ");
     let p = put_hex(out, p, 2, id);
     let p = put_text(out, p, b" of ");
-    put_scope(out, p, kind, code)
+    put_scope(out, p, scope)
 }
 
 // A property's name, or its id.
@@ -262,16 +272,15 @@ fn put_key(
     at: usize,
     index: &[u32],
     letters: &[u8],
-    kind: u32,
-    code: u32,
+    scope: Scope,
     mark: u32,
     id: u32,
 ) -> usize
     requires { Lent index.now letters.now }
-    ensures { Wrote out.old at (key_text kind code mark id) out.new result }
+    ensures { Wrote out.old at (key_text scope mark id) out.new result }
 {
-    if is_unmapped(kind, id) {
-        return put_unmapped(out, at, kind, code, id);
+    if is_unmapped(scope, id) {
+        return put_unmapped(out, at, scope, id);
     }
     put_property(out, at, index, letters, mark, id)
 }
@@ -290,7 +299,7 @@ fn property_line(
 {
     let v = p.value;
     let q = put_blanks(out, at, owner.depth);
-    let q = put_key(out, q, index, letters, owner.kind, owner.code, v.mark, p.id);
+    let q = put_key(out, q, index, letters, owner.scope, v.mark, p.id);
     let q = put_text(out, q, b" = ");
     let q = put_shown(out, q, stream, p);
     put_end(out, q)
@@ -394,13 +403,13 @@ fn put_controls(
     counts: Counts,
 ) -> usize
     requires { ControlsReady index.now letters.now controls.now counts.controls counts.own }
-    ensures { Wrote out.old at (controls_text table.now stream.now counts.kind controls.now rows.now 0 counts.controls counts.own) out.new result }
+    ensures { Wrote out.old at (controls_text table.now stream.now counts.reading controls.now rows.now 0 counts.controls counts.own) out.new result }
 {
     let mut p = at;
     let mut next = counts.own;
     for n in 0..counts.controls {
         let control = get_control(controls, n);
-        let owner = control_owner(table, counts.kind, control);
+        let owner = control_owner(table, counts.reading, control);
         let many = control.count;
         p = control_line(out, p, index, letters, stream, n, control);
         p = put_rows(out, p, index, letters, stream, owner, rows, next, many);
@@ -429,10 +438,13 @@ fn marked(rows: &[u32], count: u32) -> u32
 }
 
 #[tactic(auto, unfolding(crate::specs::Rows::unmapped_in))]
-fn unmapped(kind: u32, rows: &[u32], count: u32) -> u32
-    ensures { result ≡ unmapped_in kind rows.now count }
+fn unmapped(reading: Reading, rows: &[u32], count: u32) -> u32
+    ensures { result ≡ unmapped_in reading rows.now count }
 {
-    if kind < TREE { marked(rows, count) } else { 0 }
+    match reading {
+        Reading::Form | Reading::Report => marked(rows, count),
+        _ => 0,
+    }
 }
 
 fn put_slices(
@@ -448,11 +460,11 @@ fn put_slices(
     requires { ControlsReady index.now letters.now controls.now counts.controls counts.own }
     ensures { Wrote out.old 0 (slices_text table.now stream.now controls.now rows.now counts) out.new result }
 {
-    let kind = counts.kind;
-    let lacking = unmapped(kind, rows, counts.properties);
-    let p = first_line(out, 0, kind, counts.controls, counts.properties, lacking);
-    let p = object_line(out, p, kind);
-    let owner = object_owner(kind);
+    let reading = counts.reading;
+    let lacking = unmapped(reading, rows, counts.properties);
+    let p = first_line(out, 0, reading, counts.controls, counts.properties, lacking);
+    let p = object_line(out, p, reading);
+    let owner = object_owner(reading);
     let p = put_rows(out, p, index, letters, stream, owner, rows, 0, counts.own);
     put_controls(
         out, p, index, letters, table, stream, controls, rows, counts,
@@ -477,7 +489,7 @@ fn put_read(
         return answer_line(out, 0, a);
     }
     let counts = Counts {
-        kind: reading_kind(table, stream),
+        reading: reading_kind(table, stream),
         controls: a.first,
         properties: a.second,
         own: a.third,

@@ -23,7 +23,7 @@ loop-n-preserved c =
     let e : a.counts.controls - (l.n + 1) ≡ a.counts.controls - l.n - 1 = omega arith in
     rw e
     (controls-more l.invariant (omega arith) c.get_control-control.ensures (c.control_line-p.ensures ⨟ c.put_rows-p.ensures)
-    (part_as c.get_control-control.ensures a.table.now a.stream.now a.counts.kind a.rows.now _ _ c.control_owner-owner.ensures))
+    (part_as c.get_control-control.ensures a.table.now a.stream.now a.counts.reading a.rows.now _ _ c.control_owner-owner.ensures))
 
 pub returns : goal.returns
 returns c = controls-done c.loop-n.invariant (omega arith)

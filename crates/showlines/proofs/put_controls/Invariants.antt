@@ -5,5 +5,5 @@ use Rattle.showlines.proofs.put_controls.Given as goal
 
 abbrev pub invariant-loop-n : goal.invariant-loop-n
 invariant-loop-n l =
-    ControlsLeft (control_text l.table l.stream l.fn.counts.kind l.rows) l.controls l.fn.counts.controls l.fn.counts.own
+    ControlsLeft (control_text l.table l.stream l.fn.counts.reading l.rows) l.controls l.fn.counts.controls l.fn.counts.own
     l.fn.out l.fn.at l.out l.p l.n (l.fn.counts.controls - l.n) l.next

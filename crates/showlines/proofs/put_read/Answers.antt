@@ -1,6 +1,7 @@
-use Rattle.std.proofs.Common.{ℕ, sym, ap, ◌∙◌, arith}
+use Rattle.std.proofs.Common.{sym, ap, ◌∙◌, arith}
 use Rattle.text.proofs.Chain.{wrote_as}
 use Rattle.blob.specs.Exit.{exited}
+use Rattle.showlines.specs.declared.Reading.{Reading}
 use Rattle.showlines.specs.Rows.{slices_text}
 use Rattle.showlines.specs.Shown.{counts_of}
 use Rattle.showlines.proofs.ReadLaws.{shown-refused, shown_read}
@@ -18,5 +19,5 @@ pub returns : goal.returns
 returns c =
     let a = c.args in
     wrote_as c.put_slices.ensures
-    (ap (λ (k : ℕ). slices_text a.table.now a.stream.now a.controls.now a.rows.now (counts_of k a.a)) c.reading_kind.ensures
+    (ap (λ (k : Reading). slices_text a.table.now a.stream.now a.controls.now a.rows.now (counts_of k a.a)) c.reading_kind.ensures
     ∙ sym (shown_read a.table.now a.stream.now (exited a.a a.controls.now a.rows.now) (omega arith)))

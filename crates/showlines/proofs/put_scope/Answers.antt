@@ -1,14 +1,12 @@
-use Rattle.std.proofs.Common.{sym, arith}
-use Rattle.text.proofs.Chain.{◌⨟◌, wrote_as}
-use Rattle.showlines.proofs.LineLaws.{of_form, of_report, of_entry}
+use Rattle.std.proofs.Common.{sym, ap}
+use Rattle.text.proofs.Chain.{nothing, ◌⨟◌, wrote_as}
+use Rattle.showlines.specs.Lines.{scope_text}
 use Rattle.showlines.proofs.put_scope.Goals as goal
 
-pub returns-then-kind-eq-FORM : goal.returns-then-kind-eq-FORM
-returns-then-kind-eq-FORM c = wrote_as c.put_text.ensures (sym (of_form c.args.kind c.args.code (omega arith)))
+pub returns-in-OfEntry : goal.returns-in-OfEntry
+unfolding scope_text
+returns-in-OfEntry c = wrote_as (c.put_text-p.ensures ⨟ c.put_hex.ensures) (sym (ap scope_text c.in-OfEntry.is))
 
-pub returns-then-kind-eq-REPORT : goal.returns-then-kind-eq-REPORT
-returns-then-kind-eq-REPORT c = wrote_as c.put_text-then-kind-eq-REPORT.ensures (sym (of_report c.args.kind c.args.code (omega arith)))
-
-pub returns : goal.returns
-returns c =
-    wrote_as (c.put_text-p.ensures ⨟ c.put_hex.ensures) (sym (of_entry c.args.kind c.args.code (λ e. omega arith) (λ e. omega arith)))
+pub returns-in-NoScope : goal.returns-in-NoScope
+unfolding scope_text
+returns-in-NoScope c = wrote_as nothing (sym (ap scope_text c.in-NoScope.is))

@@ -12,7 +12,7 @@ pub returns : goal.returns
 unfolding slices_text
 returns c =
     let a = c.args in
-    wrote_as c.first_line-p.ensures (ap (λ (n : ℕ). first_line a.counts.kind a.counts.controls a.counts.properties n) c.unmapped-lacking.ensures)
+    wrote_as c.first_line-p.ensures (ap (λ (n : ℕ). first_line a.counts.reading a.counts.controls a.counts.properties n) c.unmapped-lacking.ensures)
     ⨟ c.object_line-p.ensures
     ⨟ wrote_as c.put_rows-p.ensures (ap (λ (o : Owner). rows_text a.stream.now o a.rows.now 0 a.counts.own) c.object_owner-owner.ensures)
     ⨟ c.put_controls.ensures
