@@ -65,6 +65,7 @@ const LARGE_SAID: usize = BEFORE + LARGE_ROWS * LINE;
 const NAME_WORDS: usize = 4;
 
 // ---- the lines of differences
+// Kept: `print`'s clause tells the lines byte for byte, and no clause tells what a macro prints.
 // So many words from a place on, as far as the slice has them.
 fn part_of(words: &[u32], from: usize, size: usize) -> &[u32]
     ensures { result.now ≡ part words.now from size }

@@ -40,6 +40,7 @@ fn info_bytes(rows: u32) -> u32
 }
 
 // ---- lines
+// Kept: `print`'s clause tells the lines byte for byte, and no clause tells what a macro prints.
 fn put_blob(out: &mut [u8], at: usize, layout: &[u8], room: Room) -> usize
     requires { Small room }
     ensures { Wrote out.old at (blob_line layout.now room) out.new result }
