@@ -34,7 +34,7 @@ use Rattle.rules.specs.Tree.{Entries, Node, nodes_of}
 use Rattle.rules.specs.Access2000.{Prop, stream_of}
 use Rattle.rules.specs.Read2000.{control_of}
 use Rattle.rules.specs.declared.Answer.{Answer}
-use Rattle.numbers.specs.Int.{int_of}
+use Rattle.rules.specs.Told.{told}
 use Rattle.numbers.specs.Wide.{words_of, bits_of}
 use Rattle.blob.specs.Exit.{part_place}
 use Rattle.oskuramos.specs.Handed.{handed_part}
@@ -515,5 +515,5 @@ pub record Calls : Type 2 where
   pub control_name : ControlNameIn
   -- for C and Rust a part is source, start and length
   pub exported_control_name : Gives control_name_part (λ a. handed_part (part a))
-  pub integer-value : Gives integer-value (λ bytes. int_of (integer_value_lem bytes))
+  pub integer-value : Gives integer-value (λ bytes. told (integer_value_lem bytes))
   pub widen : Widen

@@ -2,7 +2,7 @@
 -- Here alone an argument is told by its place: `(first, (second, (third, _)))`. At exit `e` has the same places.
 -- `now` is what a lent slice holds; `κs` are the lifetimes, `r` is what is returned. `ended` is a function's signature, `name` and `code` are the name that it is
 -- called by and its code, `Learnt` is its contract. (A name that stood for another argument would be refused: the equations of Calls wouldn't hold.)
-use Rattle.std.specs.Prelude.{ℕ, Bool, List}
+use Rattle.std.specs.Prelude.{ℕ, ℤ, Bool, List, Option}
 use denote.Ref.{Bor, MutBor}
 use Rattle.rules.specs.declared.Answer.{Answer}
 use Rattle.rules.specs.declared.Value.{Value}
@@ -15,7 +15,6 @@ use Rattle.rules.specs.Csv.{CsvExit, FieldsExit}
 use Rattle.rules.specs.Differences.{DifferencesExit}
 use Rattle.rules.specs.declared.Totals.{Totals}
 use Rattle.rules.specs.declared.Totalled.{Totalled}
-use Rattle.numbers.specs.declared.Int.{Int}
 use Rattle.numbers.specs.declared.Wide.{Wide}
 use Rattle.blob.specs.Exit.{Place}
 use Rattle.totals.specs.Exit.{exited}
@@ -741,7 +740,7 @@ control_name_part = record {
 }
 
 -- these the archive hasn't
-abbrev pub integer-value : Fn (List ℕ) Int
+abbrev pub integer-value : Fn (List ℕ) (Option ℤ)
 integer-value = record {
   function = record { ended = integer_value.ended; name = integer_value_code.Symbol.name; code = integer_value_code.Symbol.code; says = integer_value_code.Reads.Learnt };
   handed = λ κs a. bytes a;
