@@ -1,10 +1,9 @@
 -- Worked examples of the lines.
 use mathlib.Core.Path.{◌≡◌, refl}
-use mathlib.Core.Bool.{true}
 use mathlib.Core.List.{[], ◌∷◌}
 use Rattle.rules.specs.Lists.{text}
 use Rattle.rules.proofs.Open.{rules_open}
-use Rattle.coderows.specs.declared.Row.TheVariants.{Tied, Untied}
+use Rattle.std.specs.Prelude.{Option, Some, None}
 use Rattle.tabletext.specs.Text.{row_line, kind_word, kind_mark, remark, scope_name, type_remark}
 use Rattle.succession.specs.declared.Lack.{Lack}
 use Rattle.succession.specs.Found.{row_from_lem}
@@ -24,13 +23,13 @@ unfolding difference_line spaced rules_open
 own-unnamed = refl
 
 -- ---- why not
-abbrev box_source : Lack
-box_source = record { found = true; kind = 2; code = 0x6D; row = row_from_lem 0xDD 0x1B 1; other = Untied }
+abbrev box_source : Option Lack
+box_source = Some (record { kind = 2; code = 0x6D; row = row_from_lem 0xDD 0x1B 1; other = None })
 
 row_missing : lack_text box_source ≡ text "entry 006D  # TextBox\nDD 001B text  # ControlSource\nnone\n"
 unfolding lack_text other_line scope_name type_remark remark row_line kind_word kind_mark rules_open
 row_missing = refl
 
-row_other : other_line 0xDD (Tied 0x11 1) ≡ text "DD 0011 text  # Caption\n"
+row_other : other_line 0xDD (Some (record { target = 0x11; kind = 1 })) ≡ text "DD 0011 text  # Caption\n"
 unfolding other_line row_line kind_word kind_mark remark rules_open
 row_other = refl
