@@ -4,4 +4,4 @@ use Rattle.infolist.proofs.Printing.{roomy}
 use Rattle.infolist.proofs.list_small.Goals as goal
 
 pub list-requires : goal.list-requires
-list-requires c = roomy 65536 (omega arith) c.requires (omega (arith, c.filled-rows.ensures)) (omega (arith, c.filled-out.ensures))
+list-requires c = roomy 65536 (omega arith) c.requires (omega (arith, c.filled-rows.ensures.size)) (omega (arith, c.filled-out.ensures.size))
