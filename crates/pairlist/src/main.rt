@@ -2,13 +2,15 @@
 // streams.
 #![tactic(auto)]
 
-ghost use Rattle.std.specs.Prelude.{◌≡◌, true, List, ℕ, ◌≤◌, ◌<◌, length};
+ghost use Rattle.std.specs.Prelude.{◌≡◌, List, ℕ, ◌≤◌, ◌<◌, length};
 ghost use Rattle.inputs.specs.Begun.{Begun};
 ghost use Rattle.pairlines.specs.Pairs.{longest_input, pair_listing};
 ghost use Rattle.pairlines.specs.Told.{Listed};
 ghost use Rattle.pairlist.specs.Space.{Roomy};
 
+use inputs::{by_length, filled};
 use rows::{CONTROL_WIDTH, INFO_WIDTH, PROPERTY_WIDTH};
+use rules::TOO_LONG;
 
 // The longest input, and room for its rows and for its lines.
 const LONGEST: usize = 8388616;
@@ -21,7 +23,9 @@ const PROPERTIES: usize = 262144 * PROPERTY_WIDTH;
 
 const LINES: usize = 26787962;
 
-// The same of an input that is read at once.
+// A shorter input than this is read into little room.
+const SHORT: usize = 16384;
+
 const SMALL_INFOS: usize = 2048 * INFO_WIDTH;
 
 const SMALL_CONTROLS: usize = 910 * CONTROL_WIDTH;
@@ -29,13 +33,6 @@ const SMALL_CONTROLS: usize = 910 * CONTROL_WIDTH;
 const SMALL_PROPERTIES: usize = 910 * PROPERTY_WIDTH;
 
 const SMALL_LINES: usize = 1487972;
-
-// Of an array only the length is told, since a proof that computed with the elements of a large one would not end.
-fn filled<T: Copy, const N: usize>(x: T) -> [T; N]
-    ensures { N ≡ length result }
-{
-    [x; N]
-}
 
 // Prints the listing of standard input, of which `input` was read and `more` tells whether bytes came after it.
 fn print(rt: &HostRuntime, input: &[u8], more: bool, listed: &[u8])
@@ -48,7 +45,7 @@ fn refuse(rt: &HostRuntime, input: &[u8])
     requires { longest_input ≤ length input.now }
 {
     let mut out = [0; 64];
-    let end = listing::refusal_line(&mut out, 5);
+    let end = listing::refusal_line(&mut out, TOO_LONG);
     print(rt, input, true, &out[..end]);
 }
 
@@ -85,10 +82,10 @@ fn list(
 fn list_small(rt: &HostRuntime, input: &[u8])
     requires { length input.now < 16384 }
 {
-    let mut infos: [u32; SMALL_INFOS] = filled(0);
-    let mut controls: [u32; SMALL_CONTROLS] = filled(0);
-    let mut properties: [u32; SMALL_PROPERTIES] = filled(0);
-    let mut out: [u8; SMALL_LINES] = filled(0);
+    let mut infos = filled::<u32, SMALL_INFOS>(0);
+    let mut controls = filled::<u32, SMALL_CONTROLS>(0);
+    let mut properties = filled::<u32, SMALL_PROPERTIES>(0);
+    let mut out = filled::<u8, SMALL_LINES>(0);
     list(
         rt,
         input,
@@ -99,28 +96,20 @@ fn list_small(rt: &HostRuntime, input: &[u8])
     );
 }
 
-// Of a longer input `head` is the start; `more` says that it is the longest that is read, and that bytes came after it.
-// As it calls itself it is compiled apart, so that no shorter input needs its stack of 53 MB.
-fn list_large(rt: &HostRuntime, head: &[u8], more: bool)
-    requires { more ≡ true → longest_input ≤ length head.now }
+// A longer input than is read is refused.
+fn list_large(rt: &HostRuntime, input: &[u8])
+    requires { length input.now ≤ longest_input }
 {
-    if more {
-        refuse(rt, head);
-        return;
+    if inputs::has_more(rt, input.len(), LONGEST) {
+        return refuse(rt, input);
     }
-    let mut space: [u8; LONGEST] = filled(0);
-    let mut infos: [u32; INFOS] = filled(0);
-    let mut controls: [u32; CONTROLS] = filled(0);
-    let mut properties: [u32; PROPERTIES] = filled(0);
-    let mut out: [u8; LINES] = filled(0);
-    let size = inputs::fill(rt, &mut space, head);
-    if inputs::has_more(rt, size, LONGEST) {
-        list_large(rt, &space, true);
-        return;
-    }
+    let mut infos = filled::<u32, INFOS>(0);
+    let mut controls = filled::<u32, CONTROLS>(0);
+    let mut properties = filled::<u32, PROPERTIES>(0);
+    let mut out = filled::<u8, LINES>(0);
     list(
         rt,
-        &space[..size],
+        input,
         &mut infos,
         &mut controls,
         &mut properties,
@@ -129,11 +118,9 @@ fn list_large(rt: &HostRuntime, head: &[u8], more: bool)
 }
 
 fn main(rt: HostRuntime) {
-    let mut head = [0; 16384];
-    let size = streams::read_full(&rt, &mut head);
-    if size < 16384 {
-        list_small(&rt, &head[..size]);
-    } else {
-        list_large(&rt, &head, false);
-    }
+    by_length::<SHORT, LONGEST, _, _>(
+        &rt,
+        |input| list_small(&rt, input),
+        |input| list_large(&rt, input),
+    );
 }

@@ -5,4 +5,4 @@ use Rattle.pairlist.proofs.Printing.{small_roomy}
 use Rattle.pairlist.proofs.list_small.Goals as goal
 
 pub list-requires : goal.list-requires
-list-requires c = small_roomy c.requires (sym c.filled-infos.ensures) (sym c.filled-controls.ensures) (sym c.filled-properties.ensures) (omega (arith, c.filled-out.ensures))
+list-requires c = small_roomy c.requires (sym c.filled-infos.ensures.size) (sym c.filled-controls.ensures.size) (sym c.filled-properties.ensures.size) (omega (arith, c.filled-out.ensures.size))

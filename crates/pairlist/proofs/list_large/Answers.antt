@@ -1,0 +1,9 @@
+-- Room for the longest input.
+use native.Mathlib.Omega.{arith}
+use Rattle.std.proofs.Common.{sym}
+use Rattle.pairlist.proofs.Printing.{large_roomy}
+use Rattle.pairlist.proofs.list_large.Goals as goal
+
+pub list-requires : goal.list-requires
+list-requires c =
+    large_roomy c.requires (sym c.filled-infos.ensures.size) (sym c.filled-controls.ensures.size) (sym c.filled-properties.ensures.size) (omega (arith, c.filled-out.ensures.size))
