@@ -22,7 +22,8 @@ use Rattle.text.specs.Writer.{Wrote}
 use Rattle.text.proofs.Chain.{◌⨟◌}
 use Rattle.tabletext.specs.Input.{Began}
 use Rattle.tabletext.proofs.Told.{first-printed}
-use Rattle.panelsay.specs.Judged.{row_line, row_text, said, judged, controls_for, properties_for, judged_in, judged_of, most_read, most_said, zeros, small_controls, small_properties, large_controls, large_properties, Ready}
+use Rattle.inputs.specs.Lent.{zeros}
+use Rattle.panelsay.specs.Judged.{row_line, row_text, said, judged, controls_for, properties_for, judged_in, judged_of, most_read, most_said, small_controls, small_properties, large_controls, large_properties, Ready}
 
 -- ---- a row's line
 module _ (k m s z : ℕ) where

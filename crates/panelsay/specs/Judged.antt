@@ -1,5 +1,5 @@
 -- What is printed for a stream that is judged by the rules of panels: the line of the answer, and a line with a control row's type and name.
-use Rattle.std.specs.Prelude.{ℕ, ◌+◌, ◌*◌, ◌≤◌, ◌≡◌, cond, List, ◌++◌, ltb, length, take, replicate}
+use Rattle.std.specs.Prelude.{ℕ, ◌+◌, ◌*◌, ◌≤◌, ◌≡◌, cond, List, ◌++◌, ltb, length, take}
 use Rattle.rules.specs.Lists.{text}
 use Rattle.rules.specs.Answer.{refusal, bad_table, longest}
 use Rattle.rules.specs.Rows.{control_width, property_width, row_at}
@@ -7,6 +7,7 @@ use Rattle.rules.specs.Blob.{Exit}
 use Rattle.rules.specs.Panel.{panel_exit}
 use Rattle.rules.specs.Listing.{word, answer_line, table_length, table_in, blob_in}
 use Rattle.listing.specs.Numbers.{numbers_line}
+use Rattle.inputs.specs.Lent.{zeros}
 
 -- ---- the lines
 -- type, mark of the name, where it starts and how many bytes it has
@@ -29,9 +30,6 @@ judged input controls properties =
     (said (panel_exit (table_in input) (blob_in input) controls properties)))
 
 -- ---- the words that are lent: zeros
-unfoldable pub zeros : ℕ → List ℕ
-zeros n = replicate n 0
-
 -- room for every Blob in an input under 16,384 bytes
 abbrev pub small_controls : ℕ
 small_controls = 5461 * control_width

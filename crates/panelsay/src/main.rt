@@ -6,8 +6,9 @@ ghost use Rattle.rules.specs.Panel.{panel_exit};
 ghost use Rattle.text.specs.Writer.{Wrote};
 ghost use Rattle.listing.specs.Written.{Written};
 ghost use Rattle.tabletext.specs.Input.{Began};
-ghost use Rattle.panelsay.specs.Judged.{row_line, said, judged, judged_of, most_read, most_said, zeros, Ready};
+ghost use Rattle.panelsay.specs.Judged.{row_line, said, judged, judged_of, most_read, most_said, Ready};
 
+use inputs::{by_length, filled};
 use listing::{answer_line, numbers_line, refusal_line};
 use numbers::u32_at;
 use rows::{CONTROL_WIDTH, ControlRow, PROPERTY_WIDTH, get_control};
@@ -33,20 +34,6 @@ const FEW_PROPERTIES: usize = 16384 * PROPERTY_WIDTH;
 const CONTROLS: usize = 16384 * CONTROL_WIDTH;
 
 const PROPERTIES: usize = 262144 * PROPERTY_WIDTH;
-
-// Of the large arrays no element is computed, since such a proof would not end.
-fn large_input() -> [u8; SPACE]
-    ensures { most_read ≡ length result }
-{
-    [0; SPACE]
-}
-
-#[tactic(auto, unfolding(crate::specs::Judged::zeros))]
-fn zeroed<const N: usize>() -> [u32; N]
-    ensures { zeros N ≡ result }
-{
-    [0; N]
-}
 
 // ---- what is printed
 // A control's type and the words of its name.
@@ -112,33 +99,23 @@ fn judge(rt: &HostRuntime, input: &[u8], controls: &mut [u32], properties: &mut 
 fn judge_small(rt: &HostRuntime, input: &[u8])
     requires { length input.now < 16384 }
 {
-    let mut controls: [u32; FEW_CONTROLS] = zeroed();
-    let mut properties: [u32; FEW_PROPERTIES] = zeroed();
+    let mut controls = filled::<u32, FEW_CONTROLS>(0);
+    let mut properties = filled::<u32, FEW_PROPERTIES>(0);
     judge(rt, input, &mut controls, &mut properties);
 }
 
-// Of a longer input `head` is the start; `whole` says that it is all that is read.
-// As it calls itself it is compiled apart, so that no shorter input needs its stack of 48 MB.
-fn judge_large(rt: &HostRuntime, head: &[u8], whole: bool)
-    requires { (16384 ≤ length head.now) × (length head.now ≤ most_read) }
+fn judge_large(rt: &HostRuntime, input: &[u8])
+    requires { (16384 ≤ length input.now) × (length input.now ≤ most_read) }
 {
-    if whole {
-        let mut controls: [u32; CONTROLS] = zeroed();
-        let mut properties: [u32; PROPERTIES] = zeroed();
-        judge(rt, head, &mut controls, &mut properties);
-        return;
-    }
-    let mut space = large_input();
-    let size = inputs::fill(rt, &mut space, head);
-    judge_large(rt, &space[..size], true);
+    let mut controls = filled::<u32, CONTROLS>(0);
+    let mut properties = filled::<u32, PROPERTIES>(0);
+    judge(rt, input, &mut controls, &mut properties);
 }
 
 fn main(rt: HostRuntime) {
-    let mut head = [0; SHORT];
-    let size = streams::read_full(&rt, &mut head);
-    if size < SHORT {
-        judge_small(&rt, &head[..size]);
-    } else {
-        judge_large(&rt, &head, false);
-    }
+    by_length::<SHORT, SPACE, _, _>(
+        &rt,
+        |input| judge_small(&rt, input),
+        |input| judge_large(&rt, input),
+    );
 }
