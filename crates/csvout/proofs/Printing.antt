@@ -2,9 +2,9 @@
 use Prim.Native.Nat.{ℕ, ◌+◌, ◌-◌, ◌*◌, ◌≤◌, ◌<◌}
 use native.Mathlib.Omega.{arith}
 use mathlib.Core.Path.{◌≡◌, refl, sym, ap, ◌∙◌}
-use mathlib.Core.Bool.{Bool, true, false, cond}
+use mathlib.Core.Bool.{Bool, true, false}
 use mathlib.Core.List.{List, [], ◌++◌, append-nil}
-use borrow.Author.Tests.{lt-ltb, le-ltb, ltb-false, eq-eqb, ne_eqb}
+use borrow.Author.Tests.{lt-ltb, le-ltb, ne_eqb}
 use lib.Dec.{ltb}
 use lib.ListN.{length, take, drop, length-append, length-drop}
 use lib.Seq.{take_at, take_all}
@@ -62,14 +62,6 @@ refusal-printed {number = n} w h f refuses input b =
     append-nil _ ∙ held w (omega (arith, answer-short (refusal n) f (omega arith) (omega arith) (omega arith))) ∙ sym (refuses input b)
 
 -- ---- the text
-pub size-read : (number first : ℕ) → number ≡ 0 → first ≡ text_size number first
-unfolding text_size
-size-read number first e = rw (eq-eqb number 0 e) refl
-
-pub size_none : (number first : ℕ) → (number ≡ 0 → ⊥) → 0 ≡ text_size number first
-unfolding text_size
-size_none number first h = rw (ne_eqb number 0 h) refl
-
 room-is : (out : List ℕ) → length out ≡ text_room → countable (length out) ≡ text_room
 room-is out h = ap countable h ∙ sym (all-is text_room (omega arith))
 

@@ -1,5 +1,5 @@
 -- What is printed for an input: the line of the answer, and after it the comma-separated text.
-use Rattle.std.specs.Prelude.{ℕ, ◌+◌, ◌≤◌, ◌≡◌, Bool, cond, List, ◌++◌, ltb, eqb, length}
+use Rattle.std.specs.Prelude.{ℕ, ◌+◌, ◌≡◌, Bool, cond, List, ◌++◌, ltb, eqb, length}
 use Rattle.rules.specs.Answer.{answer, refusal, too_long_lem, bad_table, no_room_for_sheet}
 use Rattle.rules.specs.Blob.{Outcome, refused, read, outcome}
 use Rattle.rules.specs.Csv.{csv_of}
