@@ -1,12 +1,11 @@
 -- All that standard input had, by what was read of it and whether more came.
 use mathlib.Core.Path.{◌≡◌, refl, sym, ap, ◌∙◌}
-use mathlib.Core.Bool.{Bool, true, false, cond}
+use mathlib.Core.Bool.{Bool, true, false}
 use mathlib.Core.List.{List}
 use Prim.Native.Nat.{ℕ, ◌+◌, ◌≤◌, ◌<◌}
 use native.Mathlib.Omega.{arith}
 use borrow.Rule.Slice.PartMut.{put_mid, take_put}
-use lib.ListN.{length, take, length-append, length-take}
-use lib.Seq.{length-take-le}
+use lib.ListN.{length, take, length-append}
 use Rattle.rules.specs.Answer.{refusal, too_long_lem}
 use Rattle.rules.specs.Listing.{answer_line}
 use Rattle.text.specs.Writer.{Wrote}
@@ -49,18 +48,3 @@ module _ {read old new : List ℕ} {e : ℕ} (w : Wrote old 0 read new e) (k : �
     after = λ l. omega (arith, ends l);
     begins = λ l. ap (λ (i : ℕ). take i (put_mid e k new ys)) (ends l) ∙ take_put e k new ys (within w) ∙ held w l;
   }
-
--- ---- a long input that was read into a large buffer
--- whoever calls itself once, with `more`, has a measure that falls
-pub once : {t : ℕ} (more : Bool) → cond more 0 1 ≡ t → more ≡ false → 0 < t
-once more is first = let e = ap {B = ℕ} (λ (b : Bool). cond b 0 1) first in omega (arith, is)
-
-module _ {read old new : List ℕ} {size : ℕ} (f : Filled read old new size) (kept : length new ≡ length old) where
-  pub inside : size ≤ length new
-  inside = omega (arith, f.within)
-
-  pub part-size : size ≡ length (take size new)
-  part-size = sym (length-take-le size new inside)
-
-  pub part-short : {n : ℕ} → n ≡ length old → length (take size new) ≤ n
-  part-short e = omega (arith, length-take size new)
