@@ -1,6 +1,6 @@
 -- The line of the refusal.
 use native.Mathlib.Omega.{arith}
-use Rattle.std.proofs.Common.{sym, ℕ}
+use Rattle.std.proofs.Common.{sym}
 use lib.ListN.{length-replicate}
 use lib.Seq.{length-take-le}
 use Rattle.listing.proofs.Placed.{within}
@@ -9,7 +9,7 @@ use Rattle.pairlist.proofs.Printing.{too_long}
 use Rattle.pairlist.proofs.refuse.Goals as goal
 
 pub slice_bounds-out-end : goal.slice_bounds-out-end
-slice_bounds-out-end c = let w = c.refusal_line-end in omega (arith, within w.ensures, w.auto.out, length-replicate {A = ℕ} 64 0)
+slice_bounds-out-end c = within c.refusal_line-end.ensures
 
 pub slice_bounds-print-end : goal.slice_bounds-print-end
 slice_bounds-print-end c = sym (length-take-le _ _ (within c.refusal_line-end.ensures))

@@ -1,6 +1,6 @@
 -- What was written is printed.
 use native.Mathlib.Omega.{arith}
-use Rattle.std.proofs.Common.{sym, ℕ}
+use Rattle.std.proofs.Common.{sym}
 use lib.ListN.{length-replicate}
 use lib.Seq.{length-take-le}
 use Rattle.listing.proofs.Placed.{within}
@@ -8,7 +8,7 @@ use Rattle.panelsay.proofs.Printing.{all-printed}
 use Rattle.panelsay.proofs.judge.Goals as goal
 
 pub slice_bounds-out-end : goal.slice_bounds-out-end
-slice_bounds-out-end c = let w = c.write_judged-end in omega (arith, within w.ensures.wrote, w.auto.out, length-replicate {A = ℕ} 128 0)
+slice_bounds-out-end c = within c.write_judged-end.ensures.wrote
 
 pub slice_bounds-print-end : goal.slice_bounds-print-end
 slice_bounds-print-end c = sym (length-take-le _ _ (within c.write_judged-end.ensures.wrote))
