@@ -15,7 +15,8 @@ use rows::{CONTROL_WIDTH, ControlRow, INFO_WIDTH, InfoRow, get_control, get_info
 use rules::{Answer, BAD_ROWS, NAME_LOOSE, NAME_NUMBERED};
 use text::{label_text, refused, wrote};
 
-// What stands for all letters that have no byte: it isn't ASCII.
+// What stands for all letters that have no byte.
+// Kept: 255 is no ASCII letter, so no test for a missing one is needed.
 const NO_LETTER: u8 = 255;
 
 // "Control_" and the ten digits of the greatest number.
@@ -26,6 +27,7 @@ const LABEL_SIZE: usize = 18;
 pub struct Wanted {
     pub start: usize,
     pub letters: usize,
+    // Kept: it tells how wide a letter is; nothing is missing where it is false.
     pub wide: bool,
 }
 
@@ -159,34 +161,22 @@ pub fn paired_type(s: &[u8], row: ControlRow, t: &[u8], infos: &[u32], info_coun
         return infos.type_of_label(row.start, own);
     }
     if row.mark == NAME_LOOSE {
-        let bytes = Wanted {
+        let name = Wanted {
             start,
             letters: size,
             wide: false,
         };
-        return infos.type_of_name(
-            Sought {
-                stream: s,
-                name: bytes,
-            },
-            own,
-        );
+        return infos.type_of_name(Sought { stream: s, name }, own);
     }
     if size % 2 == 1 {
         return own;
     }
-    let units = Wanted {
+    let name = Wanted {
         start,
         letters: size / 2,
         wide: true,
     };
-    infos.type_of_name(
-        Sought {
-            stream: s,
-            name: units,
-        },
-        own,
-    )
+    infos.type_of_name(Sought { stream: s, name }, own)
 }
 
 fn set_types(
@@ -269,6 +259,7 @@ fn may_pair(
 }
 
 // Sets the type of each control row counted to that of the first TypeInfo row with its name.
+// Kept: C lends rows and their count apart.
 pub fn pair(
     stream: &[u8],
     controls: &mut [u32],
