@@ -264,7 +264,7 @@ fn put_reported(rows: &mut [u32], at: usize, e: Entry) -> usize
 }
 
 // Writes a row for each reported entry of at most `count`, and says how many these are.
-// Kept beside `count_entries`: a walk that both share takes a closure that writes what it captures, and no clause could say what that is then.
+// Kept beside `count_entries`: a shared walk would take a closure that is lent rows; its clause would be longer than this loop.
 fn write_entries(s: &[u8], count: u32, rows: &mut [u32]) -> usize
     requires { Room s.now count rows.old }
     ensures value { result ≡ length (reported_at s.now 32 count) }
