@@ -114,7 +114,7 @@ impl<'a> TypeNames<'a> {
 }
 
 // ---- rule 3
-// From the last byte on: the names of a form often differ in their last letters alone.
+// Kept: == begins with the first byte; names often differ in their last alone.
 fn same_bytes(a: &[u8], b: &[u8]) -> bool
     ensures { result ≡ same a.now b.now }
 {
