@@ -12,7 +12,8 @@ ghost use Rattle.pairlines.specs.Pairs.{is_letter, unit_text, units_text, shown_
 ghost use Rattle.pairlines.specs.Told.{unpaired_to, Tells, Paired, Listed};
 
 use fields::put_end;
-use listing::{Kind, answer_line};
+use listing::Kind::Control;
+use listing::answer_line;
 use pairing::paired_type;
 use rows::{ControlRow, get_control};
 use rules::{NAME_LOOSE, NAME_NUMBERED};
@@ -188,16 +189,7 @@ fn pair_lines(
         return p;
     }
     pairing::pair(stream, controls, a.first, info_stream, infos, t.first);
-    let p = listing::lines(
-        Kind::Control,
-        out,
-        p,
-        stream,
-        controls,
-        a.first,
-        index,
-        letters,
-    );
+    let p = listing::lines(Control, out, p, stream, controls, a.first, index, letters);
     let info = TypeInfo {
         stream: info_stream,
         rows: infos,
