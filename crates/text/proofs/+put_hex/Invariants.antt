@@ -1,0 +1,5 @@
+use Rattle.text.proofs.+put_hex.Given as goal
+
+-- how many digits are written
+abbrev pub decreases-put_hex : goal.decreases-put_hex
+decreases-put_hex l = l.k
