@@ -205,6 +205,7 @@ pub fn value_name(mark: u32, id: u16, out: &mut [u8]) -> Answer
     write_name(value_name_in(&index, &letters, mark, id), out)
 }
 
+#[tactic(auto, unfolding(rules::specs::Names::names_for))]
 pub fn text_name(id: u16, out: &mut [u8]) -> Answer
     ensures value { result ≡ (name_exit text_names id out.old).answer }
     ensures out_after { out.new ≡ (name_exit text_names id out.old).out }
@@ -212,6 +213,7 @@ pub fn text_name(id: u16, out: &mut [u8]) -> Answer
     value_name(MARK_TEXT, id, out)
 }
 
+#[tactic(auto, unfolding(rules::specs::Names::names_for))]
 pub fn number_name(id: u16, out: &mut [u8]) -> Answer
     ensures value { result ≡ (name_exit number_names id out.old).answer }
     ensures out_after { out.new ≡ (name_exit number_names id out.old).out }
@@ -219,6 +221,7 @@ pub fn number_name(id: u16, out: &mut [u8]) -> Answer
     value_name(MARK_BOOL, id, out)
 }
 
+#[tactic(auto, unfolding(rules::specs::Names::names_for))]
 pub fn bytes_name(id: u16, out: &mut [u8]) -> Answer
     ensures value { result ≡ (name_exit bytes_names id out.old).answer }
     ensures out_after { out.new ≡ (name_exit bytes_names id out.old).out }
