@@ -12,6 +12,7 @@ use rules::{
 };
 use text::{put_byte, put_decimal, put_guid, put_hex, put_text};
 
+#[tactic(auto, unfolding(rules::specs::Listing::mark_word))]
 pub fn put_word(out: &mut [u8], at: usize, mark: u32) -> usize
     ensures { Wrote out.old at (mark_word mark) out.new result }
 {
@@ -28,6 +29,7 @@ pub fn put_word(out: &mut [u8], at: usize, mark: u32) -> usize
     }
 }
 
+#[tactic(auto, unfolding(rules::specs::Listing::yes_or_no))]
 fn put_yes(out: &mut [u8], at: usize, low: u32) -> usize
     ensures { Wrote out.old at (yes_or_no low) out.new result }
 {
@@ -74,6 +76,7 @@ pub fn put_characters(out: &mut [u8], at: usize, stream: &[u8], start: u32, size
     put_decimal(out, at, count as u32)
 }
 
+#[tactic(auto, unfolding(rules::specs::Listing::value_column))]
 pub fn put_value(
     out: &mut [u8],
     at: usize,
