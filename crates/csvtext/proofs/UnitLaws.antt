@@ -2,7 +2,7 @@
 use Prim.Native.Nat.{ℕ, ◌+◌, ◌*◌, ◌-◌, ◌<◌, ◌≤◌}
 use native.Mathlib.Omega.{arith}
 use mathlib.Core.Path.{◌≡◌, refl, sym, ap, ◌∙◌}
-use mathlib.Core.Bool.{Bool, true, false, cond, not, ◌&&◌}
+use mathlib.Core.Bool.{Bool, true, false, cond, ◌&&◌}
 use mathlib.Core.List.{List, [], ◌∷◌, ◌++◌, map, append_assoc, append-nil}
 use lib.Dec.{eqb}
 use lib.ListN.{length, get_or, drop}
@@ -14,7 +14,7 @@ use Rattle.rules.specs.Digits.{hex}
 use Rattle.rules.specs.Utf16.{is_high}
 use Rattle.rules.specs.Scalars.{scalar, scalars_from, scalars}
 use Rattle.rules.specs.Utf8.{utf8_of, utf8}
-use Rattle.rules.specs.Csv.{comma, quote, cr, lf, is_data, doubled, field_text, hex_text}
+use Rattle.rules.specs.Csv.{quote, is_data, doubled, field_text, hex_text}
 use Rattle.csvlaws.proofs.CsvLaws.{doubled-append, all_append}
 use Rattle.csvlaws.proofs.CsvPlain.{plain-doubled}
 use Rattle.csvlaws.proofs.Utf8Laws.{utf8-doubled, utf8_data}
@@ -96,11 +96,6 @@ module _ (high u : ℕ) where
   pub scalar-pair : (high ≡ 0 → ⊥) → scalar high u ≡ 0x10000 + (high - 0xD800) * 0x400 + (u - 0xDC00)
   unfolding scalar
   scalar-pair e = rw (ne_eqb high 0 e)
-
--- ---- a character
-pub data_last : (c : ℕ) → (c ≡ comma → ⊥) → (c ≡ quote → ⊥) → (c ≡ cr → ⊥) → not (eqb c lf) ≡ is_data c
-unfolding is_data
-data_last c p q r = rw (ne_eqb c comma p, ne_eqb c quote q, ne_eqb c cr r)
 
 -- ---- a field
 module _ (f : List ℕ) where

@@ -109,6 +109,7 @@ fn put_doubled(out: &mut [u8], at: usize, bytes: &[u8]) -> usize
 
 // ---- quoted or not
 // A byte of UTF-8, or a character, that can stand without quotes.
+#[tactic(auto, unfolding(rules::specs::Csv::is_data))]
 pub fn is_data(c: u32) -> bool
     ensures { result ≡ is_data c }
 {
@@ -211,6 +212,7 @@ pub fn put_field(out: &mut [u8], at: usize, bytes: &[u8]) -> usize
 }
 
 // ---- counted
+#[tactic(auto, unfolding(rules::specs::Utf8::utf8_of))]
 fn character_size(c: u32) -> usize
     ensures { result ≡ length (utf8_of c) }
 {

@@ -1,4 +1,3 @@
-use borrow.Author.Rules.{rules}
 use native.Mathlib.Omega.{arith}
 use mathlib.Core.Path.{sym, ap, ◌∙◌}
 use mathlib.Core.List.{[], ◌∷◌}
@@ -6,26 +5,14 @@ use lib.ListN.{length, length-append}
 use Rattle.rules.specs.Utf8.{utf8}
 use Rattle.rules.specs.Csv.{quote, doubled}
 use Rattle.csvtext.proofs.UnitLaws.{field_plain, field-quoted}
-use Rattle.csvtext.proofs.field_left.Statement.{statement}
-use Rattle.csvtext.proofs.field_left.Tie as tie
+use Rattle.csvtext.proofs.field_left.Goals as goal
 
-returns : tie.Need-returns-then-is_plain
-returns c =
+pub returns-then-is_plain : goal.returns-then-is_plain
+returns-then-is_plain c =
     let f = utf8 c.args.bytes.now in
     omega (arith, c.doubled_left.ensures, ap length (field_plain f (sym c.is_plain.ensures ∙ c.if-is_plain.true)))
 
-returns-2 : tie.Need-returns
-returns-2 c =
+pub returns : goal.returns
+returns c =
     let f = utf8 c.args.bytes.now in
     omega (arith, c.doubled_left-2.ensures, c.saturating_sub.ensures, ap length (field-quoted f (sym c.is_plain.ensures ∙ c.if-is_plain.false)), length-append (doubled f) (quote ∷ []))
-
-pub field_left_spec : {M : Type 1} → statement M
-field_left_spec =
-    tie.close
-    (tie.spec
-    (λ c κs. search rules)
-    (λ c κs. search rules)
-    returns
-    (λ c κs. search rules)
-    (λ c κs. search rules)
-    returns-2)
