@@ -4,45 +4,25 @@ use mathlib.Core.List.{List, [], ◌∷◌, ◌++◌}
 use Prim.Native.Nat.{ℕ, zero, suc, ◌+◌, ◌*◌, ◌-◌, ◌≤◌, ◌<◌}
 use native.Mathlib.Nat.{not-suc-le-zero}
 use native.Mathlib.Numerals.{sub-one}
-use native.Mathlib.Omega.{arith}
-use borrow.Author.Tests.{lt-ltb, le-ltb, le-leb, lt-leb}
-use lib.ListN.{length, get_or}
+use borrow.Author.Tests.{lt-ltb, le-ltb}
+use lib.ListN.{length}
 use Rattle.rules.specs.Lists.{text}
 use Rattle.rules.specs.Bytes.{byte, u16}
 use Rattle.rules.specs.Digits.{hex}
 use Rattle.rules.specs.NameTables.{control_type_names}
 use Rattle.rules.specs.Names.{name_in_lem}
 use Rattle.rules.specs.CodeTable.{Tie, codes_at, tie_at, ties_at, scopes_at}
-use Rattle.text.specs.Writer.{Wrote}
 use Rattle.codetable.specs.Reads.{ReadsRow}
 use Rattle.codetable.specs.declared.RowRead.{RowRead}
-use Rattle.tabletext.specs.Text.{remark, kind_words, kind_word, kind_mark, row_line, row_lines, scope_name, type_remark, scope_line, scope_lines, header_line, header_lines, table_text}
+use Rattle.tabletext.specs.Text.{remark, row_line, row_lines, type_remark, scope_line, scope_lines, header_line, header_lines, table_text}
 
 -- ---- names
-pub no-remark : (s : List ℕ) → length s ≡ 0 → remark s ≡ []
-unfolding remark
-no-remark [] e = refl
-no-remark (b ∷ s) e = absurd (omega arith)
-
 pub a_remark : (s : List ℕ) → (length s ≡ 0 → ⊥) → remark s ≡ text "  # " ++ s
 unfolding remark
 a_remark [] h = absurd (h refl)
 a_remark (b ∷ s) h = refl
 
 -- ---- rows
--- an arm of the code, by its number
-pub a_kind : {o n : List ℕ} {a r kind : ℕ} (k : ℕ) → kind ≡ k → Wrote o a (get_or kind_words k (text "bytes")) n r → Wrote o a (kind_word kind) n r
-unfolding kind_word
-a_kind k e w = rw e w
-
-pub mark-number : (i k : ℕ) → i ≤ 0xBC → kind_mark i k ≡ 3
-unfolding kind_mark
-mark-number i k h = rw (le-leb i 0xBC h)
-
-pub mark-above : (i k : ℕ) → 0xBC < i → kind_mark i k ≡ get_or (7 ∷ 6 ∷ 5 ∷ 4 ∷ []) k 7
-unfolding kind_mark
-mark-above i k h = rw (lt-leb i 0xBC h)
-
 tie_of_lem : {i x k i' x' k' : ℕ} → i ≡ i' → x ≡ x' → k ≡ k' → ◌≡◌ {A = Tie} (record { id = i; target = x; kind = k }) (record { id = i'; target = x'; kind = k' })
 tie_of_lem a b c = rw (a, b, c)
 
@@ -63,10 +43,6 @@ rows-done t at (suc k) h = absurd (not-suc-le-zero h)
 -- ---- scopes
 abbrev pub plain_names : List (List ℕ)
 plain_names = text "form" ∷ text "report" ∷ []
-
-pub a_scope-name : {o n : List ℕ} {a r kind : ℕ} (k code : ℕ) → kind ≡ k → Wrote o a (get_or plain_names k (text "entry " ++ hex 4 code)) n r → Wrote o a (scope_name kind code) n r
-unfolding scope_name
-a_scope-name k code e w = rw e w
 
 pub plain-scope : (k c : ℕ) → k < 2 → type_remark k c ≡ []
 unfolding type_remark

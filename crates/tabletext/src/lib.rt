@@ -35,6 +35,7 @@ const SCOPE_ENTRY: u32 = rules::SCOPE_ENTRY as u32;
 
 // ---- names
 // A name, after the sign of a comment.
+#[tactic(auto, using(text::proofs::Chain::nothing), unfolding(crate::specs::Text::remark))]
 fn put_remark(out: &mut [u8], at: usize, name: &[u8]) -> usize
     ensures { Wrote out.old at (t.remark name.now) out.new result }
 {
@@ -66,6 +67,7 @@ fn put_type_name(out: &mut [u8], at: usize, code: u16) -> usize
 }
 
 // ---- rows
+#[tactic(auto, unfolding(crate::specs::Text::kind_word))]
 fn put_kind(out: &mut [u8], at: usize, kind: usize) -> usize
     ensures { Wrote out.old at (t.kind_word kind) out.new result }
 {
@@ -78,6 +80,7 @@ fn put_kind(out: &mut [u8], at: usize, kind: usize) -> usize
     }
 }
 
+#[tactic(auto, unfolding(crate::specs::Text::kind_mark))]
 fn mark_of(id: usize, kind: usize) -> u32
     ensures { result ≡ t.kind_mark id kind }
 {
@@ -120,6 +123,7 @@ fn put_rows(out: &mut [u8], at: usize, table: &[u8], start: usize, n: usize) -> 
 }
 
 // ---- scopes
+#[tactic(auto, unfolding(crate::specs::Text::scope_name))]
 pub fn put_scope_name(out: &mut [u8], at: usize, kind: u32, code: u32) -> usize
     ensures { Wrote out.old at (t.scope_name kind code) out.new result }
 {
@@ -133,6 +137,7 @@ pub fn put_scope_name(out: &mut [u8], at: usize, kind: u32, code: u32) -> usize
     }
 }
 
+#[tactic(auto, using(text::proofs::Chain::nothing), unfolding(crate::specs::Text::type_remark))]
 pub fn put_type_remark(out: &mut [u8], at: usize, kind: u32, code: u16) -> usize
     ensures { Wrote out.old at (t.type_remark kind code) out.new result }
 {
