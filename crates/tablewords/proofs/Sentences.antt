@@ -1,15 +1,12 @@
 -- The parts of the line, as the code writes them.
-use mathlib.Core.Path.{◌≡◌, sym, ap}
+use mathlib.Core.Path.{◌≡◌}
 use mathlib.Core.List.{List, [], ◌++◌}
-use Prim.Native.Nat.{ℕ, ◌-◌, ◌≤◌, ◌<◌}
+use Prim.Native.Nat.{ℕ, ◌≤◌, ◌<◌}
 use borrow.Author.Tests.{lt-ltb, le-ltb, eq-eqb, ne_eqb}
-use lib.ListN.{get_or}
 use Rattle.rules.specs.Lists.{text}
 use Rattle.rules.specs.Digits.{decimal}
-use Rattle.text.specs.Writer.{Wrote}
-use Rattle.text.proofs.Chain.{wrote_as}
 use Rattle.tablebreak.specs.declared.Break.{Break}
-use Rattle.tablewords.specs.Words.{scope_place, row_place, within, scopes_order, contents_words, contents_rule, body_words, body_rule, rule_text}
+use Rattle.tablewords.specs.Words.{scope_place, row_place, within, contents_rule, body_rule, rule_text}
 
 -- what is said of the last rule
 abbrev pub too_large : List ℕ
@@ -33,16 +30,7 @@ module _ (b : Break) where
   unfolding within
   of_row e = rw (ne_eqb b.row 0 e)
 
-  -- ---- the rule; an arm of the code, by its number
-  module _ {o n : List ℕ} {a r : ℕ} (k : ℕ) (e : b.rule ≡ k) where
-    pub contents_arm : Wrote o a (get_or (contents_words b) k (scopes_order b)) n r → Wrote o a (contents_rule b) n r
-    unfolding contents_rule
-    contents_arm w = wrote_as w (ap (λ (i : ℕ). get_or (contents_words b) i (scopes_order b)) (sym e))
-
-    pub body_arm : Wrote o a (get_or (body_words b) (k - 7) too_large) n r → Wrote o a (body_rule b) n r
-    unfolding body_rule
-    body_arm w = wrote_as w (ap (λ (i : ℕ). get_or (body_words b) (i - 7) too_large) (sym e))
-
+  -- ---- the rule
   pub early : b.rule < 7 → rule_text b ≡ contents_rule b
   unfolding rule_text
   early h = rw (lt-ltb b.rule 7 h)

@@ -15,6 +15,7 @@ use text::{put_byte, put_decimal, put_hex, put_text};
 // The rules before it are of the contents, those from it on of rows and of the length.
 const FIRST_BODY_RULE: u32 = ID_ORDER;
 
+#[tactic(auto, using(text::proofs::Chain::nothing), unfolding(crate::specs::Words::scope_place))]
 fn put_scope_place(out: &mut [u8], at: usize, scope: u32) -> usize
     ensures { Wrote out.old at (w.scope_place scope) out.new result }
 {
@@ -34,6 +35,7 @@ fn put_row_place(out: &mut [u8], at: usize, row: u32, kind: u32, code: u32) -> u
     put_scope_name(out, p, kind, code)
 }
 
+#[tactic(auto, unfolding(crate::specs::Words::within))]
 fn put_within(out: &mut [u8], at: usize, b: Break) -> usize
     ensures { Wrote out.old at (w.within b) out.new result }
 {
@@ -88,6 +90,7 @@ fn put_scopes_order(out: &mut [u8], at: usize, b: Break) -> usize
 }
 
 // The rules of the contents, up to SCOPE_ORDER.
+#[tactic(auto, unfolding(crate::specs::Words::contents_rule, crate::specs::Words::contents_words))]
 fn put_contents_rule(out: &mut [u8], at: usize, b: Break) -> usize
     ensures { Wrote out.old at (w.contents_rule b) out.new result }
 {
@@ -119,6 +122,7 @@ fn put_contents_rule(out: &mut [u8], at: usize, b: Break) -> usize
 }
 
 // The rules of rows and of the length, from FIRST_BODY_RULE on.
+#[tactic(auto, unfolding(crate::specs::Words::body_rule, crate::specs::Words::body_words))]
 fn put_body_rule(out: &mut [u8], at: usize, b: Break) -> usize
     requires { 7 ≤ b.rule }
     ensures { Wrote out.old at (w.body_rule b) out.new result }
@@ -135,6 +139,7 @@ fn put_body_rule(out: &mut [u8], at: usize, b: Break) -> usize
     }
 }
 
+#[tactic(auto, unfolding(crate::specs::Words::rule_text))]
 fn put_rule(out: &mut [u8], at: usize, b: Break) -> usize
     ensures { Wrote out.old at (w.rule_text b) out.new result }
 {
