@@ -6,7 +6,7 @@ use Prim.Native.Nat.{ℕ, ◌-◌, ◌≤◌, ◌<◌}
 use native.Mathlib.Omega.{arith}
 use borrow.Author.Tests.{lt-ltb, le-ltb, ltb-true, ltb-false, eq-eqb, ne_eqb, eqb-true, eqb-false}
 use lib.Dec.{ltb, eqb}
-use lib.ListN.{length, get_or, take, length-append}
+use lib.ListN.{length, take, length-append}
 use Rattle.rules.specs.Lists.{all, text}
 use Rattle.rules.specs.Digits.{decimal}
 use Rattle.text.specs.Writer.{Wrote}
@@ -37,16 +37,6 @@ of_words e h = rw (lt-ltb e 9 h)
 pub of_rules : (e : ℕ) → 9 ≤ e → why e ≡ rules_why e
 unfolding why
 of_rules e h = rw (le-ltb e 9 h)
-
--- ---- an arm of the code, by its number
-module _ {o n : List ℕ} {a r e : ℕ} (k : ℕ) (q : e ≡ k) where
-  pub a_word : Wrote o a (get_or word_texts k last_word) n r → Wrote o a (words_why e) n r
-  unfolding words_why
-  a_word w = rw q w
-
-  pub a_rule : Wrote o a (get_or rule_texts (k - 9) last_rule) n r → Wrote o a (rules_why e) n r
-  unfolding rules_why
-  a_rule w = rw q w
 
 -- ---- how long they are
 line-short : (n : ℕ) → Word32 n → (b : Bool) → eqb n 0 ≡ b → length (line_place n) ≤ 17

@@ -47,6 +47,7 @@ const LONG_TEXT: u32 = Fault::LongText as u32;
 // From this number on an error is told in the words of `put_rules_why`.
 const FIRST_RULE: u32 = HEADER_ORDER;
 
+#[tactic(auto, using(text::proofs::Chain::nothing), unfolding(crate::specs::Why::line_place))]
 fn put_line(out: &mut [u8], at: usize, line: u32) -> usize
     ensures { Wrote out.old at (w.line_place line) out.new result }
 {
@@ -59,6 +60,7 @@ fn put_line(out: &mut [u8], at: usize, line: u32) -> usize
 }
 
 // Of the lines together and of their words, up to FIRST_RULE.
+#[tactic(auto, unfolding(crate::specs::Why::words_why))]
 fn put_words_why(out: &mut [u8], at: usize, error: u32) -> usize
     ensures { Wrote out.old at (w.words_why error) out.new result }
 {
@@ -80,6 +82,7 @@ fn put_words_why(out: &mut [u8], at: usize, error: u32) -> usize
 }
 
 // Of a table's rules, of the word for a kind, and of the text as a whole.
+#[tactic(auto, unfolding(crate::specs::Why::rules_why))]
 fn put_rules_why(out: &mut [u8], at: usize, error: u32) -> usize
     requires { 9 ≤ error }
     ensures { Wrote out.old at (w.rules_why error) out.new result }
@@ -103,6 +106,7 @@ fn put_rules_why(out: &mut [u8], at: usize, error: u32) -> usize
     }
 }
 
+#[tactic(auto, unfolding(crate::specs::Why::why))]
 fn put_why(out: &mut [u8], at: usize, error: u32) -> usize
     ensures { Wrote out.old at (w.why error) out.new result }
 {
