@@ -41,10 +41,6 @@ module _ {one other : List ℕ} {n at left : ℕ} (C : ComparedTo one other n at
   all_compared h = C.rest ∙ rw (no_codes one at left h, no_codes other at left h)
 
 module _ (a b : List ℕ) where
-  pub other-layout : (layout a ≡ layout b → ⊥) → same_head_lem a b ≡ false
-  unfolding same_head_lem
-  other-layout h = rw (ne_eqb (layout a) (layout b) h)
-
   pub other-count : layout a ≡ layout b → (header_count a ≡ header_count b → ⊥) → same_head_lem a b ≡ false
   unfolding same_head_lem
   other-count e h = rw (eq-eqb (layout a) (layout b) e) (go (same (header a) (header b)) refl)
@@ -56,10 +52,6 @@ module _ (a b : List ℕ) where
           let m = length-codes_at a 4 (header_count a) in
           let n = length-codes_at b 4 (header_count b) in
           absurd (h (sym m ∙ l ∙ n))
-
-  pub same_count : layout a ≡ layout b → header_count a ≡ header_count b → same_head_lem a b ≡ same (codes_at a 4 (header_count a)) (codes_at b 4 (header_count a))
-  unfolding same_head_lem
-  same_count e h = rw (eq-eqb (layout a) (layout b) e, ← h)
 
 -- ---- written
 pub bytes_next : (t : List ℕ) (from left : ℕ) {x : ℕ} → 0 < left → x ≡ u16 t from → codes_bytes (codes_at t from left) ≡ two_bytes_lem x ++ codes_bytes (codes_at t (from + 2) (left - 1))

@@ -6,7 +6,7 @@ use mathlib.Core.Bool.{Bool, true, false, ◌||◌}
 use mathlib.Core.List.{List, [], ◌∷◌}
 use mathlib.Core.Logic.{◌⊎◌, inl, inr}
 use lib.Dec.{ltb, eqb}
-use borrow.Author.Tests.{lt-ltb, le-ltb, ltb-true, ltb-false, eq-eqb, ne_eqb, eqb-true, eqb-false}
+use borrow.Author.Tests.{lt-ltb, ltb-true, ltb-false, eqb-true, eqb-false}
 use Rattle.rules.specs.Lists.{merge, agree}
 use Rattle.rules.proofs.ListLaws.{and_l, and_r}
 use Rattle.joinlaws.proofs.MergeLaws.{or_which, Ascends}
@@ -48,19 +48,6 @@ module _ (m x n y : ℕ) where
       let z : n ≡ 0 → ⊥ = eqb-false n 0 g.0 in
       let l : y ≤ x = ltb-false x y g.1 in
       record { others = more n z; not_less = l }
-
-  -- the code's tests
-  pub alone-none : m ≡ 0 → alone m x n y ≡ false
-  unfolding alone
-  alone-none e = rw (le-ltb 0 m (omega arith))
-
-  pub alone-end : (m ≡ 0 → ⊥) → n ≡ 0 → alone m x n y ≡ true
-  unfolding alone
-  alone-end h e = rw (lt-ltb 0 m (more m h), eq-eqb n 0 e)
-
-  pub alone_test : (m ≡ 0 → ⊥) → (n ≡ 0 → ⊥) → alone m x n y ≡ ltb x y
-  unfolding alone
-  alone_test h g = rw (lt-ltb 0 m (more m h), ne_eqb n 0 g)
 
 -- neither goes on by itself: both do
 pub record Both (m x n y : ℕ) : Type 0 where

@@ -69,6 +69,7 @@ struct Size {
 }
 
 // Of two walks, with so many left and these numbers next, the first goes on by itself: its number is less, or the second is at its end.
+#[tactic(auto, unfolding(crate::specs::Walk::alone))]
 fn alone(left: usize, number: usize, others: usize, other: usize) -> bool
     ensures { result ≡ alone left number others other }
 {
@@ -267,6 +268,7 @@ fn same_codes(one: &[u8], other: &[u8], n: usize) -> bool
     true
 }
 
+#[tactic(auto, unfolding(rules::specs::Join::same_head_lem))]
 pub fn same_head(one: &[u8], other: &[u8]) -> bool
     ensures { result ≡ same_head_lem one.now other.now }
 {
