@@ -5,11 +5,10 @@ use mathlib.Core.Bool.{Bool, true, false, cond, ◌&&◌}
 use mathlib.Core.List.{List, [], ◌++◌}
 use mathlib.Core.Option.{none}
 use Rattle.rules.specs.Lists.{text}
-use Rattle.rules.specs.Answer.{other_head, two_rows}
+use Rattle.rules.specs.Answer.{other_head}
 use Rattle.rules.specs.Bytes.{byte, u16}
 use Rattle.rules.specs.Digits.{hex}
 use Rattle.rules.specs.CodeTable.{codes_at, scopes, well_formed_lem}
-use borrow.Author.Tests.{ne_eqb}
 use Rattle.joinlaws.proofs.TableBytesLaws.{no_codes}
 use Rattle.codetable.proofs.Steps.{codes_next}
 use Rattle.succession.specs.Lacks.{scopes_other}
@@ -47,11 +46,3 @@ other_bad t t' b = go (well_formed_lem t)
 pub why_heads : (n : ℕ) (t t' : List ℕ) → n ≡ other_head → why n t t' ≡ head_line t ++ head_line t'
 unfolding why
 why_heads n t t' e = rw e
-
-pub why-rows : (n : ℕ) (t t' : List ℕ) → n ≡ two_rows → why n t t' ≡ lack_text (as_lack (first_clash t t'))
-unfolding why
-why-rows n t t' e = rw e
-
-pub why-nothing : (n : ℕ) (t t' : List ℕ) → (n ≡ other_head → ⊥) → (n ≡ two_rows → ⊥) → why n t t' ≡ []
-unfolding why
-why-nothing n t t' a b = rw (ne_eqb n other_head a, ne_eqb n two_rows b)

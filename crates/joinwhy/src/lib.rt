@@ -17,6 +17,7 @@ use text::{put_byte, put_hex, put_text};
 
 // ---- two different rows
 // What the other table has for an id.
+#[tactic(auto, unfolding(crate::specs::Why::other_line))]
 fn put_other(out: &mut [u8], at: usize, id: u8, other: Option<Tie>) -> usize
     ensures { Wrote out.old at (w.other_line id other) out.new result }
 {
@@ -27,6 +28,7 @@ fn put_other(out: &mut [u8], at: usize, id: u8, other: Option<Tie>) -> usize
 }
 
 // A scope, the one table's row, and what the other has for its id.
+#[tactic(auto, using(text::proofs::Chain::nothing), unfolding(crate::specs::Why::lack_text))]
 pub fn put_lack(out: &mut [u8], at: usize, lack: Option<Lack>) -> usize
     ensures { Wrote out.old at (w.lack_text lack) out.new result }
 {
@@ -91,6 +93,7 @@ fn put_head(out: &mut [u8], at: usize, table: &[u8]) -> usize
 }
 
 // What is said of two tables where joining them gives the answer `number`.
+#[tactic(auto, using(text::proofs::Chain::nothing), unfolding(crate::specs::Why::why))]
 pub fn put_why(out: &mut [u8], at: usize, number: u32, one: &[u8], other: &[u8]) -> usize
     ensures { Wrote out.old at (w.why number one.now other.now) out.new result }
 {

@@ -1,10 +1,6 @@
-use Rattle.text.proofs.Chain.{nothing, ◌⨟◌}
+use Rattle.text.proofs.Chain.{◌⨟◌}
 use Rattle.joinwhy.specs.Why.{lack_text}
 use Rattle.joinwhy.proofs.put_lack.Goals as goal
-
-pub returns-in_default : goal.returns-in_default
-unfolding lack_text
-returns-in_default c = rw c.in_default.is nothing
 
 pub returns : goal.returns
 unfolding lack_text
