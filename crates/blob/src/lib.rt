@@ -32,6 +32,7 @@ fn spoken_2000(table: &[u8], stream: &[u8], controls: &mut [u32], properties: &m
 }
 
 // Reads a Blob into rows of controls and of properties. A refusal leaves both slices as they were.
+// Kept: rows and their words apart, two slices as C lends them.
 pub fn read_blob(
     table: &[u8],
     stream: &[u8],

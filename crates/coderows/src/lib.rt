@@ -55,7 +55,7 @@ fn seek_scope(table: &[u8], contents: usize, n: usize, wanted: usize) -> Option<
     requires { contents + 5 * n < 2 ^ 32 }
     ensures { Seeks table.now contents n wanted result }
 {
-    // Kept: binary_search takes a slice of what is looked through; these keys stand in bytes.
+    // Kept: binary_search takes a slice of what is looked through; these keys stand in bytes, perhaps past the table's end.
     let mut first = 0;
     let mut scopes = n;
     while 0 < scopes {

@@ -19,6 +19,7 @@ pub const OBJECT_RUN: usize = 10;
 const BELOW_TOP: usize = 255;
 
 // An entry with all below it. `kept` says whether it is reported at the top.
+// Kept: a flag and no Option: the place after the entry is needed either way.
 #[derive(Clone, Copy)]
 struct EntryTally {
     kept: bool,

@@ -74,6 +74,7 @@ pub struct Scanned {
 
 #[derive(Clone, Copy)]
 pub struct Counts {
+    // Kept: both ways of reading have these counts; an enum would be matched once, where the bool is tested.
     pub tree: bool,
     pub own: usize,
     pub controls: usize,

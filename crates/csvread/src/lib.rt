@@ -160,6 +160,7 @@ fn begin() -> Place
 }
 
 // The place after a byte, unless the byte may not stand there.
+// Kept: the bounds are of a turn and not of a Place.
 fn place_after(p: Place, s: Step) -> Option<Place>
     requires bytes_bound { p.bytes < 2 ^ 63 }
     requires fields_bound { p.fields < 2 ^ 63 }

@@ -21,6 +21,7 @@ use text::{label_length, put_byte, put_bytes, put_decimal, put_hex, put_text};
 use values::{put_value, value_bytes};
 
 // Whose property a record tells: the object's, or a control's.
+// Kept: an Option would say that nobody owns the record; the object does.
 #[derive(Clone, Copy)]
 pub enum Owner {
     Object,

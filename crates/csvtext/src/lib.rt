@@ -42,6 +42,7 @@ const PAIRS: u32 = 0x10000;
 const HALF: u32 = 0x400;
 
 // The character that ends with the unit `u`, after the first half `high`, or 0 where none waits.
+// Kept: 0 stands for no first half in rules::specs::Scalars::scalar.
 pub fn scalar(high: u16, u: u16) -> u32
     ensures { result ≡ scalar high u }
 {
@@ -59,6 +60,7 @@ pub fn waiting(u: u16) -> u16
 }
 
 // ---- written
+// Kept: a char is below 110000 hex and no surrogate; utf8_of takes any number below 200000 hex.
 pub fn put_character(out: &mut [u8], at: usize, c: u32) -> usize
     requires { c < 0x200000 }
     ensures { Wrote out.old at (utf8_of c) out.new result }
@@ -263,6 +265,7 @@ pub fn field_left(room: usize, bytes: &[u8]) -> usize
 }
 
 // ---- hex
+// Kept beside `text::put_each`: one function would take a closure that is lent `out`; its clause would be longer than the loop.
 pub fn put_hexes(out: &mut [u8], at: usize, bytes: &[u8]) -> usize
     ensures { Wrote out.old at (hex_text bytes.now) out.new result }
 {

@@ -21,6 +21,7 @@ use walk2000::{Opens, head};
 pub const DIFFERENCE_WIDTH: usize = 10;
 
 // The control row of the object's own properties.
+// Kept: a word of the rows that C lends, handed on as it is.
 const NO_CONTROL: u32 = 0xFFFFFFFF;
 
 // The words of a difference's row.

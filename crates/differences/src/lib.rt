@@ -15,6 +15,7 @@ use succession::succeeds;
 use text::refused;
 
 // The newer table is no successor of the older.
+// Kept: an answer's number, as those of rules::Answer.
 pub const NO_SUCCESSOR: u32 = 19;
 
 fn counted(number: u32, rows: u32, properties: u32) -> Answer

@@ -65,7 +65,6 @@ const LARGE_SAID: usize = BEFORE + LARGE_ROWS * LINE;
 const NAME_WORDS: usize = 4;
 
 // ---- the lines of differences
-// Kept: `print`'s clause tells the lines byte for byte, and no clause tells what a macro prints.
 // So many words from a place on, as far as the slice has them.
 fn part_of(words: &[u32], from: usize, size: usize) -> &[u32]
     ensures { result.now ≡ part words.now from size }
@@ -82,6 +81,7 @@ fn second_word(row: &[u32]) -> u32
 }
 
 // Words in decimal, each after a blank.
+// Kept: `print`'s clause tells the lines byte for byte, and no clause tells what a macro prints.
 fn put_words(out: &mut [u8], at: usize, words: &[u32]) -> usize
     ensures { Wrote out.old at (spaced words.now) out.new result }
 {

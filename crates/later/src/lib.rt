@@ -252,6 +252,7 @@ fn write_tree(
 }
 
 // Writes a stream of 14 bytes or more: the object's properties, then its controls.
+// Kept: `tree` is what count found; two functions would be chosen by the same test.
 fn write_blob(s: &[u8], tree: bool, controls: &mut [u32], properties: &mut [u32])
     requires { BlobReady s.now tree controls.old properties.old }
     ensures { Written (read_later_lem s.now) controls.old properties.old controls.new properties.new }

@@ -120,6 +120,7 @@ fn put_name_byte(out: &mut [u8], at: usize, b: u8) -> usize
     put_hex(out, p, 2, b as u32)
 }
 
+// Kept beside `text::put_each`: one function would take a closure that is lent `out`; its clause would be longer than the loop.
 fn put_name_bytes(out: &mut [u8], at: usize, s: &[u8]) -> usize
     ensures { Wrote out.old at (name_bytes s.now) out.new result }
 {
@@ -179,6 +180,7 @@ fn info_line(
 
 // ---- the lines of rows
 // What the rows are of.
+// Kept: a closure would hold stream, index and letters; its clause would be longer than the match.
 #[derive(Clone, Copy)]
 pub enum Kind {
     Control,

@@ -65,7 +65,7 @@ fn past_blocks(s: &[u8], from: usize) -> usize
     ensures { Leapt s.now from (length s.now) result }
 {
     let mut p = from;
-    // Kept: a block's bytes overlap the next one's by two, which no chunk iterator gives.
+    // Kept: a block overlaps the next by two bytes; of `windows(..).step_by(..)` the place would be counted beside it.
     while BLOCK_BYTES <= s.len() - p {
         if none_in_block(s, p) {
             p = p + BLOCK;
@@ -91,6 +91,7 @@ fn match_before(s: &[u8], from: usize, stop: usize) -> usize
 }
 
 // The first match from `from` on, or the end. A block where a match isn't ruled out is gone through place by place, and so are the last places.
+// Kept: the end stands for no match; the group before it reaches there.
 #[tactic(auto, using(crate::proofs::MatchLaws::match_none))]
 pub fn find_match(s: &[u8], from: usize) -> usize
     requires { from ≤ length s.now }

@@ -16,6 +16,7 @@ use rules::{
 
 // ---- names that are parts of a lent directory
 // The place of `id` in `ids`, by halving, or their number where it has none.
+// Kept: an id that isn't there has the place after the last, as specs/Lookup.antt says; tally::type_place counts all others there.
 pub fn place_in(ids: &[u32], id: u32) -> usize
     requires { T (ascends 0 ids.now) }
     ensures { result ≡ place_in ids.now id }
@@ -34,6 +35,7 @@ fn row_name<'a>(index: &[u32], letters: &'a [u8], row: usize) -> &'a [u8]
     &letters[start..end]
 }
 
+// Kept: a name that isn't there is empty, as in name_in_lem of rules.
 fn nothing_of(letters: &[u8]) -> &[u8]
     ensures { result.now ≡ [] }
 {
@@ -60,6 +62,7 @@ fn name_in<'a>(index: &[u32], letters: &'a [u8], rows: Span, id: u16) -> &'a [u8
 }
 
 // The name of a control type. Whoever looks many up lends the directory once.
+// Kept: README lends the ids and the letters apart.
 pub fn type_name_in<'a>(index: &[u32], letters: &'a [u8], id: u16) -> &'a [u8]
     requires { Lent index.now letters.now }
     ensures { result.now ≡ name_in_lem control_type_names id }

@@ -19,6 +19,7 @@ pub const CONTROL_TYPE: usize = tables::CONTROL_TYPE;
 pub const END: usize = tables::END;
 
 // The ids; then where each name starts, and where the last one ends.
+// Kept: one array of words, as README has callers lend it.
 pub fn index() -> [u32; 2 * END + 1]
     ensures { result ≡ index_of all_names }
 {

@@ -52,6 +52,7 @@ fn header_mark(report: bool) -> u32
     if report { REPORT_HEADER } else { FORM_HEADER }
 }
 
+// Kept: `report` is a Bool in type_code of rules.
 #[tactic(auto, unfolding(rules::specs::Read2000::type_code))]
 pub fn type_code(table: &[u8], report: bool, entry_type: u16) -> u32
     ensures { result ≡ type_code (header table.now) report entry_type }

@@ -73,7 +73,7 @@ pub fn byte_number(s: &[u8], at: usize) -> usize
 }
 
 // The two bytes at a place, a byte past the end being 0. Where both are inside, one test serves them.
-// Kept: tried as `usize::from(u16_at(s, at))`, slower.
+// Kept: tried as `usize::from(u16_at(s, at))`, slower: 1.3 times as long at places at random.
 #[tactic(auto, unfolding(rules::specs::Bytes::u16))]
 pub fn u16_number(s: &[u8], at: usize) -> usize
     requires { at < 2 ^ 60 }

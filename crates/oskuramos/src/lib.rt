@@ -46,6 +46,7 @@ pub struct Value {
 }
 
 // A part of the stream (source 0) or of the label (source 1).
+// Kept: the source is a number, as C reads it.
 #[repr(C)]
 #[derive(Clone, Copy)]
 pub struct Part {

@@ -1,4 +1,5 @@
 // The archive's functions: each hands its arguments on to the function of `oskuramos` with the same name, and says the same.
+// Kept: C needs each name exported by a function of its own, and no crate stands on a static library (docs/DECISIONS.md).
 #![tactic(auto)]
 
 ghost use Rattle.std.specs.Prelude.{◌≡◌};

@@ -187,6 +187,7 @@ pub fn value_as(kind: u8, id: u8, bytes: &[u8]) -> Value
 }
 
 // As stored_value, of at least as many bytes as the id tells: their number isn't tested.
+// Kept beside `stored_value`: the length isn't tested again (docs/SPEED.md).
 #[tactic(auto, using(crate::proofs::Sizes::byte_room, crate::proofs::Sizes::short_room, crate::proofs::Sizes::long_room), unfolding(rules::specs::Value::stored_value_lem, rules::specs::Value::word32, rules::specs::Value::signed))]
 pub fn sized_stored_value(id: u8, bytes: &[u8]) -> Value
     requires { SizedValue id (length bytes.now) }

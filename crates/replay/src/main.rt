@@ -16,6 +16,7 @@ const UNWRITTEN: u32 = 0xDEAD_BEEF;
 const UNTOUCHED: u8 = 0xA5;
 
 // No first byte is this layout byte.
+// Kept: read_later takes any number, as C does.
 const NO_LAYOUT: u32 = 256;
 
 // Which reader a Blob is given to: the one that chooses, or that of one layout.
@@ -42,6 +43,7 @@ enum Kind {
     Unknown,
 }
 
+// Kept: a frame of an unknown kind is read and passed over, so From and no TryFrom.
 impl From<u32> for Kind {
     fn from(number: u32) -> Self {
         match number {

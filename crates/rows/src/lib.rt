@@ -28,6 +28,7 @@ pub const PROPERTY_WIDTH: usize = 6;
 pub const INFO_WIDTH: usize = 5;
 
 // The parent word of a control that has none.
+// Kept: a word of the rows that C lends, handed on as it is.
 pub const NO_PARENT: u32 = 0xFFFFFFFF;
 
 // The types of sections.

@@ -2,6 +2,7 @@
 #![tactic(auto)]
 
 // Document 01's answer number with its three counts.
+// Kept: numbers and no Result: document 01 numbers the answers, C reads them, and 6 and 7 have counts too.
 #[derive(Clone, Copy)]
 pub struct Answer {
     pub number: u32,
@@ -123,6 +124,7 @@ pub const MORE_SCOPES: u32 = 18;
 pub const LONGEST: usize = 16777216;
 
 // ---- marks of a value (specs/Value.antt)
+// Kept: numbers, the words of the rows that C lends.
 pub const MARK_BOOL: u32 = 0;
 
 pub const MARK_NOT_DEFAULT: u32 = 1;
@@ -143,6 +145,7 @@ pub const MARK_BINARY: u32 = 7;
 pub const MARK_LOOSE: u32 = 8;
 
 // ---- marks of a control's name
+// Kept: numbers, as the marks of a value.
 pub const NAME_TEXT: u32 = 0;
 
 pub const NAME_NUMBERED: u32 = 1;
@@ -150,6 +153,7 @@ pub const NAME_NUMBERED: u32 = 1;
 pub const NAME_LOOSE: u32 = 2;
 
 // ---- the code table (specs/CodeTable.antt): kinds of a scope, kinds of a row's value
+// Kept: numbers, the bytes of the code table that is lent.
 pub const SCOPE_FORM: u8 = 0;
 
 pub const SCOPE_REPORT: u8 = 1;

@@ -101,6 +101,7 @@ fn put_unit(out: &mut [u8], at: usize, high: u16, u: u16) -> usize
     put_spelled(out, at, scalar(high, u))
 }
 
+// Kept beside `csvtext::put_doubled`: one function would take a closure that is lent `out`; its clause would be longer than the loop.
 fn put_letters(out: &mut [u8], at: usize, bytes: &[u8]) -> usize
     ensures { Wrote out.old at (letters bytes.now) out.new result }
 {

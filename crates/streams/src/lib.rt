@@ -23,6 +23,7 @@ pub fn read_full(rt: &HostRuntime, buf: &mut [u8]) -> usize
 
 // Writes all of `buf` to standard output and returns true, or stops at the first write that takes nothing or fails and returns
 // false, when some of `buf` may have been written.
+// Kept: a caller could tell no kinds of this failure apart.
 pub fn write_all(rt: &HostRuntime, buf: &[u8]) -> bool {
     let mut output = rt.stdout();
     output.write_all(buf).is_ok()

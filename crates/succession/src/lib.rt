@@ -36,6 +36,7 @@ fn is_held(row: Row, other: Option<Tie>, missing: bool) -> bool
 }
 
 // The first of n rows of a scope for which the other table has another there, or none where that counts.
+// Kept: `missing` is a Bool in rows_other of specs/Lacks.antt.
 fn rows_other(
     one: &[u8],
     start: usize,

@@ -47,6 +47,7 @@ struct Counts {
 }
 
 // The line that is refused, 0 for the text as a whole, and why.
+// Kept: `why_line` takes 0 for the text as a whole.
 #[derive(Clone, Copy, PartialEq, Eq)]
 pub struct Refusal {
     pub fault: Fault,

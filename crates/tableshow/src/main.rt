@@ -28,6 +28,7 @@ fn print(rt: &HostRuntime, table: &[u8], room: usize, shown: &[u8])
     streams::write_all(rt, shown);
 }
 
+// Kept beside tablejoin's `run`: each prints by another definition.
 fn show(rt: &HostRuntime, input: &mut [u8], out: &mut [u8])
     requires { ShowReady input.old out.old }
 {

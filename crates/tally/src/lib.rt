@@ -77,6 +77,7 @@ fn mapping_place(in_2000: bool, id: u32) -> usize
 }
 
 // Counts a property, unmapped or mapped and by its mark.
+// Kept: `in_2000` is a Bool in property_places.
 pub fn count_property(words: &mut [u32], in_2000: bool, p: Property)
     ensures { words.new ≡ bumps words.old (property_places in_2000 p) }
 {

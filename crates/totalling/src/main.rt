@@ -72,6 +72,7 @@ fn put_four(out: &mut [u8], at: usize, n: u32) -> usize
     put_text(out, at, &n.to_le_bytes())
 }
 
+// Kept beside `text::put_each`: one function would take a closure that is lent `out`; its clause would be longer than the loop.
 fn put_numbers(out: &mut [u8], at: usize, numbers: &[u32]) -> usize
     ensures { Wrote out.old at (number_bytes numbers.now) out.new result }
 {
