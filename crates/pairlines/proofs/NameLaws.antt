@@ -1,11 +1,11 @@
 -- A control's name, as it is shown.
-use mathlib.Core.Path.{◌≡◌, refl, sym}
+use mathlib.Core.Path.{◌≡◌, refl, sym, ap, ◌∙◌}
 use mathlib.Core.Bool.{Bool, true, false, cond}
 use mathlib.Core.List.{List, [], ◌∷◌, ◌++◌}
 use Prim.Native.Nat.{ℕ, ◌≤◌, ◌<◌, min}
 use native.Mathlib.Omega.{arith}
 use borrow.Author.Tests.{ne_eqb}
-use lib.ListN.{length, get_or, drop}
+use lib.ListN.{length, get_or}
 use Rattle.rules.specs.Lists.{text}
 use Rattle.rules.specs.Bytes.{part}
 use Rattle.rules.specs.Digits.{decimal, hex}
@@ -42,23 +42,21 @@ few_units [] h = refl
 few_units (a ∷ []) h = refl
 few_units (a ∷ b ∷ l) h = absurd (omega arith)
 
-next_unit : (l : List ℕ) → 2 ≤ length l → units_text l ≡ unit_text (get_or l 0 0) (get_or l 1 0) ++ units_text (drop 2 l)
+next_unit : (u l : List ℕ) → length u ≡ 2 → units_text (u ++ l) ≡ unit_text (get_or u 0 0) (get_or u 1 0) ++ units_text l
 unfolding units_text
-next_unit [] h = absurd (omega arith)
-next_unit (a ∷ []) h = absurd (omega arith)
-next_unit (a ∷ b ∷ l) h = refl
+next_unit [] l h = absurd (omega arith)
+next_unit (a ∷ []) l h = absurd (omega arith)
+next_unit (a ∷ b ∷ []) l h = refl
+next_unit (a ∷ b ∷ c ∷ u) l h = absurd (omega arith)
 
 -- whoever writes what the bytes that are left say has written the whole
 pub record Spelled (s old : List ℕ) (at : ℕ) (new : List ℕ) (p : ℕ) (left : List ℕ) : Type 0 where
   pub rest : (n : List ℕ) (e : ℕ) → Wrote new p (units_text left) n e → Wrote old at (units_text s) n e
 
 module _ {s old : List ℕ} {at : ℕ} where
-  pub spelled_none : Spelled s old at old at s
-  spelled_none = record { rest = λ n e w. w }
-
-  pub spelled_more : {new next left : List ℕ} {p q : ℕ} → Spelled s old at new p left → 2 ≤ length left
-      → Wrote new p (unit_text (get_or left 0 0) (get_or left 1 0)) next q → Spelled s old at next q (drop 2 left)
-  spelled_more {left = left} k l w = record { rest = λ n e v. k.rest n e (wrote_as (w ⨟ v) (sym (next_unit left l))) }
+  pub spelled_more : {new next left l : List ℕ} {p q : ℕ} (u : List ℕ) → Spelled s old at new p left → left ≡ u ++ l → length u ≡ 2
+      → Wrote new p (unit_text (get_or u 0 0) (get_or u 1 0)) next q → Spelled s old at next q l
+  spelled_more {l = l} u k e h w = record { rest = λ n e' v. k.rest n e' (wrote_as (w ⨟ v) (sym (ap units_text e ∙ next_unit u l h))) }
 
   pub spelled_all : {new left : List ℕ} {p : ℕ} → Spelled s old at new p left → length left ≤ 1 → Wrote old at (units_text s) new p
   spelled_all {new} {left} {p} k l = k.rest new p (wrote_as nothing (sym (few_units left l)))

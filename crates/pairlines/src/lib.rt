@@ -60,10 +60,8 @@ fn put_units(out: &mut [u8], at: usize, s: &[u8]) -> usize
     ensures { Wrote out.old at (units_text s.now) out.new result }
 {
     let mut p = at;
-    let mut left = s;
-    while let [low, high, rest @ ..] = left {
-        p = put_unit(out, p, *low, *high);
-        left = rest;
+    for unit in s.chunks_exact(2) {
+        p = put_unit(out, p, unit[0], unit[1]);
     }
     p
 }

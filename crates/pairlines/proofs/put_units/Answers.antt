@@ -1,14 +1,14 @@
 -- The first unit of those left, and where none is.
 use native.Mathlib.Omega.{arith}
-use Rattle.std.proofs.lemmas.List.{take_rest}
-use Rattle.pairlines.proofs.NameLaws.{spelled_none, spelled_more, spelled_all}
+use Rattle.std.proofs.Common.{◌∙◌}
+use Rattle.pairlines.proofs.NameLaws.{spelled_more, spelled_all}
 use Rattle.pairlines.proofs.put_units.Goals as goal
 
-pub loop-left-init : goal.loop-left-init
-loop-left-init c = spelled_none
-
-pub loop-left-preserved : goal.loop-left-preserved
-loop-left-preserved c = rw (take_rest c.loop-left.left.now 2) (spelled_more c.loop-left.invariant c.in-len2-up.len_at_least c.put_unit-p.ensures)
+pub loop-unit-preserved : goal.loop-unit-preserved
+loop-unit-preserved c =
+    let steps = c.in-Some.ensures.steps in
+    let two = c.loop-unit.invariant.1 in
+    (spelled_more c.in-Some.unit.now c.loop-unit.invariant.0 steps.1.0 (steps.1.1 ∙ two) c.put_unit-p.ensures, steps.0 ∙ two)
 
 pub returns : goal.returns
-returns c = spelled_all c.loop-left.invariant (omega (arith, c.in_default.len_below))
+returns c = spelled_all c.loop-unit.invariant.0 (omega (arith, c.in-None.ensures.steps.1.0, c.loop-unit.invariant.1))
