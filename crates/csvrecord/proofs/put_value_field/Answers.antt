@@ -1,4 +1,3 @@
-use borrow.Author.Rules.{rules}
 use native.Mathlib.Omega.{arith}
 use mathlib.Core.Path.{sym, ap, ◌∙◌}
 use mathlib.Core.List.{List}
@@ -7,38 +6,21 @@ use Rattle.rules.specs.Utf8.{utf8}
 use Rattle.rules.specs.Csv.{field_text, hex_text}
 use Rattle.text.proofs.Chain.{wrote_as}
 use Rattle.csvrecord.proofs.RecordLaws.{field-text, field_column, field-hexes}
-use Rattle.csvrecord.proofs.put_value_field.Statement.{statement}
-use Rattle.csvrecord.proofs.put_value_field.Tie as tie
+use Rattle.csvrecord.proofs.put_value_field.Goals as goal
 
-returns : tie.Need-returns-then-v-eq-MARK_TEXT
-returns c =
+pub returns-then-v-eq-MARK_TEXT : goal.returns-then-v-eq-MARK_TEXT
+returns-then-v-eq-MARK_TEXT c =
     let a = c.args in
     wrote_as c.put_field.ensures
     (ap (λ (l : List ℕ). field_text (utf8 l)) c.value_bytes.ensures ∙ sym (field-text a.stream.now a.p (omega arith)))
 
-returns-2 : tie.Need-returns-then-v-lt-MARK_TEXT
-returns-2 c =
+pub returns-then-v-lt-MARK_TEXT : goal.returns-then-v-lt-MARK_TEXT
+returns-then-v-lt-MARK_TEXT c =
     let a = c.args in
     wrote_as c.put_value.ensures (sym (field_column a.stream.now a.p (omega arith)))
 
-returns-3 : tie.Need-returns
-returns-3 c =
+pub returns : goal.returns
+returns c =
     let a = c.args in
     wrote_as c.put_hexes.ensures
     (ap hex_text c.value_bytes-2.ensures ∙ sym (field-hexes a.stream.now a.p (omega arith)))
-
-pub put_value_field_spec : {M : Type 1} → statement M
-put_value_field_spec =
-    tie.close
-    (tie.spec
-    (λ c κs. search rules)
-    (λ c κs. search rules)
-    (λ c. search rules)
-    returns
-    (λ c κs. search rules)
-    (λ c. search rules)
-    returns-2
-    (λ c κs. search rules)
-    (λ c κs. search rules)
-    (λ c. search rules)
-    returns-3)
