@@ -21,9 +21,6 @@ pub record ComparedTo (one other : List ℕ) (n at left : ℕ) : Type 0 where
   pub ends : at + 2 * left ≤ 516
   pub rest : same (codes_at one 4 n) (codes_at other 4 n) ≡ same (codes_at one at left) (codes_at other at left)
 
-pub none_compared : {one other : List ℕ} {n : ℕ} → n < 256 → ComparedTo one other n 4 n
-none_compared h = record { ends = omega arith; rest = refl }
-
 module _ {one other : List ℕ} {n at left : ℕ} (C : ComparedTo one other n at left) where
   module _ {x y : ℕ} (more : 0 < left) (X : x ≡ u16 one at) (Y : y ≡ u16 other at) where
     pub code-differs : (x ≡ y → ⊥) → same (codes_at one 4 n) (codes_at other 4 n) ≡ false

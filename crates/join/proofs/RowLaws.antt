@@ -1,12 +1,10 @@
 -- Turns of a walk through the rows of two scopes, and what the loop keeps that if_agreed them.
-use Prim.Native.Nat.{ℕ, suc, ◌+◌, ◌≤◌, ◌<◌}
+use Prim.Native.Nat.{ℕ, ◌+◌, ◌≤◌, ◌<◌}
 use native.Mathlib.Omega.{arith}
 use mathlib.Core.Path.{◌≡◌, refl, sym, ap, ap₂, ◌∙◌}
 use mathlib.Core.Bool.{Bool, true, false}
 use mathlib.Core.List.{List, []}
-use lib.Dec.{eqb}
 use lib.ListN.{length}
-use borrow.Author.Tests.{eq-eqb, ne_eqb}
 use Rattle.rules.specs.Lists.{merge, agree, all}
 use Rattle.rules.specs.CodeTable.{Tie, id_of, tie_at}
 use Rattle.rules.specs.Join.{join_rows, same_row_lem}
@@ -19,7 +17,6 @@ use Rattle.tablebytes.specs.declared.Row.{Row}
 use Rattle.tablebytes.specs.Rows.{tie_of}
 use Rattle.std.proofs.Common.{Option, Some, None}
 use Rattle.std.proofs.lemmas.Option.{none-some}
-use Rattle.join.specs.declared.RowTurn.{RowTurn}
 use Rattle.join.specs.Walk.{alone, Walks, rows_in_lem, RowsWalk, RowLeft, rows_after, RowsTurn, if_agreed, counted}
 use Rattle.join.proofs.Turns.{Front, Both, alone-more, first-turn, second-turn, both_turn}
 
@@ -38,13 +35,6 @@ some_agreed false n {h} e = absurd (none-some h (sym e))
 pub none_agreed : {A : Type 0} (b : Bool) (n : A) → None ≡ if_agreed b n → b ≡ false
 none_agreed true n e = absurd (none-some n e)
 none_agreed false n e = refl
-
--- ---- two rows
-pub row_apart : (x y : Row) → (x.target ≡ y.target → ⊥) → same_row_lem (tie_of x) (tie_of y) ≡ false
-row_apart x y h = rw (ne_eqb x.target y.target h)
-
-pub row_kinds : (x y : Row) → x.target ≡ y.target → same_row_lem (tie_of x) (tie_of y) ≡ eqb x.kind y.kind
-row_kinds x y e = rw (eq-eqb x.target y.target e)
 
 -- ---- turns
 -- where one is left, it can be taken, and the rows after it can be walked
@@ -120,16 +110,3 @@ module _ {one other : List ℕ} {a₀ b₀ a b : Rows} {rows : ℕ} (C : Counted
       let m = C.many in
       let n : length (join_rows (rows_in_lem one a₀) (rows_in_lem other b₀)) ≡ rows = omega arith in
       ap₂ if_agreed (C.agrees ∙ rows_agreed one a other b h) n
-
-  module _ {r : RowTurn} (T : RowsTurn one a other b r) where
-    pub counted_next : r.agreed ≡ true → CountedTo one a₀ other b₀ r.one r.other (rows + 1)
-    counted_next e =
-        let l : length (join_rows (rows_in_lem one a) (rows_in_lem other b)) ≡ suc (length (join_rows (rows_in_lem one r.one) (rows_in_lem other r.other))) = ap length T.turn.merged in
-        let m = C.many in
-        let g : agree id_of same_row_lem (rows_in_lem one a) (rows_in_lem other b) ≡ agree id_of same_row_lem (rows_in_lem one r.one) (rows_in_lem other r.other) = rw e at T.turn.agreed in
-        record { walks = T.walks; few = C.few; agrees = C.agrees ∙ g; many = omega arith }
-
-    pub counted_clash : r.agreed ≡ false → counted (rows_in_lem one a₀) (rows_in_lem other b₀) ≡ None
-    counted_clash e =
-        let g : agree id_of same_row_lem (rows_in_lem one a) (rows_in_lem other b) ≡ false = rw e at T.turn.agreed in
-        ap (λ (t : Bool). if_agreed t (length (join_rows (rows_in_lem one a₀) (rows_in_lem other b₀)))) (C.agrees ∙ g)
