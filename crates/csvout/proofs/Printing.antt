@@ -1,5 +1,6 @@
 -- What is printed is what is said of all that standard input had.
 use Prim.Native.Nat.{ℕ, ◌+◌, ◌-◌, ◌*◌, ◌≤◌, ◌<◌}
+use native.Mathlib.Nat.{min-eq_left}
 use native.Mathlib.Omega.{arith}
 use mathlib.Core.Path.{◌≡◌, refl, sym, ap, ◌∙◌}
 use mathlib.Core.Bool.{Bool, true, false}
@@ -22,7 +23,6 @@ use Rattle.listing.proofs.Printed.{Stated, outcome_stated}
 use Rattle.inputs.specs.Begun.{Begun}
 use Rattle.inputs.proofs.Came.{all_read, more_came}
 use Rattle.csvwrite.specs.Sheet.{csv_left}
-use Rattle.csvwrite.proofs.ExitLaws.{all-is}
 use Rattle.csvout.specs.Sheets.{control_room, property_room, text_room, longest_blob, longest_input, sheet_by, sheet_in, sheet_for, Refused, text_size, Parted}
 
 -- ---- refusals
@@ -62,8 +62,12 @@ refusal-printed {number = n} w h f refuses input b =
     append-nil _ ∙ held w (omega (arith, answer-short (refusal n) f (omega arith) (omega arith) (omega arith))) ∙ sym (refuses input b)
 
 -- ---- the text
+countable_is : (n : ℕ) → n < 0xFFFFFFFF → countable n ≡ n
+unfolding countable
+countable_is n h = min-eq_left (omega arith)
+
 room-is : (out : List ℕ) → length out ≡ text_room → countable (length out) ≡ text_room
-room-is out h = ap countable h ∙ sym (all-is text_room (omega arith))
+room-is out h = ap countable h ∙ countable_is text_room (omega arith)
 
 module _ (s cs ps out : List ℕ) (o_is : length out ≡ text_room) {a : Answer} {x y z : List ℕ} where
   fits_by : (r : Reading) (b : Bool) → ltb text_room (length (csv_of s r)) ≡ b → csv_left a x y z ≡ csv_by s (read r) cs ps out
