@@ -29,11 +29,14 @@ pub fn u16_at(s: &[u8], at: usize) -> u16
     }
 }
 
-// The upper half is 0 where its place is past the last that there is.
+// Where all four are inside, one test serves them. The upper half is 0 where its place is past the last that there is.
 #[tactic(auto, using(crate::proofs::Past::no_u16), unfolding(rules::specs::Bytes::u32))]
 pub fn u32_at(s: &[u8], at: usize) -> u32
     ensures { result ≡ u32 s.now at }
 {
+    if 3 < s.len() && at < s.len() - 3 {
+        return u32_inside(s, at);
+    }
     let low = u32::from(u16_at(s, at));
     match at.checked_add(2) {
         Some(next) => low + 65536 * u32::from(u16_at(s, next)),
