@@ -191,6 +191,7 @@ pub fn seek_row(table: &[u8], start: usize, n: usize, wanted: usize) -> Sought
 }
 
 // What the row `near` of n rows tells of an id, if it does: it ties it, or it is above and the one before it below.
+// None says that it tells nothing, Some(None) that no row ties the id.
 pub fn row_near(
     table: &[u8],
     start: usize,
