@@ -1,40 +1,33 @@
 -- Names that a NUL or the end of the stream ends.
 use Prim.Native.Nat.{ℕ, ◌+◌, ◌-◌, ◌≤◌, ◌<◌, min}
 use native.Mathlib.Omega.{arith}
-use mathlib.Core.Path.{◌≡◌, refl, sym, ap, ◌∙◌}
-use Rattle.std.specs.List.{position, position_or_len}
-use Rattle.std.specs.Prelude.{Option, Some, None}
-use mathlib.Core.Bool.{Bool, true, false, cond, not}
-use Rattle.std.proofs.lemmas.List.Sums.{prefix_len-le-length}
-use lib.Dec.{eqb, ltb}
-use borrow.Author.Tests.{ltb-false}
-use Rattle.std.proofs.lemmas.List.Recursion.{is_position_or_len}
-use mathlib.Core.List.{List}
-use lib.ListN.{length, drop}
+use native.Mathlib.Numerals.{add-one}
+use mathlib.Core.Path.{◌≡◌, refl, sym, ◌∙◌}
+use mathlib.Core.List.{List, [], ◌∷◌}
+use lib.ListN.{length, get_or, drop, length-drop}
+use lib.Seq.{drop-cons}
+use borrow.Author.Tests.{eq-eqb, ne_eqb}
 use Rattle.rules.specs.TypeInfo.{before_nul, nul_terminated}
 use Rattle.rules.proofs.TypeInfoLaws.{name-within, next-within, at_nul, at-end}
 use Rattle.typeinfo.specs.Entries.{as_named}
 use Rattle.typeinfo.specs.declared.Named.{Named}
 
--- ---- the bytes before a NUL are those before the first place that holds one
-pub before_nul_is : (l : List ℕ) → before_nul l ≡ position_or_len (λ x. eqb x 0) l
+-- ---- the bytes before a NUL, one at a time
+pub nul_here : (s : List ℕ) (i : ℕ) → i < length s → get_or s i 0 ≡ 0 → before_nul (drop i s) ≡ 0
 unfolding before_nul
-before_nul_is = is_position_or_len before_nul (λ x. eqb x 0) refl (λ x xs. ap (λ n. cond (eqb x 0) 0 n) (omega arith))
+nul_here s i h e = rw (drop-cons s i 0 h, eq-eqb (get_or s i 0) 0 e)
 
--- what a search for one finds
-pub found : (l : List ℕ) (r : Option ℕ) (n : ℕ) → r ≡ position (λ x. eqb x 0) l → r ≡ Some n → n ≡ before_nul l
-found l r n e f = go (ltb (position_or_len (λ x. eqb x 0) l) (length l)) (sym e ∙ f) ∙ sym (before_nul_is l)
-  where
-    go : (b : Bool) → cond b (Some (position_or_len (λ x. eqb x 0) l)) None ≡ Some n → n ≡ position_or_len (λ x. eqb x 0) l
-    go true h = cc
-    go false h = cc
+pub nul_next : (s : List ℕ) (i : ℕ) → i < length s → (get_or s i 0 ≡ 0 → ⊥) → before_nul (drop i s) ≡ before_nul (drop (i + 1) s) + 1
+unfolding before_nul
+nul_next s i h e = rw (drop-cons s i 0 h, ne_eqb (get_or s i 0) 0 e, add-one i)
 
-pub not_found : (l : List ℕ) (r : Option ℕ) → r ≡ position (λ x. eqb x 0) l → r ≡ None → before_nul l ≡ length l
-not_found l r e f = before_nul_is l ∙ go (ltb (position_or_len (λ x. eqb x 0) l) (length l)) refl (sym e ∙ f)
-  where
-    go : (b : Bool) → ltb (position_or_len (λ x. eqb x 0) l) (length l) ≡ b → cond b (Some (position_or_len (λ x. eqb x 0) l)) None ≡ None → position_or_len (λ x. eqb x 0) l ≡ length l
-    go true q h = cc
-    go false q h = omega (arith, ltb-false (position_or_len (λ x. eqb x 0) l) (length l) q, prefix_len-le-length (λ x. not (eqb x 0)) l)
+no_nul : (l : List ℕ) → length l ≡ 0 → before_nul l ≡ 0
+unfolding before_nul
+no_nul [] e = refl
+no_nul (b ∷ l) e = absurd (omega arith)
+
+pub nul_end : (s : List ℕ) (i : ℕ) → length s ≤ i → before_nul (drop i s) ≡ 0
+nul_end s i h = no_nul (drop i s) (length-drop i s ∙ omega arith)
 
 -- ---- the name at p, where its bytes end at e
 pub next_of : (s : List ℕ) (p : ℕ) (n : Named) → n ≡ as_named (nul_terminated s p) → n.next ≤ length s

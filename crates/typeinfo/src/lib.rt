@@ -1,7 +1,7 @@
 // The TypeInfo reader: entries are counted first, then written as rows. Names stay bytes of the stream.
 #![tactic(auto)]
 
-ghost use Rattle.std.specs.Prelude.{◌≡◌, map, ◌+◌, ◌≤◌, ◌<◌, ◌^◌, length, drop, position, nat_eq, MatchOption};
+ghost use Rattle.std.specs.Prelude.{◌≡◌, map, ◌+◌, ◌≤◌, ◌<◌, ◌^◌, length, drop, MatchOption};
 ghost use Rattle.rules.specs.Answer.{answer};
 ghost use Rattle.rules.specs.Rows.{type_info_width};
 ghost use Rattle.rules.specs.TypeInfo.{before_nul, nul_terminated, info_at, next_info, type_info_row, type_info_exit};
@@ -88,21 +88,17 @@ impl Refusal {
     }
 }
 
-fn first_nul(s: &[u8]) -> Option<usize>
-    ensures { result ≡ position (λ b. nat_eq b 0) s.now }
-{
-    s.iter().position(|b| *b == 0)
-}
-
 // The first place from `start` on that holds a NUL, or the end.
 fn nul_from(s: &[u8], start: usize) -> usize
     requires { start ≤ length s.now }
     ensures { result ≡ start + before_nul (drop start s.now) }
 {
-    match first_nul(&s[start..]) {
-        Some(size) => start + size,
-        None => s.len(),
+    for i in start..s.len() {
+        if s[i] == 0 {
+            return i;
+        }
     }
+    s.len()
 }
 
 fn nul_terminated(s: &[u8], start: usize) -> Named

@@ -1,18 +1,13 @@
--- What the search for a NUL finds from `start` on.
-use Rattle.std.proofs.Common.{arith, ◌∙◌, ap, eqb, drop, length-drop}
-use Rattle.std.specs.List.{position}
-use Rattle.std.proofs.lemmas.List.{take_rest}
-use Rattle.typeinfo.proofs.NulLaws.{found, not_found}
+-- A NUL at `i` ends the search, another byte goes on, and so does the end.
+use Rattle.std.proofs.Common.{arith}
+use Rattle.typeinfo.proofs.NulLaws.{nul_here, nul_next, nul_end}
 use Rattle.typeinfo.proofs.nul_from.Goals as goal
 
-pub returns-in-Some : goal.returns-in-Some
-returns-in-Some c =
-    let s = c.args.s.now in
-    let e = c.first_nul.ensures ∙ ap (position (λ b. eqb b 0)) (take_rest s c.args.start) in
-    omega (arith, found (drop c.args.start s) c.first_nul.result c.in-Some.size e c.in-Some.is)
+pub returns-then-s-i-eq0 : goal.returns-then-s-i-eq0
+returns-then-s-i-eq0 c = omega (arith, nul_here c.args.s.now c.loop-i.i c.loop-i-test.true c.if-s-i-eq0.true, c.loop-i.invariant)
 
-pub returns-in-None : goal.returns-in-None
-returns-in-None c =
-    let s = c.args.s.now in
-    let e = c.first_nul.ensures ∙ ap (position (λ b. eqb b 0)) (take_rest s c.args.start) in
-    omega (arith, not_found (drop c.args.start s) c.first_nul.result e c.in-None.is, length-drop c.args.start s)
+pub loop-i-preserved : goal.loop-i-preserved
+loop-i-preserved c = omega (arith, nul_next c.args.s.now c.loop-i.i c.loop-i-test.true c.if-s-i-eq0.false, c.loop-i.invariant)
+
+pub returns : goal.returns
+returns c = omega (arith, nul_end c.args.s.now c.loop-i.i (omega arith), c.loop-i.invariant, c.loop-i.auto.i-end c.requires)
