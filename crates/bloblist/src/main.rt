@@ -77,10 +77,11 @@ fn list_small(rt: &HostRuntime, input: &[u8])
 }
 
 // A longer input than is read is refused.
-fn list_large(rt: &HostRuntime, input: &[u8])
-    requires { length input.now ≤ longest_input }
+fn list_large(rt: &HostRuntime, input: &[u8], room: usize)
+    requires fits { length input.now ≤ room }
+    requires most { room ≡ longest_input }
 {
-    if inputs::has_more(rt, input.len(), LONGEST) {
+    if inputs::has_more(rt, input.len(), room) {
         return refuse(rt, input);
     }
     let mut controls = filled::<u32, CONTROLS>(0);
@@ -93,6 +94,6 @@ fn main(rt: HostRuntime) {
     by_length::<SHORT, LONGEST, _, _>(
         &rt,
         |input| list_small(&rt, input),
-        |input| list_large(&rt, input),
+        |input, room| list_large(&rt, input, room),
     );
 }

@@ -93,10 +93,11 @@ fn put(rt: &HostRuntime, input: &[u8])
 }
 
 // A longer input than is read is refused.
-fn put_large(rt: &HostRuntime, input: &[u8])
-    requires { length input.now ≤ longest_input }
+fn put_large(rt: &HostRuntime, input: &[u8], room: usize)
+    requires fits { length input.now ≤ room }
+    requires most { room ≡ longest_input }
 {
-    if inputs::has_more(rt, input.len(), LONGEST) {
+    if inputs::has_more(rt, input.len(), room) {
         return refuse(rt, input, true, TOO_LONG);
     }
     put(rt, input);
@@ -106,6 +107,6 @@ fn main(rt: HostRuntime) {
     by_length::<SHORT, LONGEST, _, _>(
         &rt,
         |input| refuse_few(&rt, input),
-        |input| put_large(&rt, input),
+        |input, room| put_large(&rt, input, room),
     );
 }

@@ -223,8 +223,11 @@ fn list_small(rt: &HostRuntime, input: &[u8])
     );
 }
 
-fn list_large(rt: &HostRuntime, input: &[u8])
-    requires { (16384 ≤ length input.now) × (length input.now ≤ most_read) }
+// `room` is how much was read at most: only by it is it known that nothing is left out.
+fn list_large(rt: &HostRuntime, input: &[u8], room: usize)
+    requires long { 16384 ≤ length input.now }
+    requires fits { length input.now ≤ room }
+    requires most { room ≡ most_read }
 {
     let mut rows = filled::<u32, LARGE_ROW_WORDS>(0);
     let mut controls = filled::<u32, LARGE_CONTROL_WORDS>(0);
@@ -244,6 +247,6 @@ fn main(rt: HostRuntime) {
     by_length::<SHORT, SPACE, _, _>(
         &rt,
         |input| list_small(&rt, input),
-        |input| list_large(&rt, input),
+        |input, room| list_large(&rt, input, room),
     );
 }

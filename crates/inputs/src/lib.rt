@@ -33,8 +33,8 @@ pub fn filled<T: Copy, const N: usize>(v: T) -> [T; N]
     [v; N]
 }
 
-// Hands standard input on: to `short` where it has fewer than `SHORT` bytes, and otherwise, as far as `LONG` bytes go, to `long`.
-pub fn by_length<const SHORT: usize, const LONG: usize, S: FnOnce(&[u8]), L: FnOnce(&[u8])>(
+// Hands standard input on: to `short` where it has fewer than `SHORT` bytes, and otherwise, as far as `LONG` bytes go, to `long`, which is told this room.
+pub fn by_length<const SHORT: usize, const LONG: usize, S: FnOnce(&[u8]), L: FnOnce(&[u8], usize)>(
     rt: &HostRuntime,
     short: S,
     long: L,
@@ -42,7 +42,7 @@ pub fn by_length<const SHORT: usize, const LONG: usize, S: FnOnce(&[u8]), L: FnO
     requires order { SHORT ≤ LONG }
     requires in_memory { LONG < 2 ^ 63 }
     requires short { (input : _) → length input.now < SHORT → S.pre short input }
-    requires long { (input : _) → SHORT ≤ length input.now → length input.now ≤ LONG → L.pre long input }
+    requires long { (input : _) → SHORT ≤ length input.now → length input.now ≤ LONG → L.pre long input LONG }
 {
     let mut head = [0; SHORT];
     let size = streams::read_full(rt, &mut head);
@@ -53,15 +53,15 @@ pub fn by_length<const SHORT: usize, const LONG: usize, S: FnOnce(&[u8]), L: FnO
     }
 }
 
-// Hands on the bytes that were read with those that standard input has yet, as far as `N` go.
+// Hands on the bytes that were read with those that standard input has yet, as far as `N` go, and tells this room.
 // It is compiled apart from its caller, so that no shorter input needs the stack of `hand_on`.
 #[inline(never)]
-fn with_rest<const N: usize, F: FnOnce(&[u8])>(rt: &HostRuntime, read: &[u8], hand_on: F)
+fn with_rest<const N: usize, F: FnOnce(&[u8], usize)>(rt: &HostRuntime, read: &[u8], hand_on: F)
     requires fits { length read.now ≤ N }
     requires in_memory { N < 2 ^ 63 }
-    requires callable { (input : _) → length read.now ≤ length input.now → length input.now ≤ N → F.pre hand_on input }
+    requires callable { (input : _) → length read.now ≤ length input.now → length input.now ≤ N → F.pre hand_on input N }
 {
     let mut space = [0; N];
     let size = fill(rt, &mut space, read);
-    hand_on(&space[..size]);
+    hand_on(&space[..size], N);
 }

@@ -104,8 +104,11 @@ fn judge_small(rt: &HostRuntime, input: &[u8])
     judge(rt, input, &mut controls, &mut properties);
 }
 
-fn judge_large(rt: &HostRuntime, input: &[u8])
-    requires { (16384 ≤ length input.now) × (length input.now ≤ most_read) }
+// `room` is how much was read at most: only by it is it known that nothing is left out.
+fn judge_large(rt: &HostRuntime, input: &[u8], room: usize)
+    requires long { 16384 ≤ length input.now }
+    requires fits { length input.now ≤ room }
+    requires most { room ≡ most_read }
 {
     let mut controls = filled::<u32, CONTROLS>(0);
     let mut properties = filled::<u32, PROPERTIES>(0);
@@ -116,6 +119,6 @@ fn main(rt: HostRuntime) {
     by_length::<SHORT, SPACE, _, _>(
         &rt,
         |input| judge_small(&rt, input),
-        |input| judge_large(&rt, input),
+        |input, room| judge_large(&rt, input, room),
     );
 }

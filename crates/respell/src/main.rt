@@ -48,10 +48,11 @@ fn respell_small(rt: &HostRuntime, input: &[u8])
 }
 
 // A longer stream than is read is refused.
-fn respell_large(rt: &HostRuntime, input: &[u8])
-    requires { length input.now ≤ longest }
+fn respell_large(rt: &HostRuntime, input: &[u8], room: usize)
+    requires fits { length input.now ≤ room }
+    requires most { room ≡ longest }
 {
-    if inputs::has_more(rt, input.len(), LONGEST) {
+    if inputs::has_more(rt, input.len(), room) {
         return refuse(rt, input);
     }
     let mut out = inputs::filled::<u8, LONGEST>(0);
@@ -62,6 +63,6 @@ fn main(rt: HostRuntime) {
     inputs::by_length::<SHORT, LONGEST, _, _>(
         &rt,
         |input| respell_small(&rt, input),
-        |input| respell_large(&rt, input),
+        |input, room| respell_large(&rt, input, room),
     );
 }

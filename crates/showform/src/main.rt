@@ -169,8 +169,11 @@ fn show_small(rt: &HostRuntime, input: &[u8])
     show_short(rt, input);
 }
 
-fn show_large(rt: &HostRuntime, input: &[u8])
-    requires { (16384 ≤ length input.now) × (length input.now ≤ most_read) }
+// `room` is how much was read at most: only by it is it known that nothing is left out.
+fn show_large(rt: &HostRuntime, input: &[u8], room: usize)
+    requires long { 16384 ≤ length input.now }
+    requires fits { length input.now ≤ room }
+    requires most { room ≡ most_read }
 {
     let mut infos = filled::<u32, LARGE_INFOS>(0);
     let mut controls = filled::<u32, LARGE_CONTROLS>(0);
@@ -182,6 +185,6 @@ fn main(rt: HostRuntime) {
     by_length::<SHORT, SPACE, _, _>(
         &rt,
         |input| show_small(&rt, input),
-        |input| show_large(&rt, input),
+        |input, room| show_large(&rt, input, room),
     );
 }

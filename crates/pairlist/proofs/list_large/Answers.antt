@@ -6,4 +6,4 @@ use Rattle.pairlist.proofs.list_large.Goals as goal
 
 pub list-requires : goal.list-requires
 list-requires c =
-    large_roomy c.requires (sym c.filled-infos.ensures.size) (sym c.filled-controls.ensures.size) (sym c.filled-properties.ensures.size) (omega (arith, c.filled-out.ensures.size))
+    large_roomy (omega (arith, c.requires.fits, c.requires.most)) (sym c.filled-infos.ensures.size) (sym c.filled-controls.ensures.size) (sym c.filled-properties.ensures.size) (omega (arith, c.filled-out.ensures.size))
