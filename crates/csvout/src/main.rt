@@ -59,6 +59,8 @@ fn text_size(number: u32, first: usize) -> usize
     if number == READ { first } else { 0 }
 }
 
+// It is compiled apart from its caller, so that a refused input does not need the stack of its rows and its text.
+#[inline(never)]
 fn put_sheet(rt: &HostRuntime, input: &[u8], table: &[u8], stream: &[u8])
     requires { Parted input.now table.now stream.now }
 {
