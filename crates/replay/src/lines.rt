@@ -1,43 +1,9 @@
-// The lines that are printed.
+// The lines that are printed. One is put into a lent buffer from its start on, and then written in one go.
 ghost use Rattle.std.specs.Prelude.{◌≡◌, ◌<◌, take, drop};
 
 use rows::{CONTROL_WIDTH, INFO_WIDTH, PROPERTY_WIDTH};
 use rules::Answer;
-use std::fmt;
-use std::fmt::Display;
-
-// A letter, and each word in decimal after a blank.
-#[derive(Clone, Copy)]
-struct Words<'a> {
-    letter: char,
-    words: &'a [u32],
-}
-
-impl Display for Words<'_> {
-    fn fmt<W: fmt::Write>(&self, f: &mut fmt::Formatter<W>) -> fmt::Result {
-        write!(f, "{}", self.letter)?;
-        for word in self.words {
-            write!(f, " {word}")?;
-        }
-        Ok(())
-    }
-}
-
-// The B line: each byte in hex after a blank.
-#[derive(Clone, Copy)]
-struct Bytes<'a> {
-    bytes: &'a [u8],
-}
-
-impl Display for Bytes<'_> {
-    fn fmt<W: fmt::Write>(&self, f: &mut fmt::Formatter<W>) -> fmt::Result {
-        write!(f, "B")?;
-        for byte in self.bytes {
-            write!(f, " {byte:02X}")?;
-        }
-        Ok(())
-    }
-}
+use text::{put_byte, put_decimal, put_hex};
 
 // Rows of one kind.
 #[derive(Clone, Copy)]
@@ -48,11 +14,11 @@ pub enum Rows {
 }
 
 impl Rows {
-    fn letter(self) -> char {
+    fn letter(self) -> u8 {
         match self {
-            Rows::Controls => 'C',
-            Rows::Properties => 'P',
-            Rows::Infos => 'T',
+            Rows::Controls => b'C',
+            Rows::Properties => b'P',
+            Rows::Infos => b'T',
         }
     }
 
@@ -81,41 +47,47 @@ pub fn behind(s: &[u8], start: usize) -> &[u8]
     &s[start.min(s.len())..]
 }
 
-// A line that can't be written is let go.
-fn print_line<D: Display + Drop>(rt: &HostRuntime, line: D) {
-    let _ = rt.println(line);
+fn end_line(rt: &HostRuntime, out: &mut [u8], at: usize) {
+    let n = put_byte(out, at, b'\n');
+    streams::write_all(rt, front(out, n));
 }
 
-pub fn print_answer(rt: &HostRuntime, a: Answer) {
+// A letter, and each word in decimal after a blank.
+// Kept: by Display, and println's buffer of 1,024 bytes, a list of rows or bytes takes up to twice as long.
+fn print_words(rt: &HostRuntime, letter: u8, words: &[u32], out: &mut [u8]) {
+    let mut p = put_byte(out, 0, letter);
+    for word in words {
+        let o = put_byte(out, p, b' ');
+        p = put_decimal(out, o, *word);
+    }
+    end_line(rt, out, p);
+}
+
+pub fn print_answer(rt: &HostRuntime, a: Answer, out: &mut [u8]) {
     let words = [a.number, a.first, a.second, a.third];
-    print_line(
-        rt,
-        Words {
-            letter: 'A',
-            words: &words,
-        },
-    );
+    print_words(rt, b'A', &words, out);
 }
 
 // The first `count` rows; no more than there are.
-pub fn print_rows(rt: &HostRuntime, of: Rows, rows: &[u32], count: u32) {
+pub fn print_rows(rt: &HostRuntime, of: Rows, rows: &[u32], count: u32, out: &mut [u8]) {
     for words in rows.chunks_exact(of.width()).take(count as usize) {
-        print_line(
-            rt,
-            Words {
-                letter: of.letter(),
-                words,
-            },
-        );
+        print_words(rt, of.letter(), words, out);
     }
 }
 
-pub fn print_bytes(rt: &HostRuntime, bytes: &[u8]) {
-    print_line(rt, Bytes { bytes });
+// The B line: each byte in hex after a blank.
+pub fn print_bytes(rt: &HostRuntime, bytes: &[u8], out: &mut [u8]) {
+    let mut p = put_byte(out, 0, b'B');
+    for byte in bytes {
+        let o = put_byte(out, p, b' ');
+        p = put_hex(out, o, 2, u32::from(*byte));
+    }
+    end_line(rt, out, p);
 }
 
 // The K line: how many bytes hold `old`, up to the first that doesn't.
-pub fn print_kept(rt: &HostRuntime, bytes: &[u8], old: u8) {
+pub fn print_kept(rt: &HostRuntime, bytes: &[u8], old: u8, out: &mut [u8]) {
     let kept = bytes.iter().position(|b| *b != old).unwrap_or(bytes.len());
-    print_line(rt, format_args!("K {kept}"));
+    let words = [u32::try_from(kept).unwrap_or(u32::MAX)];
+    print_words(rt, b'K', &words, out);
 }

@@ -119,64 +119,81 @@ fn read_by(
     }
 }
 
-fn replay_blob(rt: &HostRuntime, reader: Reader, codes: &[u8], bytes: &[u8], lent: u32, more: u32) {
+fn replay_blob(
+    rt: &HostRuntime,
+    reader: Reader,
+    codes: &[u8],
+    bytes: &[u8],
+    lent: u32,
+    more: u32,
+    out: &mut [u8],
+) {
     let mut space = [UNWRITTEN; 256 * CONTROL_WIDTH];
     let mut room = [UNWRITTEN; 1024 * PROPERTY_WIDTH];
     let controls = front_mut(&mut space, lent as usize);
     let properties = front_mut(&mut room, more as usize);
     let answer = read_by(reader, codes, bytes, controls, properties);
-    print_answer(rt, answer);
+    print_answer(rt, answer, out);
     if answer.number == 0 {
-        print_rows(rt, Rows::Controls, controls, answer.first);
-        print_rows(rt, Rows::Properties, properties, answer.second);
+        print_rows(rt, Rows::Controls, controls, answer.first, out);
+        print_rows(rt, Rows::Properties, properties, answer.second, out);
     }
 }
 
-fn replay_type_info(rt: &HostRuntime, stream: &[u8], lent: u32) {
+fn replay_type_info(rt: &HostRuntime, stream: &[u8], lent: u32, out: &mut [u8]) {
     let mut space = [UNWRITTEN; 256 * INFO_WIDTH];
     let rows = front_mut(&mut space, lent as usize);
     let answer = typeinfo::read_type_info(stream, rows);
-    print_answer(rt, answer);
+    print_answer(rt, answer, out);
     if answer.number == 0 {
-        print_rows(rt, Rows::Infos, rows, answer.first);
+        print_rows(rt, Rows::Infos, rows, answer.first, out);
     }
 }
 
 // What `write` puts into so much room, which is at most 64 bytes.
-fn replay_text<F: FnOnce(&mut [u8]) -> Answer>(rt: &HostRuntime, lent: u32, write: F)
+fn replay_text<F: FnOnce(&mut [u8]) -> Answer>(
+    rt: &HostRuntime,
+    lent: u32,
+    out: &mut [u8],
+    write: F,
+)
     requires { F.IsAlwaysCallable write }
 {
     let mut space = [0u8; 64];
     let room = front_mut(&mut space, lent as usize);
     let answer = write(room);
-    print_answer(rt, answer);
-    print_bytes(rt, front(room, answer.first as usize));
+    print_answer(rt, answer, out);
+    print_bytes(rt, front(room, answer.first as usize), out);
 }
 
 // The bytes are the start and the length of the part, the label and the stream.
-fn replay_name_part(rt: &HostRuntime, bytes: &[u8], mark: u32, size: u32) {
+fn replay_name_part(rt: &HostRuntime, bytes: &[u8], mark: u32, size: u32, out: &mut [u8]) {
     let start = u32_at(bytes, 0);
     let length = u32_at(bytes, 4);
     let rest = behind(bytes, 8);
     let label = front(rest, size as usize);
     let stream = behind(rest, size as usize);
-    print_bytes(rt, blob::control_name(stream, label, mark, start, length));
+    print_bytes(
+        rt,
+        blob::control_name(stream, label, mark, start, length),
+        out,
+    );
 }
 
 // The bytes are the first table and the other.
-fn replay_join(rt: &HostRuntime, bytes: &[u8], lent: u32, size: u32) {
+fn replay_join(rt: &HostRuntime, bytes: &[u8], lent: u32, size: u32, out: &mut [u8]) {
     let mut space = [UNTOUCHED; 32768];
     let room = front_mut(&mut space, lent as usize);
     let one = front(bytes, size as usize);
     let other = behind(bytes, size as usize);
     let answer = join::join(one, other, room);
-    print_answer(rt, answer);
-    print_bytes(rt, front(room, answer.first as usize));
-    print_kept(rt, behind(room, answer.first as usize), UNTOUCHED);
+    print_answer(rt, answer, out);
+    print_bytes(rt, front(room, answer.first as usize), out);
+    print_kept(rt, behind(room, answer.first as usize), UNTOUCHED, out);
 }
 
 // The bytes are TypeInfo, of `size` bytes, and a Blob, which is read as a later one. A reading that is refused is all that is printed.
-fn replay_pair(rt: &HostRuntime, bytes: &[u8], size: u32) {
+fn replay_pair(rt: &HostRuntime, bytes: &[u8], size: u32, out: &mut [u8]) {
     let mut infos = [UNWRITTEN; 256 * INFO_WIDTH];
     let mut controls = [UNWRITTEN; 256 * CONTROL_WIDTH];
     let mut properties = [UNWRITTEN; 1024 * PROPERTY_WIDTH];
@@ -184,11 +201,11 @@ fn replay_pair(rt: &HostRuntime, bytes: &[u8], size: u32) {
     let stream = behind(bytes, size as usize);
     let info = typeinfo::read_type_info(info_stream, &mut infos);
     if info.number != 0 {
-        return print_answer(rt, info);
+        return print_answer(rt, info, out);
     }
     let read = blob::read_later(NO_LAYOUT, stream, &mut controls, &mut properties);
     if read.number != 0 {
-        return print_answer(rt, read);
+        return print_answer(rt, read, out);
     }
     let answer = pairing::pair(
         stream,
@@ -198,27 +215,32 @@ fn replay_pair(rt: &HostRuntime, bytes: &[u8], size: u32) {
         &infos,
         info.first,
     );
-    print_answer(rt, answer);
-    print_rows(rt, Rows::Controls, &controls, read.first);
+    print_answer(rt, answer, out);
+    print_rows(rt, Rows::Controls, &controls, read.first, out);
 }
 
-fn print_name<F: FnOnce(u16, &mut [u8]) -> Answer>(rt: &HostRuntime, id: u16, name: F)
+fn print_name<F: FnOnce(u16, &mut [u8]) -> Answer>(
+    rt: &HostRuntime,
+    id: u16,
+    out: &mut [u8],
+    name: F,
+)
     requires { F.IsAlwaysCallable name }
 {
     let mut room = [0u8; 256];
     let answer = name(id, &mut room);
-    print_bytes(rt, front(&room, answer.first as usize));
+    print_bytes(rt, front(&room, answer.first as usize), out);
 }
 
 // No table has an id of more than 16 bits.
-fn replay_names(rt: &HostRuntime, id: u32) {
+fn replay_names(rt: &HostRuntime, id: u32, out: &mut [u8]) {
     let Ok(id) = u16::try_from(id) else {
         return;
     };
-    print_name(rt, id, |id, room| names::text_name(id, room));
-    print_name(rt, id, |id, room| names::number_name(id, room));
-    print_name(rt, id, |id, room| names::bytes_name(id, room));
-    print_name(rt, id, |id, room| names::control_type_name(id, room));
+    print_name(rt, id, out, |id, room| names::text_name(id, room));
+    print_name(rt, id, out, |id, room| names::number_name(id, room));
+    print_name(rt, id, out, |id, room| names::bytes_name(id, room));
+    print_name(rt, id, out, |id, room| names::control_type_name(id, room));
 }
 
 fn replay_listing(rt: &HostRuntime, input: &[u8], out: &mut [u8]) {
@@ -232,15 +254,15 @@ fn replay_listing(rt: &HostRuntime, input: &[u8], out: &mut [u8]) {
 fn replay_case(rt: &HostRuntime, head: Head, codes: &[u8], bytes: &[u8], out: &mut [u8]) {
     let (first, second) = (head.first, head.second);
     match head.kind {
-        Kind::Blob(reader) => replay_blob(rt, reader, codes, bytes, first, second),
-        Kind::TypeInfo => replay_type_info(rt, bytes, first),
+        Kind::Blob(reader) => replay_blob(rt, reader, codes, bytes, first, second, out),
+        Kind::TypeInfo => replay_type_info(rt, bytes, first, out),
         Kind::Listing => replay_listing(rt, bytes, out),
-        Kind::Guid => replay_text(rt, first, |room| text::guid_text(bytes, room)),
-        Kind::Label => replay_text(rt, first, |room| text::label_text(second, room)),
-        Kind::Names => replay_names(rt, first),
-        Kind::NamePart => replay_name_part(rt, bytes, first, second),
-        Kind::Join => replay_join(rt, bytes, first, second),
-        Kind::Pair => replay_pair(rt, bytes, first),
+        Kind::Guid => replay_text(rt, first, out, |room| text::guid_text(bytes, room)),
+        Kind::Label => replay_text(rt, first, out, |room| text::label_text(second, room)),
+        Kind::Names => replay_names(rt, first, out),
+        Kind::NamePart => replay_name_part(rt, bytes, first, second, out),
+        Kind::Join => replay_join(rt, bytes, first, second, out),
+        Kind::Pair => replay_pair(rt, bytes, first, out),
         Kind::Codes | Kind::Unknown => {}
     }
 }
