@@ -1,5 +1,6 @@
+use native.Mathlib.Omega.{arith}
 use Rattle.tablelines.proofs.WordLaws.{digit_read}
 use Rattle.tablelines.proofs.digit_of.Goals as goal
 
 pub returns : goal.returns
-returns c = digit_read c.from.ensures c.to_digit.ensures.value
+returns c = digit_read {x = c.from.result} (omega (arith, c.from.ensures)) c.to_digit.ensures.value
