@@ -82,6 +82,7 @@ pub struct Counts {
 }
 
 // The property at `at`. What is compared is what is left, since a stored length can be near 2^32.
+#[inline(always)]
 #[tactic(auto, using(crate::proofs::PassedLaws::extent_out, crate::proofs::PassedLaws::extent_in))]
 pub fn parse_entry(s: &[u8], limit: usize, at: usize) -> Option<Extent>
     ensures { result ≡ extent s.now limit at }
