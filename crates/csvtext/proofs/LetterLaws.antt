@@ -3,11 +3,11 @@ use Prim.Native.Nat.{ℕ, zero, suc, ◌+◌, ◌*◌, ◌<◌, ◌≤◌}
 use native.Mathlib.Omega.{arith}
 use native.Mathlib.Numerals.{add-one}
 use mathlib.Core.Path.{◌≡◌, refl, sym, ap, subst, ◌∙◌}
-use mathlib.Core.Bool.{Bool, true, false, not, ◌&&◌}
+use mathlib.Core.Bool.{Bool, true, false, not, ◌&&◌, ◌||◌}
 use mathlib.Core.List.{List, [], ◌∷◌, ◌++◌}
-use lib.Dec.{ltb, leb}
+use lib.Dec.{ltb, leb, eqb}
 use lib.ListN.{length, get_or, take, drop, length-drop}
-use borrow.Author.Tests.{ltb-false, leb-true, lt-ltb}
+use borrow.Author.Tests.{ltb-false, leb-true, lt-ltb, eqb-true}
 use Rattle.rules.specs.Bytes.{byte, u16}
 use Rattle.rules.specs.Utf16.{is_high}
 use Rattle.rules.specs.Scalars.{scalar}
@@ -41,6 +41,16 @@ letter u e = go (ltb u 0x2D) refl e
 
 pub space : (u : ℕ) → u ≡ 0x20 → Letter u
 space u z = record { small = omega arith; is_data_lem = data_byte u (λ w. omega arith) (λ w. omega arith) (λ w. omega arith) (λ w. omega arith); not_quote = λ w. omega arith }
+
+-- one more unit is told at a glance, where all before it are
+pub glanced : (u : ℕ) (before l : Bool) → l ≡ is_letter u → (before && (l || eqb u 0x20)) ≡ true → Letter u
+glanced u true true e t = letter u (sym e)
+glanced u true false e t = space u (eqb-true u 0x20 t)
+glanced u false l e t = absurd (let z : ◌≡◌ {A = ℕ} 0 1 = cc in omega arith)
+
+pub before-glanced : (before b : Bool) → (before && b) ≡ true → before ≡ true
+before-glanced true b t = refl
+before-glanced false b t = t
 
 two_bytes : (s : List ℕ) (i : ℕ) → u16 s i ≡ byte s i + 256 * byte s (i + 1)
 unfolding u16
