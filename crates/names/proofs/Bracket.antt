@@ -69,5 +69,6 @@ module _ (s : List ℕ) (x : ℕ) (asc : T (ascends 0 s)) where
       nowhere j l e true f = omega (arith, m.1 j (ltb-true j i f))
       nowhere j l e false f = omega (arith, m.2 j (ltb-false j i f) l)
 
-  pub sought : (r : Result ℕ ℕ) → IsBinarySearchResult (λ y. nat_cmp y x) s r → result_unwrap_or r (length s) ≡ place_in s x
-  sought r p = found r (searched s x r p in_order)
+  -- whatever was searched has to be that list
+  pub sought : {part : List ℕ} (r : Result ℕ ℕ) → IsBinarySearchResult (λ y. nat_cmp y x) part r → part ≡ s → result_unwrap_or r (length s) ≡ place_in s x
+  sought r p e = found r (searched s x r (subst (λ (part : List ℕ). IsBinarySearchResult (λ y. nat_cmp y x) part r) e p) in_order)
