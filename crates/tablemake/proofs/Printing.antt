@@ -12,12 +12,16 @@ use Rattle.tabletext.specs.Input.{Began}
 use Rattle.tabletext.proofs.Told.{told}
 use Rattle.tablemaking.specs.Judged.{judged}
 use Rattle.tablelines.specs.Faults.{long_text}
-use Rattle.tablemaking.specs.Made.{table_said, longest_text, MadeExit, MadeAs, make_exit}
-use Rattle.tablemaking.specs.Made.{Made}
+use Rattle.std.specs.Prelude.{Result, Ok, Err}
+use Rattle.tablelines.specs.Faults.{number_lem}
+use Rattle.tablemaking.specs.declared.Refusal.{Refusal}
+use Rattle.tablemaking.specs.Made.{Made, table_said, longest_text, MadeExit, MadeAs, make_exit, made_lem, refused_with}
+use Rattle.tablemaking.proofs.Judging.{numbered}
 use Rattle.tablemaking.proofs.Formed.{said-short}
 use Rattle.tablemaking.proofs.Making.{too_long, bad_line, with-room}
 use Rattle.tablewhy.specs.Why.{size_text, why_text}
 use Rattle.tablemake.specs.Printed.{printed}
+use Rattle.tablemake.specs.Making.{TextRefused, Makes}
 
 pub long-printed : (s : List ℕ) → longest_text < length s → printed s ≡ why_text long_text 0
 unfolding printed
@@ -36,47 +40,43 @@ module _ (s : List ℕ) (h : length s ≤ longest_text) where
   unfolding printed
   line-printed n = rw (le-ltb longest_text (length s) h, ne_eqb (judged s).error 0 n)
 
--- what a call made in a buffer for any table: its table, or a refusal
-pub record Makes (s new : List ℕ) (r : Made) : Type 0 where
-  pub size : r.error ≡ 0 → r.size ≤ length new
-  pub table : r.error ≡ 0 → (first : List ℕ) → first ≡ size_text r.size → first ++ take r.size new ≡ printed s
-  pub line : (r.error ≡ 0 → ⊥) → why_text r.error r.line ≡ printed s
+-- what is printed of a text that is refused
+module _ (s : List ℕ) (error line : ℕ) (w : why_text error line ≡ printed s) where
+  why_said : (refusal : Refusal) → number_lem refusal.fault ≡ error → refusal.line ≡ line → TextRefused s refusal
+  why_said refusal a b = record { said = (λ i. why_text (a i) (b i)) ∙ w }
 
-module _ (s out : List ℕ) {new : List ℕ} {r : Made} (m : MadeAs (make_exit s out) r new) (room : length out ≡ 65100) where
-  abbrev is : {x : MadeExit} → make_exit s out ≡ x → r ≡ x.made
+  -- nothing else was returned then
+  refused-made : (r : Result ℕ Refusal) (new : List ℕ) → made_lem r ≡ refused_with error line → (error ≡ 0 → ⊥) → Makes s new r
+  refused-made (Ok size) new e n = absurd (n (sym (ap (λ (x : Made). x.error) e)))
+  refused-made (Err refusal) new e n = why_said refusal (ap (λ (x : Made). x.error) e) (ap (λ (x : Made). x.line) e)
+
+module _ (s out : List ℕ) {new : List ℕ} (r : Result ℕ Refusal) (m : MadeAs (make_exit s out) (made_lem r) new) (room : length out ≡ 65100) where
+  abbrev is : {x : MadeExit} → make_exit s out ≡ x → made_lem r ≡ x.made
   is e = m.made ∙ ap (λ (x : MadeExit). x.made) e
 
-  refuses : (error line : ℕ) → r.error ≡ error → r.line ≡ line → (error ≡ 0 → ⊥) → why_text error line ≡ printed s → Makes s new r
-  refuses error line a b n w = record {
-    size = λ e. absurd (n (sym a ∙ e));
-    table = λ e first f. absurd (n (sym a ∙ e));
-    line = λ k. (λ i. why_text (a i) (b i)) ∙ w;
-  }
-
   makes_long : longest_text < length s → Makes s new r
-  makes_long h =
-      let e = is (too_long s out h) in
-      refuses long_text 0 (ap (λ (x : Made). x.error) e) (ap (λ (x : Made). x.line) e) (λ z. absurd (omega arith)) (sym (long-printed s h))
+  makes_long h = refused-made s long_text 0 (sym (long-printed s h)) r new (is (too_long s out h)) (λ z. absurd (omega arith))
 
   makes_line : length s ≤ longest_text → ((judged s).error ≡ 0 → ⊥) → Makes s new r
-  makes_line h n =
-      let e = is (bad_line s out h n) in
-      refuses (judged s).error (judged s).line (ap (λ (x : Made). x.error) e) (ap (λ (x : Made). x.line) e) n (sym (line-printed s h n))
+  makes_line h n = refused-made s (judged s).error (judged s).line (sym (line-printed s h n)) r new (is (bad_line s out h n)) n
+
+  table_made : length s ≤ longest_text → (judged s).error ≡ 0 → (q : Result ℕ Refusal) → made_lem q ≡ made_lem (Ok (length (table_said s))) → new ≡ table_said s ++ drop (length (table_said s)) out → Makes s new q
+  table_made h e (Ok size) is_made out-is =
+      let size_is : size ≡ length (table_said s) = ap (λ (x : Made). x.size) is_made in
+      let long : length new ≡ length (table_said s) + length (drop (length (table_said s)) out) = ap length out-is ∙ length-append (table_said s) (drop (length (table_said s)) out) in
+      let part : take size new ≡ table_said s = (λ i. take (size_is i) (out-is i)) ∙ take_at (table_said s) (drop (length (table_said s)) out) (length (table_said s)) refl in
+      record {
+        size-fits = omega arith;
+        small = omega (arith, said-short s e);
+        said = (λ i. size_text (size_is i) ++ part i) ∙ sym (table-printed s h e);
+      }
+  table_made h e (Err refusal) is_made out-is = absurd (numbered refusal.fault (ap (λ (x : Made). x.error) is_made))
 
   makes_table : length s ≤ longest_text → (judged s).error ≡ 0 → Makes s new r
   makes_table h e =
       let short : length (table_said s) ≤ length out = omega (arith, said-short s e) in
       let exit = with-room s out h e short in
-      let error : r.error ≡ 0 = ap (λ (x : Made). x.error) (is exit) in
-      let size : r.size ≡ length (table_said s) = ap (λ (x : Made). x.size) (is exit) in
-      let out-is : new ≡ table_said s ++ drop (length (table_said s)) out = m.out ∙ ap (λ (x : MadeExit). x.out) exit in
-      let long : length new ≡ length (table_said s) + length (drop (length (table_said s)) out) = ap length out-is ∙ length-append (table_said s) (drop (length (table_said s)) out) in
-      let part : take r.size new ≡ table_said s = (λ i. take (size i) (out-is i)) ∙ take_at (table_said s) (drop (length (table_said s)) out) (length (table_said s)) refl in
-      record {
-        size = λ z. omega arith;
-        table = λ z first f. (λ i. (f ∙ ap size_text size) i ++ part i) ∙ sym (table-printed s h e);
-        line = λ k. absurd (k error);
-      }
+      table_made h e r (is exit) (m.out ∙ ap (λ (x : MadeExit). x.out) exit)
 
   makes_by : (t u : Bool) → ltb longest_text (length s) ≡ t → eqb (judged s).error 0 ≡ u → Makes s new r
   makes_by true u a b = makes_long (ltb-true longest_text (length s) a)
