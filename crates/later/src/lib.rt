@@ -40,7 +40,7 @@ pub struct NextProperty {
 }
 
 // The property after those of `group`, which reaches to `limit` at most; none where a trailer ended the group, or the property isn't inside.
-// Inlined, as `parse_entry` is: a call hands what it found on through memory, and small properties take half as long again.
+// Inlined, as `parse_entry` is: a call hands what it found on through memory, and small properties take up to twice as long.
 #[inline(always)]
 pub fn next_property(s: &[u8], limit: usize, group: Group) -> Option<NextProperty>
     requires inside { limit ≤ length s.now }

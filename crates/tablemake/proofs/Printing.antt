@@ -45,7 +45,7 @@ module _ (s : List ℕ) (error line : ℕ) (w : why_text error line ≡ printed 
   why_said : (refusal : Refusal) → number_lem refusal.fault ≡ error → refusal.line ≡ line → TextRefused s refusal
   why_said refusal a b = record { said = (λ i. why_text (a i) (b i)) ∙ w }
 
-  -- nothing else was returned then
+  -- what was returned is that refusal
   refused-made : (r : Result ℕ Refusal) (new : List ℕ) → made_lem r ≡ refused_with error line → (error ≡ 0 → ⊥) → Makes s new r
   refused-made (Ok size) new e n = absurd (n (sym (ap (λ (x : Made). x.error) e)))
   refused-made (Err refusal) new e n = why_said refusal (ap (λ (x : Made). x.error) e) (ap (λ (x : Made). x.line) e)

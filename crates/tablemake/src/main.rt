@@ -53,7 +53,7 @@ fn say_refused(rt: &HostRuntime, text: &[u8], room: usize, refusal: Refusal, lin
 }
 
 // The table of a text, in room for any table.
-fn make_table(text: &[u8], out: &mut [u8]) -> Result<usize, Refusal>
+fn table_of(text: &[u8], out: &mut [u8]) -> Result<usize, Refusal>
     requires { length out.old ≡ 65100 }
     ensures { Makes text.now out.new result }
 {
@@ -63,7 +63,7 @@ fn make_table(text: &[u8], out: &mut [u8]) -> Result<usize, Refusal>
 fn make(rt: &HostRuntime, text: &[u8], room: usize, out: &mut [u8], line: &mut [u8])
     requires { MakeReady out.old line.old room }
 {
-    match make_table(text, out) {
+    match table_of(text, out) {
         Ok(size) => say_made(rt, text, room, size, out, line),
         Err(refusal) => say_refused(rt, text, room, refusal, line),
     }
