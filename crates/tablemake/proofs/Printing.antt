@@ -8,12 +8,11 @@ use borrow.Author.Tests.{lt-ltb, le-ltb, eq-eqb, ne_eqb, ltb-true, ltb-false, eq
 use lib.Dec.{ltb, eqb}
 use lib.ListN.{length, take, drop, length-append}
 use lib.Seq.{take_at}
+use Rattle.std.specs.Prelude.{Result, Ok, Err}
 use Rattle.tabletext.specs.Input.{Began}
 use Rattle.tabletext.proofs.Told.{told}
 use Rattle.tablemaking.specs.Judged.{judged}
-use Rattle.tablelines.specs.Faults.{long_text}
-use Rattle.std.specs.Prelude.{Result, Ok, Err}
-use Rattle.tablelines.specs.Faults.{number_lem}
+use Rattle.tablelines.specs.Faults.{long_text, number_lem}
 use Rattle.tablemaking.specs.declared.Refusal.{Refusal}
 use Rattle.tablemaking.specs.Made.{Made, table_said, longest_text, MadeExit, MadeAs, make_exit, made_lem, refused_with}
 use Rattle.tablemaking.proofs.Judging.{numbered}
